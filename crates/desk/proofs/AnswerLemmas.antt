@@ -1,4 +1,4 @@
--- What is answered behind two runs that acknowledge the same.
+-- What is answered after two runs that acknowledge the same.
 use Rattle.std.proofs.Common.{◌≡◌, ℕ, List, Option, length, ap}
 use Rattle.sudo_words.specs.declared.cmnd.Cmnd.{Cmnd}
 use Rattle.sudo_policy.specs.declared.entry.Entry.{Entry}

@@ -49,7 +49,7 @@ known_more Up Later S T m (Some g) None known was grown more nothing = tt
 known_more Up Later S T m (Some g) (Some h) known was grown more nothing = λ later.
     let k = known (was later) in (k.0 ++ m ∷ [], with_lists S T m k.0 (grown later) k.1, more k.0 k.2)
 
--- of a desk that was made nothing is held
+-- what is known at first is known of what is held: a desk that was made holds nothing
 pub at_first : (Up : Type 0) (S : Message → Type 0) (origin : Origin) (o : Option Gathered)
     → IsKnownAtFirst origin o → (Up → origin ≡ Made → IsNothing S) → IsKnown Up S o
 at_first Up S origin None first nothing = tt

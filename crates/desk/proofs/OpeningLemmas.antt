@@ -23,7 +23,7 @@ module _ (Empty Kept Old : Type 0) (roster : List ℕ) (tells : Found) where
   pub told_old : tells ≡ found.OldDesk → Tells Empty Kept Old roster tells → Old × (¬ Empty) × (¬ Kept)
   told_old is told = let P : Found → Type 0 = Tells Empty Kept Old roster in subst P is told
 
-  -- and of one with something of a desk's that is no desk
+  -- and of one with something of a desk's that is not a desk
   pub told_no_desk : tells ≡ found.NotADesk → Tells Empty Kept Old roster tells → (¬ Empty) × (¬ Kept) × (¬ Old)
   told_no_desk is told = let P : Found → Type 0 = Tells Empty Kept Old roster in subst P is told
 

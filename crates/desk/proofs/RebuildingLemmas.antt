@@ -30,7 +30,7 @@ not_rebuilt_over Fits Empty Desk Old TooManyRules fits large (inr none) = absurd
 not_rebuilt_over Fits Empty Desk Old Storage fits large (inr none) = absurd none
 not_rebuilt_over Fits Empty Desk Old NoMemory fits large (inr none) = absurd none
 
--- what is not rebuilt of a desk has a base past the limits
+-- rebuilding a desk is refused only for a base past the limits, or for want
 pub not_rebuilt_again : (Fits Empty Desk Old : Type 0) (e : Refusal) → Desk
     → IsWant e ⊎ RefusesToRebuild Fits Empty Desk Old e → IsWant e ⊎ ((e ≡ BaseTooLarge) × (¬ Fits))
 not_rebuilt_again Fits Empty Desk Old e desk (inl want) = inl want
@@ -62,7 +62,7 @@ rebuilt_twice Empty Desk Old Empty' Desk' Old' S T U V desk (inl nothing) same (
 rebuilt_twice Empty Desk Old Empty' Desk' Old' S T U V desk (inr kept) same (inr second) =
     inr (kept.0, kept.1, same_sets S T V kept.2 (same_sets T U V same second.2))
 
--- what is told of the keeper, among all that may be told
+-- a refusal by the keeper is one of all that may come
 pub told_why : (e : Refusal) → IsWant e ⊎ (e ≡ NotADesk) → IsWant e ⊎ (e ≡ NotADesk) ⊎ (e ≡ BaseTooLarge)
 told_why e (inl want) = inl want
 told_why e (inr is) = inr (inl is)

@@ -53,7 +53,7 @@ pub wants : {A : Type 0} (r : Result A Refusal) → IfErr r IsWant → IsErr r �
 wants (Ok x) want is = absurd cc
 wants (Err e) want is = want
 
--- what a reader refuses is no failure of the storage
+-- what a reader refuses is not a failure of the storage
 pub no_storage : {A : Type 0} (fault : MessageFault) (r : Result A Refusal) → IsErrAnd r (λ e. e ≡ refusal_of_fault fault) → IfErr r (λ e. e ≢ Storage)
 no_storage faults.TooLong (Ok x) is = tt
 no_storage faults.NotCanonical (Ok x) is = tt

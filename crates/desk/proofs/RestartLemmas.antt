@@ -1,4 +1,4 @@
--- What holds the same set of messages answers alike.
+-- Desks that hold the same set of messages answer alike.
 use Rattle.std.proofs.Common.{◌≡◌, ◌≢◌, ◌⊎◌, ◌∙◌, inl, inr, ℕ, List, Result, Ok, Err, refl, sym, subst}
 use Rattle.std.specs.Prelude.{IfOk, IfErr, MatchResult}
 use Rattle.sudo_words.specs.declared.cmnd.Cmnd.{Cmnd}
@@ -63,11 +63,11 @@ refused_again Fits Empty Desk Old recorded said text TooManyRules desk same (inr
 refused_again Fits Empty Desk Old recorded said text Storage desk same (inr none) = absurd none
 refused_again Fits Empty Desk Old recorded said text NoMemory desk same (inr none) = absurd none
 
--- what is said of one thing and of a thing that is the same
+-- the set of a thing is the set of an equal thing
 pub set_of_same : {A : Type 0} (a b : A) → a ≡ b → (H : A → Message → Type 0) (T : Message → Type 0) → SameSet (H a) T → SameSet (H b) T
 set_of_same a b same H T set = subst (λ x. SameSet (H x) T) same set
 
--- from what an opening promises of a desk, what else holds of it
+-- what follows from what an opening promises of a desk
 pub of_opened : {A E : Type 0} (r : Result A E) (P Q R : A → Type 0) (F : E → Type 0) → ((a : A) → P a → Q a → R a) → IfOk r P → MatchResult r Q F → IfOk r R
 of_opened (Ok a) P Q R F each p q = each a p q
 of_opened (Err e) P Q R F each p q = tt
@@ -76,7 +76,7 @@ pub of_ok : {A E : Type 0} (r : Result A E) (P R : A → Type 0) → ((a : A) �
 of_ok (Ok a) P R each p = each a p
 of_ok (Err e) P R each p = tt
 
--- and from what it promises behind a refusal
+-- and from what it promises after a refusal
 pub of_refused : {A E : Type 0} (r : Result A E) (P Q R : E → Type 0) (F : A → Type 0) → ((e : E) → P e → Q e → R e) → IfErr r P → MatchResult r F Q → IfErr r R
 of_refused (Ok a) P Q R F each p q = tt
 of_refused (Err e) P Q R F each p q = each e p q
@@ -89,7 +89,7 @@ pub of_both : {A E : Type 0} (r : Result A E) (P Q R : A → Type 0) → ((a : A
 of_both (Ok a) P Q R each p q = each a p q
 of_both (Err e) P Q R each p q = tt
 
--- what was given was up, where what came of it is
+-- the keeper that was handed in was up, if the one that comes back is
 pub was_up_of : {K : Type 0} (is_up is_clean : K → Type 0) (failures : K → ℕ) (beside : K → TableWithRows
     → Type 0) (k : K) (r : Result (DeskState K) (Refusal × K)) → MatchResult r (λ d. IsServed is_up is_clean failures beside k d.keeper ⊥ ⊥)
     (λ x. IsServed is_up is_clean failures beside k x.1 (x.0 ≡ Storage) (IsWant x.0)) → MatchResult r (λ d. is_up d.keeper → is_up k) (λ x. is_up x.1 → is_up k)

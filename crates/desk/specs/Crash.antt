@@ -10,7 +10,7 @@ use Rattle.desk_store.specs.Left.{Left, IsDeskOf, IsNothingOrFresh, IsOldDeskOf}
 use Rattle.desk.specs.Delivery.{Delivery, IsBodyOf}
 
 -- While a desk is opened: where there was nothing of a desk's, there is nothing still, or a whole
--- desk of the roster's text, with no message; and where there was a desk, of whichever form, it is
+-- desk of the roster's text, with no message; and where there was a desk, of either form, it is
 -- there whole.
 pub record IsLeftByOpening (Empty Desk Old : Type 0) (recorded text : List ℕ)
     (S : Message → Type 0) (left : Left) : Type 0 where
@@ -19,7 +19,7 @@ pub record IsLeftByOpening (Empty Desk Old : Type 0) (recorded text : List ℕ)
   pub old : Old → IsOldDeskOf S left
 
 -- While a desk is rebuilt: where there was nothing of a desk's, there is nothing still, or a whole
--- desk of the roster's text, with no message; and where there was a desk, of whichever form, it is
+-- desk of the roster's text, with no message; and where there was a desk, of either form, it is
 -- there whole as it was, or whole with the new roster's text and the messages that it had.
 pub record IsLeftByRebuilding (Empty Desk Old : Type 0)
     (recorded text : List ℕ) (S : Message → Type 0) (left : Left) : Type 0 where

@@ -42,7 +42,7 @@ AnswersBody f body (Err (Denied d)) = (m : Message) × IsBodyOf body m × IsDeni
 AnswersBody f body (Err _) = ⊥
 
 -- The answer to a delivery, where memory lasts and the storage holds: at most one, by a law. A
--- relay that the roster lacks comes before all that the body may have.
+-- relay that the roster lacks comes before every fault of the body.
 abbrev pub Answers : RosterFields Cmnd → Delivery → Result Ack Refusal → Type 0
 Answers f d answer =
     ((is_among f.relays d.relay ≡ false) × (answer ≡ Err UnknownRelay))

@@ -14,8 +14,8 @@ Opens Empty Desk Old recorded text old new =
     (Empty × (¬ Desk) × (¬ Old) × IsNothing new)
     ⊎ (Desk × (¬ Empty) × (¬ Old) × (recorded ≡ text) × SameSet old new)
 
--- The refusal that is right: a base past the limits, else what is no desk, a desk of an older form,
--- or a desk of another roster's text. At most one is.
+-- The refusal that is right: a base past the limits, else something that is not a desk, a desk of
+-- an older form, or a desk of another roster's text. At most one is right.
 abbrev pub Refuses : (Fits Empty Desk Old : Type 0) → (recorded text : List ℕ) → Refusal → Type 0
 Refuses Fits Empty Desk Old recorded text BaseTooLarge = ¬ Fits
 Refuses Fits Empty Desk Old recorded text NotADesk = Fits × (¬ Empty) × (¬ Desk) × (¬ Old)

@@ -5,15 +5,15 @@ use Rattle.desk_tables.specs.Sets.{IsNothing, SameSet}
 use Rattle.desk.specs.declared.refusal.Refusal.{Refusal}
 use Rattle.desk.specs.declared.refusal.Refusal.TheVariants.{NotADesk, BaseTooLarge}
 
--- Where the keeper kept nothing of a desk's, the desk holds nothing. Where it kept a desk, of
--- whatever roster's text and of either form, it holds what that desk held: also what the roster
+-- Where the keeper kept nothing of a desk's, the desk holds nothing. Where it kept a desk, with any
+-- roster's text and of either form, the new one holds what that desk held, also what the roster
 -- does not admit.
 abbrev pub Rebuilds : (Empty Desk Old : Type 0) → (old new : Message → Type 0) → Type 0
 Rebuilds Empty Desk Old old new =
     (Empty × (¬ Desk) × (¬ Old) × IsNothing new) ⊎ ((Desk ⊎ Old) × (¬ Empty) × SameSet old new)
 
--- The refusal that is right: a base past the limits, else what is no desk. No other roster's text
--- is refused, and no older form.
+-- The refusal that is right: a base past the limits, else something that is not a desk. Another
+-- roster's text is not refused, nor is an older form.
 abbrev pub RefusesToRebuild : (Fits Empty Desk Old : Type 0) → Refusal → Type 0
 RefusesToRebuild Fits Empty Desk Old BaseTooLarge = ¬ Fits
 RefusesToRebuild Fits Empty Desk Old NotADesk = Fits × (¬ Empty) × (¬ Desk) × (¬ Old)

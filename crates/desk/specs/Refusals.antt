@@ -30,8 +30,8 @@ refusal_text Storage = codes "K4 Storage"
 refusal_text NoMemory = codes "K5 NoMemory"
 refusal_text BaseTooLarge = codes "K6 BaseTooLarge"
 
--- Memory or the storage was wanting: no right answer to anything, and it may come at any call that
--- takes memory or uses the storage.
+-- Memory or the storage was wanting: never a right answer, and it may come at any call that takes
+-- memory or uses the storage.
 abbrev pub IsWant : Refusal → Type 0
 IsWant e = (e ≡ NoMemory) ⊎ (e ≡ Storage)
 

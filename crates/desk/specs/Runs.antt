@@ -9,14 +9,15 @@ use Rattle.desk.specs.Delivery.{Acknowledges, Delivery, HeldAfter, IsDeliveryAns
 use Rattle.desk.specs.declared.ack.Ack.{Ack}
 use Rattle.desk.specs.declared.refusal.Refusal.{Refusal}
 
--- A delivery with its answer, or any question with any answer. What is lost on its way is no event.
+-- A delivery with its answer, or any question with any answer. What is lost on its way is not an
+-- event.
 pub data Event : Type 0 where
   Delivered : Delivery → Result Ack Refusal → Event
   Asked : Event
 
 -- From the messages held before, the run leaves these: each delivery is answered, and changes the
--- set, by the rule of deliveries, and a question changes nothing. Of the lists only the members
--- mean anything.
+-- set, by the rule of deliveries, and a question changes nothing. Only the members of the lists
+-- count.
 abbrev pub IsRun : RosterFields Cmnd → (old : List Message)
     → List Event → (new : List Message) → Type 0
 IsRun f old [] new = SameMessages old new

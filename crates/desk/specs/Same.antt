@@ -8,8 +8,8 @@ use Rattle.outcomes.specs.Parked.{AreParked}
 use Rattle.outcomes.specs.Same.{GrantTheSame}
 use Rattle.desk.specs.Texts.{AreTexts}
 
--- What holds the one set and what holds the other answer every question alike: lists of their
--- messages grant the same, and have the same parked verdicts and the same texts.
+-- A desk that holds the one set and a desk that holds the other answer every question alike: lists
+-- of their messages grant the same, and have the same parked verdicts and the same texts.
 pub record AnswerAlike (f : RosterFields Cmnd) (S T : Message → Type 0) : Type 0 where
   pub grants : (s t : List Message) → Lists S s → Lists T t → GrantTheSame f s t
   pub texts : (s t : List Message) (texts : List (List ℕ))

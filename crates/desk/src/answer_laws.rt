@@ -17,9 +17,9 @@ ghost use Rattle.desk.specs.Texts.{AreTexts};
 
 /// After two runs that begin with the same messages and acknowledge the same, every question is
 /// answered alike: each name's status, the grants of each moment, what is parked, the summaries
-/// (but for which request a disputed one keeps), each host's file, the whole and that after each
-/// moment, and how many lines it has, so whether these are too many. So are the texts of all
-/// messages.
+/// (but for which request a disputed one keeps), each host's file, whole and after each moment, and
+/// how many lines it has, so also whether these are too many. The texts of all messages are the
+/// same too.
 pub fn runs_answer_alike()
     ensures status { (f : RosterFields AnyCmnd) (old s t : List AnyMessage) (r u : List Event)
         → SameAcked r u → IsRun f old r s → IsRun f old u t

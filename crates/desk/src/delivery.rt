@@ -11,7 +11,7 @@ use messages::{Message, MessageReader};
 use roster::Roster;
 use std::alloc::Global;
 
-/// The message that the body is the text of, where the roster admits it.
+/// The message whose text the body is, where the roster admits it.
 pub(crate) fn admitted(
     alloc: Global,
     reader: &mut MessageReader,
@@ -27,11 +27,11 @@ pub(crate) fn admitted(
     Ok(message)
 }
 
-/// The body of a message as text: it is that of the message, which is named for the proof alone.
+/// The body of a message as text. The message is an argument for the proof alone.
 pub(crate) fn text_of<'b>(body: &'b [u8], _message: &Message) -> &'b str
     requires { IsBodyOf body.now _message.now }
     ensures { result.now ≡ body.now }
 {
-    // So it is UTF-8, which is proved of this call and not tested.
+    // A message's text is UTF-8, which is proved for this call and not tested.
     unsafe { str::from_utf8_unchecked(body) }
 }

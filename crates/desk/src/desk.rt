@@ -71,8 +71,8 @@ impl<K: Keeper> Desk<K> {
     /// `Storage` and `NoMemory` wherever the storage or memory refuses. A refusal hands the keeper
     /// back, with what it keeps as it was.
     ///
-    /// Whenever the call ends, a crash leaves a desk that was there whole, and of an empty keeper
-    /// nothing, or a whole desk without messages. After Ok a crash leaves the desk.
+    /// Whenever the call ends, a crash leaves a desk that was there whole; if the keeper was empty,
+    /// it leaves nothing, or a whole desk without messages. After Ok a crash leaves the desk.
     pub fn open(
         alloc: Global,
         roster: Roster,
@@ -104,8 +104,8 @@ impl<K: Keeper> Desk<K> {
         ensures durable { IfOk result (λ d. K.is_up d.keeper
             → LeavesOnly (K.may_leave d.keeper) (IsDeskOf roster.text (K.holds d.keeper))) }
     {
-        // Calls drop what a refusal does not hand back: where an exit drops it in line, each of its
-        // fields is proved again there.
+        // What a refusal does not hand back is dropped by calls: at an exit that drops it in line,
+        // each of its fields would be proved again.
         if !fits_base(&base) {
             drop(base);
             drop(roster);
@@ -132,10 +132,10 @@ impl<K: Keeper> Desk<K> {
     /// Delivers the body that the relay brings.
     ///
     /// `UnknownRelay` comes where the roster has no such relay; else `TooLong`, `NotCanonical` or
-    /// `BadField`, where the body is no message's; else the denial, where the roster does not admit
-    /// the message: the first that applies. Want of memory anywhere is `NoMemory`, and a failure of
-    /// the storage is `Storage`. An acknowledgement says that the message is kept; one that was
-    /// kept before changes nothing. After a refusal nothing changed.
+    /// `BadField`, where the body is not a message; else the denial, where the roster does not
+    /// admit the message: the first that applies. Want of memory anywhere is `NoMemory`, and a
+    /// failure of the storage is `Storage`. An acknowledgement says that the message is kept; one
+    /// that was kept before changes nothing. After a refusal nothing changed.
     ///
     /// Whenever the call ends, a crash leaves the whole desk without the message, or the whole desk
     /// with it; after Ok only the latter. While the keeper is up, a crash leaves what the desk
@@ -170,8 +170,8 @@ impl<K: Keeper> Desk<K> {
         // What is known stays only where the message is kept.
         let known = with_message(self.known.take(), &message);
         let added = self.keeper.add(&message, text_of(body, &message));
-        // A call drops the message: where an exit drops it in line, each of its fields is proved
-        // again there.
+        // The message is dropped by a call: at an exit that drops it in line, each of its fields
+        // would be proved again.
         drop(message);
         added?;
         self.known = known;
@@ -180,7 +180,7 @@ impl<K: Keeper> Desk<K> {
 
     /// Delivers each body that a relay brings, in order, and answers for each as `deliver` does.
     ///
-    /// The whole is refused with `NoMemory` alone, before anything is delivered: the room for the
+    /// The call is refused only with `NoMemory`, before anything is delivered: the room for the
     /// answers is taken first. While the keeper is up, a crash leaves what the desk holds: what it
     /// held, and all that was acknowledged.
     pub fn deliver_all(
@@ -210,8 +210,8 @@ impl<K: Keeper> Desk<K> {
         Ok(answers)
     }
 
-    /// While the keeper is up, a crash leaves what the desk holds. It reads nothing: a proof names
-    /// it.
+    /// While the keeper is up, a crash leaves what the desk holds. It does nothing: it is there for
+    /// a proof.
     fn lasts(&self)
         ensures { K.is_up self.now.keeper → LeavesOnly (K.may_leave self.now.keeper)
             (IsDeskOf self.now.roster.text (K.holds self.now.keeper)) }
@@ -219,7 +219,7 @@ impl<K: Keeper> Desk<K> {
         let _roster = &self.roster;
     }
 
-    /// Delivers each in order, and puts the answers after one another. There is room for them.
+    /// Delivers each in order, and appends the answers. There is room for them.
     fn deliver_each(&mut self, list: &[(String, Vec<u8>)], answers: &mut Vec<Result<Ack, Refusal>>)
         requires none { answers.old.items ≡ [] }
         requires room { length list.now ≤ vec_capacity answers.old }

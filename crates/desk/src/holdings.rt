@@ -21,7 +21,7 @@ pub struct Holdings {
     pub parked: Vec<String>,
 }
 
-/// Those of what is known of a set.
+/// What a desk holds, from what is known of its set of messages.
 pub(crate) fn holdings_in(alloc: Global, gathered: &Gathered) -> Result<Holdings, NoMemory>
     ensures summaries { (set : List AnyMessage) → AreGathered set gathered.now
         → IfOk result (λ held. AreSummaries set held.summaries.items) }

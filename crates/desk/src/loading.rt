@@ -16,8 +16,8 @@ use desk_store::{Keeper, KeeperError};
 use messages::Message;
 use outcomes::Gathered;
 
-/// The keeper's messages. The desk stays as it is, and so does what a crash leaves of it, and what
-/// is known of the messages, which is named for the proof alone.
+/// The keeper's messages. The desk stays as it is, and so does what a crash leaves of it. What is
+/// known of the messages stays known; it is an argument for the proof alone.
 pub(crate) fn listed<K: Keeper>(
     keeper: &mut K,
     _known: &Option<Gathered>,

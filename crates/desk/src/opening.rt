@@ -1,4 +1,4 @@
-//! A desk found at its keeper's, or made there, and what is known of its messages at first.
+//! Finding a desk at its keeper, or making one there, and what is known of its messages at first.
 
 ghost use Rattle.std.specs.Prelude.{◌≡◌, ◌≢◌, ◌⊎◌, ⊤, IfOk, OnOk, OnErr, IfErr};
 ghost use Rattle.desk_store.specs.Left.{IsDeskOf, LeavesOnly};
@@ -25,8 +25,8 @@ pub(crate) enum Origin {
     Made,
 }
 
-/// What is known of its messages at first: there are none where it was made, and else it is
-/// gathered when it is asked for.
+/// What is known of a desk's messages at first: a desk that was made has none, and for one that was
+/// found it is gathered when it is asked for.
 pub(crate) fn known_at_first(alloc: Global, origin: Origin) -> Option<Gathered>
     ensures { IsKnownAtFirst origin result }
 {
@@ -36,8 +36,8 @@ pub(crate) fn known_at_first(alloc: Global, origin: Origin) -> Option<Gathered>
     }
 }
 
-/// Finds a desk of this roster's text at the keeper's, or makes one where the keeper keeps nothing
-/// of a desk's.
+/// Finds the keeper's desk of this roster's text, or makes one where the keeper keeps nothing of a
+/// desk's.
 pub(crate) fn find_or_make<K: Keeper>(keeper: &mut K, text: &str) -> Result<Origin, Refusal>
     ensures made { K.is_up keeper.new
         → IfOk result (λ origin. origin ≡ origins.Made → IsNothing (K.holds keeper.new)) }

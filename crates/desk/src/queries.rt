@@ -1,5 +1,5 @@
-//! What is asked of a desk. An answer is that of the set of messages that it holds, and nothing of
-//! the desk changes.
+//! The questions to a desk. Each is answered from the set of messages that it holds, and changes
+//! nothing of the desk.
 
 ghost use Rattle.std.specs.Prelude.{◌≡◌, ◌⊎◌, ◌↔◌, ◌<◌, ◌≤◌, List, false, map, length};
 ghost use Rattle.std.specs.Prelude.{IfOk, IfErr, MatchResult, Err, string_bytes};
@@ -26,7 +26,7 @@ use outcomes::{Live, RequestName, host_file_in, live_in, parked_in, status_in, s
 use sudo_words::{HostName, Moment};
 
 impl<K: Keeper> Desk<K> {
-    /// What the messages come to that are about the name: its status, none where nobody asks.
+    /// The status that the messages about the name come to, or none where nobody asks.
     pub fn status_of(&mut self, name: &RequestName) -> Result<Option<Status>, Refusal>
         ensures status { (set : List AnyMessage) → K.is_up self.new.keeper
             → Lists (K.holds self.old.keeper) set
@@ -97,8 +97,8 @@ impl<K: Keeper> Desk<K> {
         Ok(list?)
     }
 
-    /// The summaries and the parked texts, of the messages as they are brought once: what a report
-    /// is made from.
+    /// The summaries and the parked texts, from the messages that are read once: what a report is
+    /// made from.
     pub fn holdings(&mut self) -> Result<Holdings, Refusal>
         ensures summaries { (set : List AnyMessage)
             → K.is_up self.new.keeper → Lists (K.holds self.old.keeper) set
@@ -132,8 +132,8 @@ impl<K: Keeper> Desk<K> {
         ensures rights { (set : List AnyMessage) → K.is_up self.new.keeper
             → Lists (K.holds self.old.keeper) set → IfOk result
             (λ s. GivesRights self.old.roster.says self.old.base set host.now (string_bytes s)) }
-        // A host of the roster is refused it where the lines are too many, and not where they are
-        // few.
+        // For a host of the roster it is refused where the lines are too many, and not where they
+        // are few.
         ensures unknown { (result ≡ Err refusal.UnknownHost)
             ↔ (is_among self.old.roster.says.hosts host.now ≡ false) }
         ensures few { (set : List AnyMessage) (ls : List Line) → K.is_up self.new.keeper
@@ -166,7 +166,7 @@ impl<K: Keeper> Desk<K> {
         ensures rights { (set : List AnyMessage) → K.is_up self.new.keeper
             → Lists (K.holds self.old.keeper) set → IfOk result (λ s. GivesRightsAfter
             self.old.roster.says self.old.base set host.now moment (string_bytes s)) }
-        // A host of the roster is refused it where too many lines are left, and not where few are.
+        // For a host of the roster it is refused where too many lines are left, not where few are.
         ensures unknown { (result ≡ Err refusal.UnknownHost)
             ↔ (is_among self.old.roster.says.hosts host.now ≡ false) }
         ensures few { (set : List AnyMessage) (ls : List Line)
@@ -187,8 +187,8 @@ impl<K: Keeper> Desk<K> {
         self.file_of(host, Some(moment))
     }
 
-    /// The host's file with the lines that are left: each without a moment, and with one each that
-    /// ends then or later.
+    /// The host's file with the lines that are left: without a moment all of them, and with one
+    /// those that end then or later.
     fn file_of(&mut self, host: &HostName, after: Option<Moment>) -> Result<String, Refusal>
         ensures file { (set : List AnyMessage) → K.is_up self.new.keeper
             → Lists (K.holds self.old.keeper) set → IfOk result (λ s. left.IsFileLeft

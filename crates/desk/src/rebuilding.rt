@@ -70,8 +70,8 @@ impl<K: Keeper> Desk<K> {
     /// as it was.
     ///
     /// Whenever the call ends, a crash leaves the whole desk as it was, or the whole desk with the
-    /// new roster's text, and of an empty keeper nothing, or a whole desk without messages. After
-    /// Ok a crash leaves the desk with the new roster's text.
+    /// new roster's text; if the keeper was empty, it leaves nothing, or a whole desk without
+    /// messages. After Ok a crash leaves the desk with the new roster's text.
     pub fn rebuild(
         alloc: Global,
         roster: Roster,
@@ -104,8 +104,8 @@ impl<K: Keeper> Desk<K> {
         ensures durable { IfOk result (λ d. K.is_up d.keeper
             → LeavesOnly (K.may_leave d.keeper) (IsDeskOf roster.text (K.holds d.keeper))) }
     {
-        // Calls drop what a refusal does not hand back: where an exit drops it in line, each of its
-        // fields is proved again there.
+        // What a refusal does not hand back is dropped by calls: at an exit that drops it in line,
+        // each of its fields would be proved again.
         if !fits_base(&base) {
             drop(base);
             drop(roster);

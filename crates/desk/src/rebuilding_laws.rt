@@ -18,9 +18,9 @@ use sudo_policy::Policy;
 
 /// Gives a desk up, and rebuilds it with a roster.
 ///
-/// What the desk held is held, whatever the roster admits. So where it is the roster that the desk
-/// had, nothing changes: the desk has the same roster, and it answers every question as before.
-/// Nothing is refused but a base past the limits, and for want of memory or of the storage; and a
+/// What the desk held is held, whatever the roster admits. So if the roster is the one that the
+/// desk had, nothing changes: the desk has the same roster, and answers every question as before.
+/// It is refused only for a base past the limits, or for want of memory or of the storage; and a
 /// refusal leaves what was held.
 pub fn rebuild_again<K: Keeper>(
     alloc: Global,
@@ -42,11 +42,11 @@ pub fn rebuild_again<K: Keeper>(
 
 /// Rebuilds what the keeper keeps with a first roster, and then with a last one.
 ///
-/// What comes of it is what rebuilding with the last roster alone promises: the same messages, and
-/// the last roster's text.
+/// The result is what rebuilding with the last roster alone promises: the same messages, and the
+/// last roster's text.
 ///
 /// The first is refused as by `rebuild`, and hands the keeper back with what it keeps as it was.
-/// Then the last is refused for a base past the limits alone, and for want of memory or of the
+/// Then the last is refused only for a base past the limits, or for want of memory or of the
 /// storage; and the keeper has the desk of the first roster's text.
 pub fn rebuild_twice<K: Keeper>(
     alloc: Global,

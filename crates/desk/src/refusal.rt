@@ -21,9 +21,9 @@ pub enum Refusal {
     UnknownHost,
     /// A body has more than 16,384 bytes.
     TooLong,
-    /// A body is not a canonical text of JSON whose numbers are whole.
+    /// A body is not canonical JSON with whole numbers.
     NotCanonical,
-    /// A body is canonical, but no message's: a member is wrong, missing or too many.
+    /// A body is canonical JSON, but not a message: a member is wrong, missing or too many.
     BadField,
     /// The roster does not admit the message.
     Denied(Denial),

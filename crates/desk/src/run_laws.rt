@@ -1,4 +1,4 @@
-//! Laws of what is answered and held, each the contract of a function that does nothing.
+//! Laws about answers and what is held, each the contract of a function that does nothing.
 
 ghost use Rattle.std.specs.Prelude.{◌≡◌, ◌⊎◌, List, Contains, Result};
 ghost use Rattle.sudo_words.specs.declared.cmnd.Cmnd.{Cmnd as AnyCmnd};
@@ -11,7 +11,7 @@ ghost use Rattle.desk.specs.declared.refusal.Refusal.{Refusal as AnyRefusal};
 ghost use Rattle.desk.specs.Delivery.{Answers, AreAnswers, Delivery, HeldAfterAll};
 ghost use Rattle.desk.specs.Runs.{Event, IsRun, IsAckedIn, SameAcked, run_of};
 
-/// No delivery has two right answers, so an answer is right exactly where it is the one.
+/// A delivery has at most one right answer.
 pub fn one_answer()
     ensures { (f : RosterFields AnyCmnd) (d : Delivery) (a b : Result AnyAck AnyRefusal)
         → Answers f d a → Answers f d b → a ≡ b }

@@ -18,15 +18,15 @@ use roster::Roster;
 use std::alloc::Global;
 use sudo_policy::Policy;
 
-/// Opens a desk over a keeper that keeps what a crash may leave of another, which stopped and is
-/// named for the proof alone.
+/// Opens a desk over a keeper that keeps what a crash may leave of another keeper, which stopped
+/// and is an argument for the proof alone.
 ///
-/// What may be left is said by the clauses `crash`, `lasting` and `durable` of the call that was
-/// stopped. So where that call had acknowledged, or the stop came between calls, the desk holds all
+/// The clauses `crash`, `lasting` and `durable` of the call that was stopped say what may be left.
+/// So where that call had acknowledged, or the stop came between calls, the desk holds all
 /// that was acknowledged, and answers every question alike; where it stopped in a delivery, the
 /// desk holds that with the message or without it; and where it stopped while a desk was made,
-/// opened or rebuilt, nothing is lost. Nothing is refused but for the base, or for want of memory
-/// or of the storage.
+/// opened or rebuilt, nothing is lost. It is refused only for the base, or for want of memory or of
+/// the storage.
 pub fn open_after_stop<K: Keeper>(
     alloc: Global,
     _stopped: &K,

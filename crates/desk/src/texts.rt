@@ -56,8 +56,8 @@ fn texts_in(alloc: Global, set: &[Message]) -> Result<Vec<String>, NoMemory>
     Ok(texts)
 }
 
-/// Lists of the same messages have one list of texts, and one list of texts is that of one set of
-/// messages.
+/// Lists of the same messages have the same list of texts, and a list of texts is that of one set
+/// of messages.
 pub fn one_text_list()
     ensures texts { (s t : List AnyMessage) (a b : List (List ℕ))
         → SameMessages s t → AreTexts s a → AreTexts t b → a ≡ b }

@@ -1,4 +1,4 @@
--- The words of `decide` by their places, with any number of arguments at the end.
+-- The positional words of `decide`, with any number of arguments at the end.
 use Rattle.std.specs.Prelude.{◌≡◌, ◌++◌, List, [], ◌∷◌, Some, None, codes, fold, slice_index_or, false, refl}
 use Rattle.std.proofs.Common.{◌∙◌, ap, ap₂, append_assoc}
 use Rattle.clap.proofs.OnLiterals.{clap_on_literals}
@@ -22,13 +22,13 @@ abbrev pub args_row : List Text → List Row
 args_row [] = []
 args_row (v ∷ vs) = row (codes "ARGS") (v ∷ vs) ∷ []
 
--- the rows of the six values that stand before ARGS
+-- the rows of the six values before ARGS
 abbrev pub six : (f u h r t p : Text) → List Row → List Row
 six f u h r t p more =
     row (codes "FILE") (f ∷ []) ∷ row (codes "USER") (u ∷ []) ∷ row (codes "HOST") (h ∷ []) ∷ row (codes "RUNAS") (r ∷ []) ∷ row (codes "AT") (t ∷ [])
     ∷ row (codes "PATH") (p ∷ []) ∷ more
 
--- the walk behind the six, with these values of ARGS, and one more that is pending
+-- the walk after the six, with these values of ARGS, and one more that is pending
 abbrev at_args : (f u h r t p : Text) → List Text → Text → Walk
 at_args f u h r t p vs x = record {
   held = record { rows = six f u h r t p (args_row vs); pending = Some (codes "ARGS", x ∷ []); skip = 0 };
@@ -54,7 +54,7 @@ all_faultless f u h r t p vs x (y ∷ ys) =
     ap₂ or_else (one_faultless f u h r t p vs x)
     (ap (λ (w : Walk). placed_fault leaf w ys) (one_more f u h r t p vs x y) ∙ all_faultless f u h r t p (vs ++ x ∷ []) y ys)
 
--- the walk behind the last argument
+-- the walk after the last argument
 record Last (f u h r t p : Text) (args : List Text) (w : Walk) : Type 0 where
   pub before : List Text
   pub last : Text

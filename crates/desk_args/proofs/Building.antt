@@ -8,7 +8,7 @@ use Rattle.clap.specs.declared.builder.arg.Arg.{Arg}
 use Rattle.desk_args.specs.CommandLine as line
 use Rattle.desk_args.specs.private.Commands.{AreCommands, HasRule, HasRules, IsCommand, with_rules}
 
--- What holds of two lists, place by place, holds of them with one more item each of which it holds.
+-- A relation that holds of two lists, place by place, still holds after each gets one more item, if it holds of these two.
 pub one_more : {A B : Type 0} (R : A → B → Type 0) (xs : List A) (ys : List B) (x : A) (y : B) → AllZip R xs ys → R x y → AllZip R (xs ++ x ∷ []) (ys ++ y ∷ [])
 one_more R [] [] x y all holds = (holds, tt)
 one_more R [] (b ∷ ys) x y all holds = absurd all

@@ -1,4 +1,4 @@
--- Each of the program's commands takes words that are no options by their places.
+-- For each of the program's commands, words that are not options are positional.
 use Rattle.std.specs.Prelude.{◌≡◌, ℕ, List, [], ◌∷◌, Some, None, true, codes, slice_index_or, refl}
 use Rattle.std.specs.List.{list_all}
 use Rattle.std.proofs.Common.{◌∙◌, ap, subst, sym}
@@ -15,7 +15,7 @@ use Rattle.desk_args.proofs.ArgsPlaced.{args_are, args_row, six, six_faultless, 
 abbrev nth : ℕ → Shape
 nth n = slice_index_or (built desk).subs n check.top
 
--- a command that is entered by its name, and what it makes of the words behind it
+-- a command that is entered by its name, and what it makes of the words after it
 record Takes (name : Text) (leaf : Shape) (rest : List Text) (rows : List Row) : Type 0 where
   pub enters : Enters (built desk) name leaf
   pub operands : list_all is_operand rest ≡ true

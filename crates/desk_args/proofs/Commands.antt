@@ -1,4 +1,4 @@
--- What clap's rules say of the program's commands, whatever the words are.
+-- What clap's rules say about the program's commands, for any words.
 use Rattle.std.proofs.Common.{◌≡◌, true, refl}
 use Rattle.clap.specs.Words.{is_simple, is_simple_and_free}
 use Rattle.clap.proofs.OnLiterals.{clap_on_literals}

@@ -258,7 +258,7 @@ rebuild_complete words none = inr (inr (inr (inr (inr (inr (inl (refl, leaf_comp
 serve_complete : Completes (leaf 7)
 serve_complete words none = inr (inr (inr (inr (inr (inr (inr (refl, leaf_complete (leaf 7) words refl none)))))))
 
--- each of the commands is such a one, or is not called so
+-- each of the commands is complete, or does not answer to the name
 abbrev AllComplete : Text → List Shape → Type 0
 AllComplete name [] = Unit {0}
 AllComplete name (s ∷ rest) = ((answers_to name (label_of s) ≡ false) ⊎ Completes s) × AllComplete name rest

@@ -1,4 +1,4 @@
--- Words that are no options are taken by their places.
+-- Words that are not options are positional.
 use Rattle.std.specs.Prelude.{◌≡◌, ◌&&◌, ◌==◌, Bool, true, false, not, List, [], ◌∷◌, ◌++◌, ℕ, Option, Some}
 use Rattle.std.specs.Prelude.{None, is_some, if◌then◌else◌, find, fold, option_and_then, option_map, refl}
 use Rattle.std.specs.List.{list_all}
@@ -16,7 +16,7 @@ use Rattle.clap.specs.Simple.{App, Shape, entered, label_of, names_of, rows_at}
 use Rattle.clap.proofs.WalkLemmas.{both}
 use Rattle.desk_args.specs.Operands.{is_operand}
 
--- ---- a word that is no option
+-- ---- a word that is not an option
 
 is_false : (b : Bool) → not b ≡ true → b ≡ false
 is_false true h = absurd cc
@@ -177,7 +177,7 @@ pub rows_place : (c : List Rule) (words : List Text) → list_all is_operand wor
     → rows_after c [] words ≡ finished c (placed c words).held
 rows_place c words all leads = ap (λ (w : Walk). finished c w.held) (walk_place c start words all leads fresh_start)
 
--- ---- the words behind a subcommand's name
+-- ---- the words after a subcommand's name
 
 stops : (c : List Rule) (names : Names) (w : Walk) (name : Text) (before rest : List Text)
     → fold (walked c names) (record w { stopped = Some (name, before) }) rest ≡ record w { stopped = Some (name, before ++ rest) }

@@ -1,4 +1,4 @@
--- What is read of a line, by the name of its command.
+-- What is read from a line, by the name of its command.
 use Rattle.std.specs.Prelude.{◌≡◌, List, Option, Result, IfErr, IfOk, MatchResult, Some}
 use Rattle.std.proofs.Common.{subst}
 use Rattle.clap.specs.Words.{Row, Text}
@@ -9,7 +9,7 @@ use Rattle.desk_args.specs.declared.fault.JobFault.TheVariants.{BadWord, NoMemor
 use Rattle.desk_args.specs.declared.task.Job.{Job}
 use Rattle.desk_args.specs.private.Readings.{IsReading}
 
--- what is read of a command is read of the line that has its name
+-- what is read from a command is read from the line that has its name
 pub read_by_name : (command name : Text) (rows : List Row) (read : Result Job JobFault) → command ≡ name
     → IfOk read (λ j. Says (Some (command, rows)) j)
     → ((j : Job) → Says (Some (command, rows)) j → MatchResult read (λ k. k ≡ j) (λ e. e ≡ NoMemory))

@@ -1,4 +1,4 @@
--- `review` says nothing where its moment is none.
+-- Words with `review` say no job if the value of AT is not a moment.
 use Rattle.std.specs.Prelude.{◌≡◌, ℕ, List, Some, true, false, codes, refl}
 use Rattle.std.specs.Str.{bytes_eq}
 use Rattle.std.proofs.Common.{subst, sym}

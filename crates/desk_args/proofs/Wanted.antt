@@ -41,7 +41,7 @@ named command name same = sym ((bytes_eq-Decides name command).0 same)
 other : (name command : Text) → bytes_eq name command ≡ false → name ≡ command → ⊥
 other name command differs is = true≢false (sym ((bytes_eq-Decides name command).1 is) ∙ differs)
 
--- what is no other command is `serve`
+-- a command that is none of the others is `serve`
 pub is_serve : (name : Text) (rows : List Row) → HasAllValues (Some (name, rows))
     → bytes_eq name (codes "check") ≡ false → bytes_eq name (codes "decide") ≡ false → bytes_eq name (codes "beyond") ≡ false
     → bytes_eq name (codes "deliver") ≡ false → bytes_eq name (codes "print") ≡ false → bytes_eq name (codes "review") ≡ false

@@ -48,11 +48,11 @@ decide_args =
 abbrev pub beyond_args : List Text
 beyond_args = codes "A" ∷ codes "B" ∷ []
 
--- where the parts of a desk stand: all that `rebuild` wants
+-- where the parts of a desk are: all that `rebuild` wants
 abbrev pub place_args : List Text
 place_args = codes "ROSTER" ∷ codes "BASE" ∷ codes "STORE" ∷ []
 
--- the arguments of another command on a desk, of which the last is its own
+-- the arguments of any other command on a desk: the last is its own
 abbrev pub desk_args : Text → List Text
 desk_args id = codes "ROSTER" ∷ codes "BASE" ∷ codes "STORE" ∷ id ∷ []
 
@@ -148,7 +148,7 @@ abbrev pub HasWords : (Text → Bool) → ℕ → Text → List Row → List Tex
 HasWords form most id rows texts =
     (values id rows ≡ texts) × (list_all form texts ≡ true) × (length texts ≤ most)
 
--- the run that the values of `decide` say
+-- the run that the values of `decide` describe
 pub record IsInvocation (rows : List Row) (run : Invocation) : Type 0 where
   pub user : HasWord is_name (codes "USER") rows run.user
   pub host : HasWord is_host_name (codes "HOST") rows run.host
@@ -177,22 +177,22 @@ HasCount id rows None = first_of id rows ≡ None
 HasCount id rows (Some n) =
     (text : Text) × HasWord is_count id rows text × (n ≡ digits_value 10 text)
 
--- the scope that the options of `beyond` say: what is left out is not fixed
+-- the scope that the options of `beyond` give: what is left out is not fixed
 pub record IsScopeOf (rows : List Row) (scope : Scope) : Type 0 where
   pub user : HasOption is_name (codes "USER") rows scope.user
   pub host : HasOption is_host_name (codes "HOST") rows scope.host
   pub runas : HasOption is_name (codes "RUNAS") rows scope.runas
 
--- `-` says that messages are kept in memory, and any other text is the path of a database
+-- `-` means that messages are kept in memory, and any other text is the path of a database
 abbrev pub SaysStore : Text → Store → Type 0
 SaysStore text Memory = text ≡ codes "-"
 SaysStore text (File path) = (text ≡ path) × (path ≢ codes "-")
 
--- the argument's value says this
+-- the argument's value says that messages are kept there
 abbrev pub HasStore : Text → List Row → Store → Type 0
 HasStore id rows store = (text : Text) × HasValue id rows text × SaysStore text store
 
--- the places that the values say: the paths of the roster and of the base, and where messages are
+-- the places that the values give: the paths of the roster and of the base, and where messages are
 -- kept
 pub record ArePlaces (rows : List Row) (places : Places) : Type 0 where
   pub roster : HasValue (codes "ROSTER") rows places.roster
@@ -237,7 +237,7 @@ pub record HasBadWord (form : Text → Bool) (id : Text) (rows : List Row) : Typ
   pub value : HasValue id rows text
   pub bad : form text ≡ false
 
--- the argument has a value that is no moment's canonical text
+-- the argument has a value that is not the canonical text of a moment
 pub record HasBadMoment (id : Text) (rows : List Row) : Type 0 where
   pub text : Text
   pub value : HasValue id rows text

@@ -1,4 +1,4 @@
--- Command lines without an option: each word is taken by its place.
+-- Command lines without an option: each word is positional.
 use Rattle.std.specs.Prelude.{◌≡◌, ◌==◌, ◌≤◌, Bool, true, not, List, [], ◌∷◌, None, codes, length}
 use Rattle.std.specs.List.{list_all}
 use Rattle.clap.specs.Words.{Text}
@@ -17,7 +17,7 @@ is_operand [] = true
 is_operand (b ∷ []) = true
 is_operand (b ∷ c ∷ rest) = not (b == 45)
 
--- the words of a run are of their forms
+-- each word of a run is of its form, and it has at most 64 arguments
 pub record HasForms (run : Invocation) : Type 0 where
   pub user : is_name run.user ≡ true
   pub host : is_host_name run.host ≡ true
@@ -26,7 +26,7 @@ pub record HasForms (run : Invocation) : Type 0 where
   pub args : list_all is_arg run.args ≡ true
   pub few : length run.args ≤ 64
 
--- the words after the program's name say the job, each by its place
+-- the words after the program's name say the job, each by its position
 abbrev pub SaysByPlace : List Text → Job → Type 0
 SaysByPlace words (Check file) = words ≡ codes "check" ∷ file ∷ []
 SaysByPlace words (Decide file run) =

@@ -17,11 +17,11 @@ use std::alloc::{AllocError, Global};
 /// The program's version, and the toolchain that it is proved with.
 const VERSION: &str = "0.14.2\nproved with rattle-kit-13f logic dac8208d650f15bf";
 
-/// What stands below each help.
+/// The text below each help.
 const ENDS: &str =
     "Exit status: 0 done or allowed; 1 denied or found; 2 refused, with a code.\nManual page: desk(1).";
 
-/// What `decide` wants.
+/// The arguments of `decide` that have one value each.
 const DECIDE_ARGS: [(&str, &str); 6] = [
     ("FILE", "The policy"),
     ("USER", "Who runs the command"),
@@ -31,41 +31,41 @@ const DECIDE_ARGS: [(&str, &str); 6] = [
     ("PATH", "The command's path"),
 ];
 
-/// What `beyond` wants.
+/// The arguments that `beyond` wants.
 const BEYOND_ARGS: [(&str, &str); 2] = [
     ("A", "The policy that may allow more"),
     ("B", "The policy that it is compared with"),
 ];
 
-/// What the options of `beyond` are: their names, how they are written, and their helps.
+/// The options of `beyond`: their names, how they are written, and their helps.
 const BEYOND_OPTIONS: [(&str, &str, &str); 3] = [
     ("USER", "user", "Look at this user alone"),
     ("HOST", "host", "Look at this host alone"),
     ("RUNAS", "runas", "Look at this target alone"),
 ];
 
-/// What the option of `print` is.
+/// The option of `print`.
 const PRINT_OPTIONS: [(&str, &str, &str); 1] = [(
     "AFTER",
     "after",
     "Leave out the lines that end before this moment",
 )];
 
-/// What the option of `serve` is.
+/// The option of `serve`.
 const SERVE_OPTIONS: [(&str, &str, &str); 1] = [(
     "REQUESTS",
     "requests",
     "End after so many connections",
 )];
 
-/// What `rebuild` wants.
+/// The arguments that `rebuild` wants.
 const REBUILD_ARGS: [(&str, &str); 3] = [
     ("ROSTER", "The roster that the desk is to have"),
     ("BASE", "The base policy"),
     ("STORE", STORE_HELP),
 ];
 
-/// What the place of STORE takes.
+/// The help of STORE.
 const STORE_HELP: &str = "The database that keeps the messages, or `-`: kept in memory alone";
 
 fn wanted<'a>(alloc: Global, id: &'a str, help: &'a str) -> Arg<'a>
@@ -256,7 +256,7 @@ fn serve<'a>(alloc: Global) -> Result<Command<'a>, AllocError>
     on_desk(alloc, "serve", about, "ADDR", help, &SERVE_OPTIONS)
 }
 
-/// Adds a command, where it could be made.
+/// Adds a command, if it could be made.
 fn push_made<'a>(
     commands: &mut Vec<Command<'a>>,
     made: Result<Command<'a>, AllocError>,

@@ -247,8 +247,8 @@ fn named(alloc: Global, matches: &ArgMatches<'_>) -> Result<Job, JobFault>
 /// What the words say to do, the program's own name first, by clap's rules for the program's
 /// commands.
 ///
-/// `BadWord` comes where a value has not the form that its place asks for, and `Usage` where the
-/// words are no command, or ask for help.
+/// `BadWord` comes where a value does not have the form that its place asks for, and `Usage` where
+/// the words are not a command, or ask for help.
 pub fn job(alloc: Global, words: Vec<String>) -> Result<Job, JobFault>
     ensures found { IfOk result (λ j. IsCommandLine (map string_bytes words.items) j) }
     ensures only { (j : Task) → IsCommandLine (map string_bytes words.items) j

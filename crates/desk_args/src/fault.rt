@@ -11,12 +11,12 @@ use sudo_words::WordFault;
 /// Why the command line says nothing to do.
 #[derive(Debug, Drop)]
 pub enum JobFault {
-    /// A value has not the form that its place asks for.
+    /// A value does not have the form that its place asks for.
     BadWord,
     /// Memory ran out.
     NoMemory,
-    /// The line is no command of the program, or asks for help. The fault has the text for the
-    /// user.
+    /// The line is not a command of the program, or asks for help. The fault has the text for
+    /// the user.
     Usage(clap::Error),
 }
 

@@ -1,5 +1,5 @@
-//! What the rules say of command lines that are written out, each the contract of a function that
-//! does nothing.
+//! Laws of the command line and worked command lines, each the contract of a function that does
+//! nothing.
 
 ghost use Rattle.std.specs.Prelude.{◌≡◌, List, [], ◌∷◌, None, Some, codes, true};
 ghost use Rattle.std.specs.List.{list_all};
@@ -9,7 +9,7 @@ ghost use Rattle.desk_args.specs.Operands.{SaysByPlace, is_operand};
 ghost use Rattle.desk_args.specs.declared.task.Job.{Job as Task};
 ghost use Rattle.desk_args.specs.declared.task.Job.TheVariants as jobs;
 
-/// Words of which none begins with `-`, but for `-` itself, are taken by their places.
+/// Words that do not begin with `-` (except `-`) are positional.
 pub fn by_place()
     ensures { (program : Word) (words : List Word) (job : Task) → list_all is_operand words ≡ true
         → SaysByPlace words job → IsCommandLine (program ∷ words) job }

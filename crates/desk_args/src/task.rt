@@ -13,7 +13,7 @@ pub enum Store {
     File(Text),
 }
 
-/// Where the parts of a desk stand.
+/// Where the parts of a desk are.
 #[derive(Drop)]
 pub struct Places {
     /// The path of the roster's file.
@@ -45,7 +45,7 @@ pub enum Job {
         a: Text,
         /// The path of the file whose policy it is compared with.
         b: Text,
-        /// What is fixed of the invocations that are looked at.
+        /// What is fixed in the invocations that are looked at.
         scope: Scope,
     },
     /// Deliver the lines of the input to a desk, and print the answer to each.
@@ -61,7 +61,7 @@ pub enum Job {
         places: Places,
         /// The host.
         host: HostName,
-        /// The moment before which no line ends that is printed; all are, where it is left out.
+        /// No line that ends before this moment is printed; without it all lines are.
         after: Option<Moment>,
     },
     /// Deliver the lines of the input to a desk, and print its report.
@@ -71,7 +71,7 @@ pub enum Job {
         /// The moment that is looked at.
         at: Moment,
     },
-    /// Take a desk over to the roster, in place of the one that it was made with.
+    /// Give a desk the roster, in place of the one that it has.
     Rebuild {
         /// The desk's files.
         places: Places,
@@ -82,7 +82,7 @@ pub enum Job {
         places: Places,
         /// The address to listen at.
         addr: Text,
-        /// How many connections are served; as many as come, where it is left out.
+        /// How many connections are served; without it, as many as come.
         requests: Option<u64>,
     },
 }

@@ -122,8 +122,8 @@ pub fn count_if_given(matches: &ArgMatches<'_>, id: &str) -> Result<Option<u64>,
     }
 }
 
-/// Where messages are kept, by the value of an argument that has one: `-` says in memory, and any
-/// other the path of a database.
+/// Where messages are kept, by the value of an argument that has one: `-` means in memory, and any
+/// other value is the path of a database.
 pub fn store(alloc: Global, matches: &ArgMatches<'_>, id: &str) -> Result<Store, AllocError>
     requires { HasSome id.now (rows_of (found_of matches.now)) }
     ensures found { IfOk result (HasStore id.now (rows_of (found_of matches.now))) }
@@ -170,7 +170,7 @@ pub fn moment_if_given(matches: &ArgMatches<'_>, id: &str) -> Result<Option<Mome
     }
 }
 
-/// The texts, each an argument.
+/// Each text, read as an argument.
 fn all_args(alloc: Global, texts: &[&str]) -> Result<Items<Arg>, JobFault>
     ensures found { IfOk result
         (λ v. (v ≡ map (λ t. t.now) texts.now) × (list_all is_arg v ≡ true)) }

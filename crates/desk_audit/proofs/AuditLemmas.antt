@@ -33,7 +33,7 @@ use Rattle.desk_audit.specs.private.ByName.{Gathers, IsToldAt}
 use Rattle.desk_audit.proofs.ByNameLemmas.{Abouts, IsAt}
 use Rattle.desk_audit.proofs.ListLemmas.{from_mapped, to_mapped}
 
--- What lists a set lists each set of the same messages.
+-- A list of one set is a list of each set with the same messages.
 pub lists_same : (S T : Message → Type 0) (list : List Message) → SameSet S T → Lists S list → Lists T list
 lists_same S T list same lists m = (λ held. (lists m).0 ((same m).1 held), λ there. (same m).0 ((lists m).1 there))
 
@@ -42,7 +42,7 @@ lists_same S T list same lists m = (λ held. (lists m).0 ((same m).1 held), λ t
 abbrev pub Keyed : Type 0
 Keyed = RequestName × About
 
--- an entry, as it stands in the map
+-- an entry, as the map has it
 abbrev pub keyed : Entry → Keyed
 keyed e = (e.name, e.about)
 

@@ -17,7 +17,7 @@ use Rattle.desk_audit.proofs.ToldLemmas.{told_beside, was_among}
 abbrev pub Abouts : Type 0
 Abouts = BTreeMap RequestName About
 
--- what stands at a name, of a set
+-- what the map has at a name, for a set
 abbrev pub IsAt : List Message → RequestName → Option About → Type 0
 IsAt set name o = MatchOption o (NobodySpeaks set name) (IsToldAt set name)
 
@@ -34,7 +34,7 @@ still_at set m name differ (Some about) is = record {
   told = told_beside set m name about differ is.told;
 }
 
--- one name is set, to what is told of it in the longer set, and the others stay
+-- one name is set, to what is told about it for the longer set, and the others stay
 pub one_more : (set : List Message) (m : Message) (old new : Abouts) (about : About) → SetsAt old new (name_in m) about
     → IsOrdered name_cmp new → TellsMessages (set ++ m ∷ []) (name_in m) about → Gathers set old → Gathers (set ++ m ∷ []) new
 one_more set m old new about sets ordered told g = record { ordered = ordered; each = λ other. stands other (same_cases (name_in m) other) }

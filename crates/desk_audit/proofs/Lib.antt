@@ -1,4 +1,4 @@
--- lists, what is told of a name as a message joins the set, the map of all names, the messages of the texts, and the entries of an audit
+-- lists, what is told about a name as a message joins the set, the map of all names, the messages of the texts, and the entries of an audit
 pub mod ListLemmas
 pub mod ToldLemmas
 pub mod ByNameLemmas

@@ -1,4 +1,4 @@
--- Where the members of a list stand in its image, and back; and what stands behind all others of a list in order.
+-- The members of a list and of its image; and what comes after all others in an ordered list.
 use Rattle.std.proofs.Common.{◌≡◌, List, [], ◌∷◌, ◌++◌, map, subst, inl, inr}
 use Rattle.std.specs.List.{Contains}
 use Rattle.std.proofs.lemmas.List.Elements.{Contains-push, Contains-push_cases}
@@ -22,7 +22,7 @@ from_mapped {X} f (x ∷ xs) y m =
       | inr later ↦ let found = from_mapped f xs y later in (found.0, Contains-behind x xs found.0 found.1, found.2)
     ]
 
--- what stands behind each of a list in order is in order after it
+-- an ordered list stays in order if something is added that comes after each of its members
 pub pushed_in_order : {X : Type 0} (P : X → X → Type 0) (xs : List X) (x : X)
     → AreInOrder P xs → ((y : X) → Contains xs y → P y x) → AreInOrder P (xs ++ x ∷ [])
 pushed_in_order {X} P xs x ordered before =
@@ -32,7 +32,7 @@ pushed_in_order {X} P xs x ordered before =
       | inr same ↦ subst (P y) same (before y among)
     ])
 
--- and the last of a list in order stands behind each before it
+-- and the last of an ordered list comes after each before it
 pub last_behind : {X : Type 0} (P : X → X → Type 0) (xs : List X) (y : X) → AreInOrder P (xs ++ y ∷ []) → (x : X) → Contains xs x → P x y
 last_behind P [] y o x m = absurd (no_member x m)
 last_behind {X} P (z ∷ xs) y o x m =

@@ -27,7 +27,7 @@ use Rattle.desk_audit.proofs.ListLemmas.{from_mapped, last_behind, to_mapped}
 
 -- ---- what was read so far
 
--- these messages have the first texts, each is one that a desk knows, and the map has what they say
+-- these messages have the first `i` texts, each is a message as a desk knows it, and the map has what they say
 pub record IsRead (texts : List (String Global)) (i : ℕ) (all : Abouts) : Type 0 where
   pub seen : List Message
   pub texts_are : map wire seen ≡ map string_bytes (take i texts)
@@ -112,7 +112,7 @@ module _ (set : List Message) (messages : (m : Message) → Contains set m → I
         each = λ name. at_same_set read.seen set name (same_set read.seen is read.known) (at_name all name) (gathers.each name);
       }
 
-  -- a text that is refused is too long, or memory was wanting
+  -- a text that is refused is too long, or memory was lacking
   pub refused_text : (text : List ℕ) (e : Refusal) → Contains texts text
       → ((m : Message) → IsMessage m → text ≡ wire m → IsWant e ⊎ ((e ≡ TooLong) × (16_384 < length text))) → IsWant e ⊎ IsTooLong set e
   refused_text text e among why =

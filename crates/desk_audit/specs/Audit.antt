@@ -9,14 +9,14 @@ use Rattle.outcomes.specs.Outcomes.{ComesTo}
 use Rattle.desk_audit.specs.Told.{TellsMessages, name_in}
 use Rattle.desk_audit.specs.declared.entry.Entry.{Entry}
 
--- A name that a message of the set speaks of, with all its messages, and what they come to.
+-- A name that a message of the set is about, with all its messages, and what they come to.
 pub record TellsName (f : RosterFields Cmnd)
     (messages : List Message) (entry : Entry) : Type 0 where
   pub spoken : (m : Message) × Contains messages m × (name_in m ≡ entry.name)
   pub about : TellsMessages messages entry.name entry.about
   pub status : ComesTo f messages entry.name entry.status
 
--- Each name that somebody asks under or that a verdict speaks of, once, in the order of names, and
+-- Each name that somebody asks under or that a verdict is about, once, in the order of names, and
 -- no others.
 pub record IsAudit (f : RosterFields Cmnd)
     (messages : List Message) (entries : List Entry) : Type 0 where

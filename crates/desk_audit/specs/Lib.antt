@@ -1,4 +1,4 @@
--- what is told of a name's messages, and of each name
+-- what is told about a name's messages, and about each name
 pub mod Told
 pub mod Audit
 pub mod Picks

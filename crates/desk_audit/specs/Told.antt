@@ -1,4 +1,4 @@
--- What is told of a name's messages.
+-- What is told about a name's messages.
 use Rattle.std.specs.Prelude.{◌≡◌, ◌↔◌, ◌<◌, List, Contains, length}
 use Rattle.messages.specs.Fields.{RequestFields, VerdictFields}
 use Rattle.messages.specs.Names.{name_meant, name_of}
@@ -11,13 +11,13 @@ use Rattle.desk.specs.declared.refusal.Refusal.{Refusal}
 use Rattle.desk.specs.declared.refusal.Refusal.TheVariants.{TooLong}
 use Rattle.desk_audit.specs.declared.gathering.About.{About}
 
--- the name that somebody asks under, or that a verdict speaks of
+-- the name that a request asks under, or that a verdict is about
 abbrev pub name_in : Message → RequestName
 name_in (Request q) = name_of q
 name_in (Verdict v) = name_meant v
 
 -- All messages about the name and no others, each once: its requests in the byte order of their
--- texts, and so its verdicts.
+-- texts, and its verdicts likewise.
 pub record TellsMessages (messages : List Message)
     (name : RequestName) (about : About) : Type 0 where
   pub requests_in_order :
@@ -29,7 +29,7 @@ pub record TellsMessages (messages : List Message)
   pub verdicts : (v : VerdictFields)
       → Contains about.verdicts.items v ↔ (Contains messages (Verdict v) × (name_meant v ≡ name))
 
--- The refusal of a set that has a text of over 16,384 bytes, which no delivery brings.
+-- The set is refused because it has a text of over 16,384 bytes, which no delivery brings.
 abbrev pub IsTooLong : List Message → Refusal → Type 0
 IsTooLong messages e =
     (e ≡ TooLong) × (m : Message) × Contains messages m × (16_384 < length (wire m))

@@ -1,3 +1,3 @@
 -- What only private clauses and proofs cite: no public contract speaks of it.
--- what is said of a set, by name
+-- what a set of messages says, by name
 pub mod ByName

@@ -2,13 +2,13 @@
 
 use sudo_words::NoMemory;
 
-/// How wide a line is, unless a word alone is wider.
+/// How wide a line may be, unless a single word does not fit.
 const WIDTH: usize = 100;
 
-/// Where what stands beside a heading begins.
+/// The column at which the text beside a heading begins.
 pub(crate) const SECOND: usize = 12;
 
-/// Where a line goes on that was too long.
+/// The column at which a line that was too long goes on.
 const THIRD: usize = 14;
 
 fn push_spaces(out: &mut String, count: usize) -> Result<(), NoMemory> {
@@ -25,7 +25,7 @@ pub(crate) fn push_heading(out: &mut String, heading: &str) -> Result<(), NoMemo
     push_spaces(out, (SECOND - 2).saturating_sub(heading.len()))
 }
 
-/// A line that is being written, by the column that it has reached.
+/// A line that is being written, and the column that it has reached.
 #[derive(Drop)]
 pub(crate) struct Line {
     column: usize,
@@ -60,14 +60,14 @@ impl Line {
         Ok(())
     }
 
-    /// Ends it.
+    /// Ends the line.
     pub(crate) fn end(self, out: &mut String) -> Result<(), NoMemory> {
         out.push_str("\n")?;
         Ok(())
     }
 }
 
-/// Adds a line of a text after the heading, cut at its spaces where it is too long.
+/// Adds a line with a text after the heading, cut at its spaces if it is too long.
 pub(crate) fn push_line(out: &mut String, heading: &str, text: &str) -> Result<(), NoMemory> {
     let mut line = Line::after(out, heading)?;
     for word in text.split(' ') {

@@ -1,6 +1,6 @@
-//! What is said, as one document of JSON (RFC 8259).
+//! What the audit tells, as one JSON document (RFC 8259).
 //!
-//! Messages stand in it as their own texts, which are JSON; no other text of it has a character
+//! Messages appear in it as their own texts, which are JSON; no other text in it has a character
 //! that needs an escape.
 
 use crate::by_host::{HostWindow, windows};
@@ -73,7 +73,7 @@ fn push_people(out: &mut String, people: &[&Name]) -> Result<(), NoMemory> {
     Ok(())
 }
 
-/// Adds how many approvals it lacks and who may give one, where it waits.
+/// Adds how many approvals it lacks and who may give one, if it waits.
 fn push_lacks(
     alloc: Global,
     out: &mut String,
@@ -160,7 +160,7 @@ fn push_windows(
     Ok(())
 }
 
-/// What is said of the entries, as one document of JSON and a newline.
+/// What is told about the entries, as one JSON document and a newline.
 pub fn json(
     alloc: Global,
     roster: &Roster,

@@ -1,4 +1,4 @@
-//! What is said of each name.
+//! What the audit tells about each name.
 
 ghost use Rattle.std.specs.Prelude.{◌≡◌, ◌⊎◌, List, IfOk, IsErr, IfErr, Err};
 ghost use Rattle.messages.specs.declared.message.Message.{Message as AnyMessage};
@@ -28,7 +28,7 @@ pub struct Entry {
     pub name: RequestName,
     /// The messages about it.
     pub about: About,
-    /// What they come to: none where nobody asks.
+    /// What they come to; none if nobody asks.
     pub status: Option<Status>,
 }
 
@@ -81,12 +81,12 @@ fn entries_of<K: Keeper>(
     Ok(entries)
 }
 
-/// What is said of each name that somebody asks under or that a verdict speaks of, in the order of
+/// The entries of all names that somebody asks under or that a verdict is about, in the order of
 /// names, each once and with all its messages.
 ///
-/// Each status is what the messages about the name come to. Beside want of memory and of storage
-/// there is one refusal: `TooLong`, where the desk holds a text of over 16,384 bytes, which no
-/// delivery brings. Nothing of the desk changes.
+/// Each status is what the messages about the name come to. Apart from want of memory and of
+/// storage there is one refusal: `TooLong`, if the desk holds a text of over 16,384 bytes, which no
+/// delivery brings. Nothing in the desk changes.
 pub fn audit<K: Keeper>(desk: &mut Desk<K>) -> Result<Vec<Entry>, Refusal>
     ensures audit { (set : List AnyMessage) → K.is_up desk.new.keeper
         → K.is_desk desk.new.keeper → Lists (K.holds desk.old.keeper) set
@@ -117,18 +117,18 @@ pub(crate) fn status_word(status: &Option<Status>) -> &'static str {
     }
 }
 
-/// An entry with what the roster says of it.
+/// An entry with what the roster says about it.
 #[derive(Drop)]
 pub(crate) struct Judged<'a> {
     roster: &'a Roster,
     pub(crate) entry: &'a Entry,
-    /// The ceiling of the first request, where the roster has it.
+    /// The ceiling of the first request, if the roster has it.
     ceiling: Option<&'a Ceiling>,
-    /// The first approval of each person that counts.
+    /// Each person's first approval that counts.
     approvals: Vec<&'a Verdict>,
 }
 
-/// The ceiling of the first of the requests.
+/// The ceiling of the first of the requests, if there is one and the roster has its ceiling.
 fn ceiling_of<'a>(roster: &'a Roster, requests: &'a [Request]) -> Option<&'a Ceiling> {
     match requests {
         [request, ..] => roster.ceiling(request.ceiling()),
@@ -172,7 +172,7 @@ impl<'a> Judged<'a> {
         }
     }
 
-    /// The request that waits, and the ceiling that it waits under.
+    /// The request and the ceiling that it waits under, if it waits.
     fn waiting(&self) -> Option<(&'a Request, &'a Ceiling)> {
         let entry: &'a Entry = self.entry;
         match (entry.status, entry.about.requests.as_slice(), self.ceiling) {
@@ -181,14 +181,14 @@ impl<'a> Judged<'a> {
         }
     }
 
-    /// How many people's approvals it lacks, where it waits.
+    /// How many people's approvals it lacks, if it waits.
     pub(crate) fn lacks(&self) -> Option<u64> {
         let (_, ceiling) = self.waiting()?;
         Some(ceiling.needs().saturating_sub(self.approvals.len() as u64))
     }
 
-    /// The moment at which it is asked who may approve it: the one that is given, else that of the
-    /// request.
+    /// The moment for which to tell who may approve it, if it waits: `until` if it is given, else
+    /// the request's own.
     pub(crate) fn asked_at(&self, until: Option<Moment>) -> Option<Moment> {
         let (request, _) = self.waiting()?;
         match until {
@@ -203,7 +203,8 @@ impl<'a> Judged<'a> {
             && !is_of_one(&self.approvals, person)
     }
 
-    /// The people who may approve it at the moment and have not yet, where it waits, in byte order.
+    /// The people who may approve it at the moment and have not yet, in byte order; nobody unless
+    /// it waits.
     pub(crate) fn approvers(&self, alloc: Global, at: Moment) -> Result<Vec<&'a Name>, NoMemory> {
         let roster: &'a Roster = self.roster;
         let mut people = Vec::new(alloc);
@@ -218,7 +219,7 @@ impl<'a> Judged<'a> {
         Ok(people)
     }
 
-    /// Why the roster does not admit it, where it lapsed.
+    /// Why the roster does not admit it, if it lapsed.
     pub(crate) fn denial(&self) -> Result<Option<Denial>, NoMemory> {
         match (self.entry.status, self.entry.about.requests.as_slice()) {
             (Some(Status::Lapsed), [request]) => {

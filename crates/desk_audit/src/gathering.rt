@@ -19,16 +19,16 @@ use sudo_words::NoMemory;
 /// The messages about one name.
 #[derive(Drop)]
 pub struct About {
-    /// The requests of the name: two make it disputed, and none leaves its verdicts waiting.
+    /// The requests of the name: with two it is disputed, and with none its verdicts wait.
     pub requests: Vec<Request>,
-    /// The verdicts about it, in the order of the texts: by moment.
+    /// The verdicts about it, in the byte order of their texts, so by moment first.
     pub verdicts: Vec<Verdict>,
 }
 
 /// What is said about each name, in the order of names.
 pub(crate) type ByName = BTreeMap<RequestName, About>;
 
-/// Nothing about a name.
+/// No messages about a name.
 fn nothing(alloc: Global) -> About
     ensures requests { result.requests.items ≡ [] }
     ensures verdicts { result.verdicts.items ≡ [] }
@@ -39,7 +39,7 @@ fn nothing(alloc: Global) -> About
     }
 }
 
-/// The name that a message speaks of.
+/// The name that a request asks under, or that a verdict is about.
 fn name_of(message: &Message) -> Result<RequestName, AllocError>
     ensures { IfOk result (λ name. name ≡ name_in message.now) }
 {
@@ -49,7 +49,7 @@ fn name_of(message: &Message) -> Result<RequestName, AllocError>
     }
 }
 
-/// Adds a message about the name, whose text stands behind those of the set.
+/// Adds a message about the name; its text comes after those of the set.
 fn add(about: &mut About, message: Message) -> Result<(), NoMemory>
     ensures { (set : List AnyMessage) → IsBehind set message
         → TellsMessages set (name_in message) about.old
@@ -62,7 +62,7 @@ fn add(about: &mut About, message: Message) -> Result<(), NoMemory>
     Ok(())
 }
 
-/// The first message about a name.
+/// The messages about a name, of which this is the first.
 fn first(alloc: Global, message: Message) -> Result<About, NoMemory>
     ensures { (set : List AnyMessage) → IsBehind set message
         → ((m : AnyMessage) → Contains set m → name_in m ≡ name_in message → ⊥)
@@ -73,7 +73,7 @@ fn first(alloc: Global, message: Message) -> Result<About, NoMemory>
     Ok(about)
 }
 
-/// Adds a message, whose text stands behind those of the set.
+/// Adds a message; its text comes after those of the set.
 fn put(alloc: Global, all: &mut ByName, message: Message) -> Result<(), NoMemory>
     ensures { (set : List AnyMessage) → IsBehind set message → Gathers set all.old
         → OnOk result (Gathers (set ++ message ∷ []) all.new) }
@@ -99,8 +99,8 @@ fn read(alloc: Global, reader: &mut MessageReader, text: &str) -> Result<Message
     Ok(reader.read(alloc, text.as_bytes())?)
 }
 
-/// What the texts of a set say about each name. They are read in their order, which is that of
-/// their moments where it is the texts' byte order.
+/// What the texts of a set say about each name. They are read in the order given; if that is their
+/// byte order, it is also the order of their moments.
 pub(crate) fn gather(alloc: Global, texts: &[String]) -> Result<ByName, Refusal>
     ensures gathers { (set : List AnyMessage) → ((m : AnyMessage) → Contains set m → IsMessage m)
         → AreTexts set (map string_bytes texts.now) → IfOk result (Gathers set) }

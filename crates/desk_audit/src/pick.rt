@@ -9,7 +9,7 @@ use grants::{Status, Window};
 use messages::{Request, Verdict};
 use sudo_words::{HostName, Moment, Name};
 
-/// What is asked about: each part that is left out asks about all.
+/// What is asked about. A part that is left out does not narrow the question.
 #[derive(Drop)]
 pub struct Pick {
     /// Windows that do not end before this moment.
@@ -71,8 +71,8 @@ impl Pick {
         self.has_person(asker) || verdicts.iter().any(|verdict| self.has_person(verdict.by()))
     }
 
-    /// Whether the window of a grant is asked about, or else one that is asked for, or where nobody
-    /// asks the moment of a verdict.
+    /// Whether the time is asked about: a grant's window; else a window that a request asks for;
+    /// or, if nobody asks, the moment of a verdict.
     fn has_some_span(&self, about: &About, status: &Option<Status>) -> bool {
         match status {
             Some(Status::Granted(Window { start, end })) => self.has_span(*start, *end),
@@ -87,14 +87,15 @@ impl Pick {
         }
     }
 
-    /// Whether what is said of a name is asked about.
+    /// Whether the entry is asked about.
     fn has(&self, entry: &Entry) -> bool {
         self.has_some_span(&entry.about, &entry.status)
             && self.has_some_host(entry.about.requests.as_slice())
             && self.has_someone(&entry.name.by, entry.about.verdicts.as_slice())
     }
 
-    /// The entries that are asked about, in their order: all of them where all are.
+    /// The entries that are asked about, in their order: all of them if nothing narrows the
+    /// question.
     pub fn among(&self, entries: Vec<Entry>) -> Vec<Entry>
         ensures { AsksAboutAll self.now → result ≡ entries }
     {

@@ -8,18 +8,19 @@ use roster::{Ceiling, Roster};
 use std::alloc::Global;
 use sudo_words::{Moment, Name, NoMemory};
 
-/// What a verdict weighs: it counts, or the first of the others that applies.
+/// What a verdict weighs: it counts, or why it does not. If it is parked, or its request is
+/// disputed or lapsed, that is the reason; of the others it is the first that applies.
 #[derive(Clone, Copy, Debug, PartialEq, Eq)]
 pub enum Weight {
     /// It counts.
     Counts,
     /// It would count, but it is a refusal that came after the request was complete.
     Late,
-    /// Its author asked.
+    /// Its author is the asker.
     Asker,
     /// Its author did not hold the approving duty on the day of its moment.
     Duty,
-    /// Its author held a duty on that day that conflicts with it.
+    /// On that day its author held a duty that conflicts with the approving duty.
     Conflict,
     /// The roster does not admit its request.
     Lapsed,
@@ -60,7 +61,7 @@ pub fn counts(roster: &Roster, ceiling: &Ceiling, verdict: &Verdict) -> bool
     }
 }
 
-/// Why a verdict does not count that does not.
+/// Why a verdict does not count, given that it does not.
 fn why_not(roster: &Roster, ceiling: &Ceiling, verdict: &Verdict) -> Weight {
     if *verdict.by() == *verdict.of() {
         Weight::Asker
@@ -71,7 +72,7 @@ fn why_not(roster: &Roster, ceiling: &Ceiling, verdict: &Verdict) -> Weight {
     }
 }
 
-/// Whether it is a refusal from after the completion.
+/// Whether it is a refusal later than the completion.
 fn is_late(complete: Option<Moment>, verdict: &Verdict) -> bool {
     match complete {
         Some(complete) => verdict.kind() == VerdictKind::Refuse && complete < verdict.at(),
@@ -79,8 +80,8 @@ fn is_late(complete: Option<Moment>, verdict: &Verdict) -> bool {
     }
 }
 
-/// What the verdict weighs under the ceiling, where the request was complete at the moment, if it
-/// ever was.
+/// What the verdict weighs under the ceiling. `complete` is the moment at which the request was
+/// complete, if it ever was.
 pub(crate) fn weigh(
     roster: &Roster,
     ceiling: &Ceiling,
@@ -101,7 +102,7 @@ pub(crate) fn is_of_one(verdicts: &[&Verdict], person: &Name) -> bool {
     verdicts.iter().any(|verdict| *verdict.by() == *person)
 }
 
-/// The first approval of each person that counts, in the order of the verdicts.
+/// Each person's first approval that counts, in the order of the verdicts.
 pub(crate) fn approvals<'v>(
     alloc: Global,
     roster: &Roster,
@@ -120,7 +121,7 @@ pub(crate) fn approvals<'v>(
     Ok(first)
 }
 
-/// The moment of the last of so many approvals, where there are as many.
+/// The moment of the last of the first `needs` approvals, if there are as many.
 pub(crate) fn completion(approvals: &[&Verdict], needs: u64) -> Option<Moment> {
     let mut left = needs;
     for approval in approvals {

@@ -1,4 +1,4 @@
-//! What is said, as a text for a terminal.
+//! What the audit tells, as a text for a terminal.
 
 ghost use Rattle.std.specs.Prelude.{All};
 ghost use Rattle.sudo_words.specs.Command.{IsLawful};
@@ -93,7 +93,7 @@ fn push_verdict(
     push_line(out, kind_word(verdict.kind()), text.as_str())
 }
 
-/// Adds how many approvals it lacks and who may give one, where it waits.
+/// Adds how many approvals it lacks and who may give one, if it waits.
 fn push_lacks(
     alloc: Global,
     out: &mut String,
@@ -113,7 +113,7 @@ fn push_lacks(
     line.end(out)
 }
 
-/// Adds what is said of an entry.
+/// Adds what is told about an entry.
 fn push_entry(
     alloc: Global,
     out: &mut String,
@@ -132,7 +132,7 @@ fn push_entry(
     push_lacks(alloc, out, pick, &judged)
 }
 
-/// Adds the entries that somebody asks for, or those that nobody does.
+/// Adds the entries of names that somebody asks under, or else those of the other names.
 fn push_entries(
     alloc: Global,
     out: &mut String,
@@ -149,7 +149,7 @@ fn push_entries(
     Ok(())
 }
 
-/// Whether the host is another than the last.
+/// Whether the host differs from the last one.
 fn is_new(last: Option<&HostName>, host: &HostName) -> bool {
     match last {
         Some(last) => *last != *host,
@@ -157,7 +157,7 @@ fn is_new(last: Option<&HostName>, host: &HostName) -> bool {
     }
 }
 
-/// Adds the windows, each host once above its own.
+/// Adds the windows, each host once above its windows.
 fn push_windows(out: &mut String, list: &[HostWindow]) -> Result<(), NoMemory> {
     let mut last = None;
     for window in list {
@@ -171,8 +171,8 @@ fn push_windows(out: &mut String, list: &[HostWindow]) -> Result<(), NoMemory> {
     Ok(())
 }
 
-/// What is said of the entries, as a text of lines of at most 100 columns, unless a word alone is
-/// longer.
+/// What is told about the entries, as a text with lines of at most 100 columns, unless a single
+/// word does not fit.
 pub fn text(
     alloc: Global,
     roster: &Roster,

@@ -1,4 +1,4 @@
-//! What the words of the command line ask.
+//! What the words on the command line ask.
 
 use crate::pick::Pick;
 use std::alloc::{AllocError, AllocFailed, Global};
@@ -19,14 +19,14 @@ pub struct Question {
     pub as_json: bool,
 }
 
-/// Why the words ask nothing.
+/// Why the words are not a question.
 #[derive(Clone, Copy, Debug, PartialEq, Eq)]
 pub enum WordsFault {
     /// They ask for help.
     Help,
     /// They are not the program's words.
     Usage,
-    /// A value has not the form that its place asks for.
+    /// A word does not have the form that its place requires.
     BadWord,
     /// Memory ran out.
     NoMemory,
@@ -53,7 +53,7 @@ impl From<WordFault> for WordsFault {
     }
 }
 
-/// An option that a word follows.
+/// An option that takes a value, the next word.
 #[derive(Clone, Copy, Debug, PartialEq, Eq)]
 enum Choice {
     From,
@@ -62,7 +62,7 @@ enum Choice {
     Person,
 }
 
-/// The option of this text.
+/// The option with this text.
 fn choice_of(word: &str) -> Option<Choice> {
     if word == "--from" {
         Some(Choice::From)
@@ -84,7 +84,7 @@ fn moment_of(word: &str) -> Result<Moment, WordsFault> {
     }
 }
 
-/// What the words so far say.
+/// What the words have said so far.
 #[derive(Drop)]
 struct Said {
     places: Vec<String>,
@@ -92,11 +92,11 @@ struct Said {
     as_json: bool,
     /// The option whose value is the next word.
     choice: Option<Choice>,
-    /// Whether only places are left.
+    /// Whether all further words are positional arguments: `--` has come.
     is_ended: bool,
 }
 
-/// Puts the value in where none was given.
+/// Sets the value. A second one for the same option is `Usage`.
 fn once<T: Drop>(place: &mut Option<T>, value: T) -> Result<(), WordsFault> {
     if place.is_some() {
         return Err(WordsFault::Usage);
@@ -152,7 +152,7 @@ impl Said {
     }
 }
 
-/// What no words say.
+/// What is said before the first word.
 fn nothing(alloc: Global) -> Said {
     Said {
         places: Vec::new(alloc),
@@ -168,7 +168,8 @@ fn nothing(alloc: Global) -> Said {
     }
 }
 
-/// What the words have said, where they are whole: three places, and no option without its value.
+/// The question, if the words are complete: three positional arguments, and no option without its
+/// value.
 fn finish(said: Said) -> Result<Question, WordsFault> {
     let Said {
         places,
@@ -189,8 +190,8 @@ fn finish(said: Said) -> Result<Question, WordsFault> {
     }
 }
 
-/// What the words ask, without the program's own name before them: `ROSTER BASE STORE`, and options
-/// before, between and after them.
+/// What the words ask. They are `ROSTER BASE STORE`, with options before, between and after, and
+/// without the program's own name at the front.
 pub fn asked_by(alloc: Global, words: &[String]) -> Result<Question, WordsFault> {
     let mut said = nothing(alloc);
     for word in words {

@@ -47,7 +47,7 @@ fn desk_over<K: Keeper + Drop>(
     }
 }
 
-/// What is told of the messages of the standard input.
+/// What is told about the messages on the standard input.
 fn told_of_input(rt: &HostRuntime, question: &Question) -> Result<String, Trouble> {
     let mut desk = desk_over(rt, question, MemoryKeeper::new(rt.alloc()))?;
     let told = match take_lines(rt, &mut desk) {
@@ -58,7 +58,7 @@ fn told_of_input(rt: &HostRuntime, question: &Question) -> Result<String, Troubl
     told
 }
 
-/// What is told of the messages of a store.
+/// What is told about the messages in a store.
 fn told_of_store(rt: &HostRuntime, question: &Question) -> Result<String, Trouble> {
     let keeper = copy_of(rt, question.store.as_str())?;
     let mut desk = desk_over(rt, question, keeper)?;

@@ -1,5 +1,5 @@
-//! A store, copied into memory: it is only read, by whoever may read its files, and also while a
-//! desk has it.
+//! A store, copied into memory: it is only read, by anybody who may read its files, and also while
+//! a desk has it open.
 
 ghost use Rattle.std.specs.Prelude.{IfOk, IsTrue};
 ghost use Rattle.sqlite_disk.specs.Memory.{memory_is_usable};
@@ -13,7 +13,7 @@ use sqlite_store::FileStore;
 use std::alloc::Global;
 use std::{fs, io};
 
-/// How often the files are read in the hope that nobody writes meanwhile.
+/// How often the files are read again in the hope that nobody writes meanwhile.
 const TRIES: u32 = 20;
 
 /// A keeper over a store's copy in memory.
@@ -26,7 +26,7 @@ struct Pair {
     log: Vec<u8>,
 }
 
-/// The bytes of a file, none where there is no such file.
+/// The bytes of a file, or none if there is no such file.
 fn bytes_of(rt: &HostRuntime, path: &str) -> Result<Option<Vec<u8>>, Trouble> {
     match fs::read(rt, path) {
         Ok(bytes) => Ok(Some(bytes)),
@@ -48,15 +48,16 @@ fn read_pair(rt: &HostRuntime, path: &str, log_path: &str) -> Result<Pair, Troub
     Ok(Pair { db, log })
 }
 
-/// Whether both files were read as the same.
+/// Whether the two readings gave the same bytes for both files.
 fn are_same(one: &Pair, other: &Pair) -> bool {
     one.db.as_slice() == other.db.as_slice() && one.log.as_slice() == other.log.as_slice()
 }
 
-/// What both files held at one moment: they are read until they are read twice as the same. Each
-/// byte then stood as it was read from the end of the file's first reading to the beginning of its
-/// second, and so all of them did as the log's first reading ended. A process that was killed then
-/// would have left them.
+/// What both files held at one moment: they are read until two readings in a row give the same
+/// bytes. Unless a byte was changed and changed back meanwhile, each file then stayed the same from
+/// the end of its first reading to the beginning of its second, so both held these bytes when the
+/// log's first reading ended. A process that was killed at that moment would have left them like
+/// that.
 fn settled(rt: &HostRuntime, path: &str) -> Result<Pair, Trouble> {
     let alloc = rt.alloc();
     let log_path = format!(in alloc; "{path}-wal")?;
@@ -71,7 +72,7 @@ fn settled(rt: &HostRuntime, path: &str) -> Result<Pair, Trouble> {
     Err(Trouble::Busy(String::from_str(rt.alloc(), path)?))
 }
 
-/// A file in memory of these bytes.
+/// A file in memory with these bytes.
 fn memory_of(alloc: Global, bytes: &[u8]) -> Result<Memory, Trouble>
     ensures { IfOk result (λ m. IsTrue (memory_is_usable m)) }
 {
@@ -96,7 +97,8 @@ fn keeper_of(alloc: Global, pair: &Pair) -> Result<Copied, Trouble> {
     }
 }
 
-/// The keeper, where it keeps a desk, or something that is none.
+/// The keeper, unless it keeps nothing of a desk's: that is `NoStore`. Something that is not a desk
+/// is left to the opening.
 fn looked(rt: &HostRuntime, path: &str, mut keeper: Copied) -> Result<Copied, Trouble> {
     match keeper.look() {
         Ok(Found::Empty) => Err(Trouble::NoStore(String::from_str(rt.alloc(), path)?)),
@@ -106,8 +108,8 @@ fn looked(rt: &HostRuntime, path: &str, mut keeper: Copied) -> Result<Copied, Tr
     }
 }
 
-/// A keeper over a copy of the store at the path. A path without a file, and a file without a desk,
-/// are named, and nothing is made there.
+/// A keeper over a copy of the store at the path. If there is no file at the path, or nothing of a
+/// desk's in it, the path is named; nothing is created there.
 pub(crate) fn copy_of(rt: &HostRuntime, path: &str) -> Result<Copied, Trouble> {
     let pair = settled(rt, path)?;
     let keeper = keeper_of(rt.alloc(), &pair)?;

@@ -1,6 +1,6 @@
-//! What the program says of itself.
+//! What the program says about itself.
 
-/// Its words.
+/// The usage, the arguments and the options.
 pub(crate) fn usage() -> &'static str {
     "Tell what became of each request that a desk holds
 

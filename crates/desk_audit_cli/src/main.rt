@@ -20,7 +20,7 @@ use std::{env, io};
 /// The exit status of a question that has no answer.
 const REFUSED: u8 = 2;
 
-/// The words after the program's own name.
+/// The words on the command line after the program's own name.
 fn words(rt: &HostRuntime) -> Result<Vec<String>, WordsFault> {
     match env::args(rt) {
         Ok(mut words) => {
@@ -32,7 +32,7 @@ fn words(rt: &HostRuntime) -> Result<Vec<String>, WordsFault> {
     }
 }
 
-/// Writes the text on the standard output, the whole of it.
+/// Writes the whole text to the standard output.
 fn write_out(rt: &HostRuntime, text: &str) -> Result<(), Trouble> {
     let Ok(mut out) = BufWriter::new(rt.alloc(), rt.stdout()) else {
         return Err(Trouble::NoMemory);

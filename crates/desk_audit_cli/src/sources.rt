@@ -1,4 +1,4 @@
-//! The messages of the standard input.
+//! The messages on the standard input.
 
 use crate::trouble::Trouble;
 use desk::{Desk, MemoryKeeper, Refusal};
@@ -19,7 +19,7 @@ fn whole(rt: &HostRuntime) -> Result<Vec<u8>, Trouble> {
     }
 }
 
-/// The lines of the bytes, and what stands after the last newline, unless that is nothing.
+/// The lines of the bytes, and what comes after the last newline, unless that is empty.
 fn lines(alloc: Global, bytes: &[u8]) -> Result<Vec<Vec<u8>>, Trouble> {
     let mut lines = Vec::new(alloc);
     let mut line = Vec::new(alloc);
@@ -45,8 +45,8 @@ fn complain(rt: &HostRuntime, number: usize, refusal: Refusal) -> Result<(), Tro
     Ok(())
 }
 
-/// Delivers a line to the desk. One that the desk does not take is named; for want of memory
-/// nothing can be told.
+/// Delivers a line to the desk. A line that the desk does not take is named on the standard error;
+/// without memory or storage there is no answer.
 fn take(
     rt: &HostRuntime,
     desk: &mut Desk<MemoryKeeper>,

@@ -9,13 +9,13 @@ use sudo_words::NoMemory;
 /// Why there is no answer.
 #[derive(Drop)]
 pub(crate) enum Trouble {
-    /// The command line is not the program's.
+    /// The command line does not follow the usage.
     Usage,
-    /// A word of the command line has not the form that its place asks for.
+    /// A word on the command line does not have the form that its place requires.
     BadWord,
     /// Memory ran out.
     NoMemory,
-    /// A file could not be read, or an answer not be written.
+    /// A file could not be read, or the answer could not be written.
     FileFailed,
     /// There is no store at this path.
     NoStore(String),

@@ -1,4 +1,4 @@
-//! What only a call shows. What the program answers stands in the cases that `make cases` runs.
+//! What only a call shows. What the program answers is in the cases that `make cases` runs.
 
 use messages::{Message, MessageFault, VerdictKind, read_message};
 use std::alloc::Global;
@@ -16,15 +16,15 @@ const MOMENTS: &str =
 const SECONDS: &str =
     "0 0 1 951782400 1448956800 1709251199 1767603600 1767603600 1767603600 1772282040 2177452799 4102444799 1767603600 1767603600 0 4102444799 4102444799 4102444740 ";
 
-/// Texts that are no moments, with a bar between.
+/// Texts that are not moments, with a bar between.
 const NO_MOMENTS: &str =
     "| 2026010509Z|2026010509Z |2026-01-05T09:00:00Z|２０２６０１０５０９Z|19700101000000+0100|20991231235959-0001|20260105100000+2400|20260105100000+01|20260105100000+0160";
 
-/// Texts that are no canonical ones, though most of them spell a moment.
+/// Texts that are not canonical, though most of them spell a moment.
 const NO_STAMPS: &str =
     "|2026010509Z|202601050900Z|2026010504-0500|2026010510+0100|20260105100000+0100|20260230090000Z|20260105090000";
 
-/// Texts that are no commands, with a bar between.
+/// Texts that are not commands, with a bar between.
 const NO_COMMANDS: &str =
     "| |/|//|/bin//|bin/ls|all|ALL x|ALL \"\"|ALL | ALL|/usr/bin/ x|/usr/bin/ \"\"|/bin/ls |/bin/ls  a|/bin/ls a  b|/bin/ls a \"\"|/bin/ls \"\" a|/bin/ls \"|/bin/echo a:b|/bin/echo a,b|/bin/echo \\a|/bin/echo a\\|/bin/../ls";
 

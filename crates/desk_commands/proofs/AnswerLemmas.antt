@@ -12,7 +12,7 @@ use Rattle.desk_args.specs.declared.status.Status.{Status}
 use Rattle.desk_args.specs.declared.status.Status.TheVariants.{Refused}
 use Rattle.desk_args.specs.declared.task.Job.{Job}
 
--- what is answered to this job, of which nothing is said
+-- what is answered to this job, with nothing said beside it
 pub quietly : (r : Result Answer Reason) (job own : Job) (files : List (List ℕ)) (k : Kept) (input err : Option (List ℕ)) → job ≡ own
     → IfOk r (λ a. IsAnswer own files k input a.status (string_bytes a.text) []) → IfErr r (IsCause own files k input)
     → IsOutcome job files k input r err err

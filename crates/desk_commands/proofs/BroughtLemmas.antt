@@ -136,7 +136,7 @@ module _ (f : RosterFields Cmnd) where
   brought_acked relay lines answers m known are had is =
       acked_at relay lines answers m is.line is.among.0 known are had is.among.1 is.among.2 is.body is.admitted
 
-  -- no line brings nothing
+  -- without lines nothing is brought
   pub nothing_brought : (m : Message) → IsBrought f [] m → ⊥
   nothing_brought m is = nothing_in is.line is.among
 
@@ -170,7 +170,7 @@ module _ (f : RosterFields Cmnd) where
         ),
       )
 
-  -- what is taken of an input whose lines were delivered
+  -- what is taken from an input whose lines were delivered
   pub taken : (relay : List ℕ) (input : Option (List ℕ)) (read lent : List Delivery) (answers shown : List (Result Ack Refusal)) (Up : Type 0)
       (old new : Message → Type 0) (text said : List ℕ) → IsFirst f.relays relay → AreRead relay input read → lent ≡ read → shown ≡ answers
       → AreAnswers f lent answers → (Up → HeldAfterAll old lent answers new) → HadMemory shown → text ≡ complaints 1 shown → said ≡ text

@@ -23,7 +23,7 @@ use Rattle.desk_args.specs.declared.status.Status.{Status}
 use Rattle.desk_args.specs.declared.status.Status.TheVariants.{Done, Found}
 use Rattle.desk_args.proofs.Runs.{same_run}
 
--- ---- no space stands in what a case says
+-- ---- there is no space in what a case says
 
 each_byte : (test : ℕ → Bool) → ((b : ℕ) → test b ≡ true → eqb b 32 ≡ false) → (w : List ℕ) → AllByRecursion (λ b. test b ≡ true) w → HasNoSpace w
 each_byte test byte [] all = tt

@@ -6,7 +6,7 @@ use Rattle.desk.specs.declared.ack.Ack.{Ack}
 use Rattle.desk.specs.declared.refusal.Refusal.{Refusal}
 use Rattle.desk.specs.Refusals.{IsWant}
 
--- what is said of the answers before a place, and that memory did not run out at them
+-- what is said about the answers before a place, and that memory did not run out at them
 pub record AreSaid (answers : List (Result Ack Refusal)) (said : List ℕ) (i : ℕ) : Type 0 where
   pub all : said ++ complaints (i + 1) (drop i answers) ≡ complaints 1 answers
   pub memory : HadMemory (drop i answers) → HadMemory answers

@@ -155,7 +155,7 @@ module _ (f : RosterFields Cmnd) where
       held = with_more old mid (AcknowledgesAmong (from_relay relay all.lines) all.answers) new same all.held;
     })
 
-    -- ---- what is said of lines
+    -- ---- what is said about lines
 
     pub says : (store : Store) (lines : List (List ℕ)) (said : List ℕ) (before after : Option (List ℕ)) → Takes store f input lines said
         → Appends before after said → SaysTaking store f input before after
@@ -225,7 +225,7 @@ module _ (files : List (List ℕ)) (k : Kept) (Same : Type 0) (input err : Optio
   pub same_reviewed : (places : Places) (at : ℕ) → IsLeft (Review places at) files k Same input err err
   same_reviewed places at = record { kept = λ up. inl (same up); told = inl (nothing_said err) }
 
-  -- and any job that is none of these says nothing
+  -- and any other job says nothing
   pub same_job : (job : Job) → IsLeft job files k Same input err err
   same_job (Check name) = record { kept = same; told = nothing_said err }
   same_job (Decide name invocation) = record { kept = same; told = nothing_said err }

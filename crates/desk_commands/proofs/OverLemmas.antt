@@ -108,7 +108,7 @@ module _ (f : RosterFields Cmnd) (base : List Entry) (S T new : Message
 
 -- ---- the first two files
 
--- what holds of two files, whatever more there are, holds of the list that they begin
+-- what holds of the first two files holds of the list, however many more there are
 pub of_two : {X : Type 0} (view : X → List ℕ) (xs : List X) (a b : X) (first second : List ℕ) (P : List (List ℕ) → Type 0) → 2 ≤ length xs
     → a ≡ get_or xs 0 a → b ≡ get_or xs 1 b → first ≡ view a → second ≡ view b → ((more : List (List ℕ)) → P (first ∷ second ∷ more)) → P (map view xs)
 of_two view [] a b first second P long at_a at_b of_a of_b holds = absurd (omega (arith, long))

@@ -40,7 +40,7 @@ pub wants_refused : (job : Job) (r : Result Answer Reason) → IsErrAnd r IsWant
 wants_refused job (Ok a) want = absurd want
 wants_refused job (Err e) want = want
 
--- ---- lines at none of which anything was wanting
+-- ---- lines at which nothing was wanting
 
 none_at : (answers : List (Result Ack Refusal)) (a : Result Ack Refusal) (k : ℕ)
     → HadMemory answers → k < length answers → slice_index_or answers k a ≡ a → WasWanting a → ⊥

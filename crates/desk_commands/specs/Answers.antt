@@ -47,19 +47,19 @@ DecidesByFile file invocation status text =
     (es : List Entry) × (decision : Decision) × Spells file es
     × Decides es invocation decision × IsDecided decision status text
 
--- it is so of the first file
+-- it holds of the first file
 abbrev pub OfFile : (files : List (List ℕ)) → (List ℕ → Type 0) → Type 0
 OfFile (file ∷ more) Holds = Holds file
 OfFile [] Holds = ⊥
 
--- it is so of the first two files
+-- it holds of the first two files
 abbrev pub OfFiles : (files : List (List ℕ)) → (List ℕ → List ℕ → Type 0) → Type 0
 OfFiles (a ∷ b ∷ more) Holds = Holds a b
 OfFiles files Holds = ⊥
 
 -- The job over these files, in the order in which it names them, over what the keeper keeps, and
--- over this input, if it is known, is answered by this text, and ends so. Beside the answer this is
--- said. `serve` has no such answer: what it writes depends on who connects.
+-- over this input, if it is known, is answered by this text, and ends with this status; `said` is
+-- said beside the answer. `serve` has no such answer: what it writes depends on who connects.
 abbrev pub IsAnswer : Job → (files : List (List ℕ)) → Kept
     → (input : Option (List ℕ)) → Status → (text said : List ℕ) → Type 0
 IsAnswer (Check name) files k input status text said =
@@ -127,7 +127,7 @@ CauseOfFiles (a ∷ b ∷ more) Ends reason = Ends a b reason
 CauseOfFiles files Ends reason = reason ≡ FileFailed
 
 -- The job over these files, what is kept and this input may be refused for this, before its answer
--- is written. Without its files it is, and so is `serve`, which has no answer.
+-- is written. Without its files it is refused, and so is `serve`, which has no answer.
 abbrev pub IsCause : Job → (files : List (List ℕ))
     → Kept → (input : Option (List ℕ)) → Reason → Type 0
 IsCause (Check name) files k input reason = CauseOfFile files EndsReading reason

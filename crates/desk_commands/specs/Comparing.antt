@@ -30,8 +30,8 @@ IsShown None status text = (status ≡ Done) × (text ≡ codes "none\n")
 IsShown (Some i) status text = (status ≡ Found) × (text ≡ case_text i ++ codes "\n")
 
 -- `beyond` compares the policies a and b that two files spell. It answers `none`, and then a allows
--- no invocation at all in the scope that b refuses; or with one that a allows and b refuses, which
--- is the first of at most 1,000,000 cases.
+-- no invocation at all in the scope that b refuses; or it answers with one that a allows and b
+-- refuses, which is the first of at most 1,000,000 cases.
 pub record ComparesFiles (scope : Scope) (a_file b_file : List ℕ)
     (status : Status) (text : List ℕ) : Type 0 where
   pub a : List Entry

@@ -32,7 +32,7 @@ answer_lines (answer ∷ answers) = answer_line answer ++ answer_lines answers
 abbrev pub status_after : List (Result Ack Refusal) → Status
 status_after answers = if list_all is_ok answers then Done else LinesRefused
 
--- `deliver` answers with what the desk answers to each line of the input, in order, as the relay's.
+-- `deliver` answers with what the desk answers to each line of the input, in order, from the relay.
 -- What is acknowledged is held then, and nothing else is new. A line is answered `K4 Storage` only
 -- where a failure was counted.
 pub record DeliversLines (roster : RosterFields Cmnd) (relay : List ℕ) (old new : Message → Type 0)
@@ -46,7 +46,7 @@ pub record DeliversLines (roster : RosterFields Cmnd) (relay : List ℕ) (old ne
   pub status_is : status ≡ status_after answers
   pub text_is : text ≡ answer_lines answers
 
--- `deliver` may be refused for this, before an answer is written. No line that is refused ends it.
+-- `deliver` may be refused for this, before an answer is written. A refused line does not end it.
 abbrev pub EndsDelivering : (roster_file base_file : List ℕ) → Kept → Reason → Type 0
 EndsDelivering roster_file base_file k reasons.FileFailed = Unit {0}
 EndsDelivering roster_file base_file k reason = EndsMaking roster_file base_file k reason

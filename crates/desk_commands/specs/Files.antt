@@ -31,7 +31,7 @@ pub record IsDeskOf (roster_file base_file : List ℕ)
 
 -- ---- why files make no desk
 
--- Bytes that are not UTF-8 are no TOML; else it is the least fault of the text. Any file may be
+-- Bytes that are not UTF-8 are not TOML; else it is the least fault of the text. Any file may be
 -- refused for want of memory.
 abbrev pub IsRosterFault : List ℕ → RosterFault → Type 0
 IsRosterFault file fault =
@@ -42,7 +42,7 @@ IsRosterFault file fault =
 abbrev pub IsFaultOf : List ℕ → ReadFault → Type 0
 IsFaultOf file fault = (es : List Entry) → Spells file es → fault.kind ≡ Line NoMemory
 
--- the file is a roster's
+-- the file is a roster
 abbrev pub HoldsRoster : List ℕ → Type 0
 HoldsRoster file = (roster : RosterFields Cmnd) × IsRosterFile file roster
 
@@ -57,9 +57,10 @@ abbrev pub MakesDesk : (roster_file base_file : List ℕ) → Type 0
 MakesDesk roster_file base_file =
     (roster : RosterFields Cmnd) × (base : List Entry) × IsDeskOf roster_file base_file roster base
 
--- To open the desk of the files over what a keeper keeps may be refused for this: a base past the
--- limits, else what is no desk, a desk of an older form, or one of another roster's text; and want
--- of memory or of the storage anywhere. While the keeper is up there is no other reason.
+-- Opening the desk of the files over what a keeper keeps may be refused for this: a base past the
+-- limits, else something that is not a desk, a desk of an older form, or one of another roster's
+-- text; and want of memory or of the storage anywhere. While the keeper is up there is no other
+-- reason.
 abbrev pub EndsOpening : (roster_file base_file : List ℕ) → Kept → Refusal → Type 0
 EndsOpening roster_file base_file k desk.BaseTooLarge =
     HoldsRoster roster_file × HasLargeBase base_file
@@ -73,8 +74,8 @@ EndsOpening roster_file base_file k desk.NoMemory = Unit {0}
 EndsOpening roster_file base_file k desk.Storage = k.failed
 EndsOpening roster_file base_file k _ = ¬ k.up
 
--- To rebuild it may be refused for this: a base past the limits, else what is no desk; and want of
--- memory or of the storage anywhere.
+-- Rebuilding it may be refused for this: a base past the limits, else something that is not a desk;
+-- and want of memory or of the storage anywhere.
 abbrev pub EndsReplacing : (roster_file base_file : List ℕ) → Kept → Refusal → Type 0
 EndsReplacing roster_file base_file k desk.BaseTooLarge =
     HoldsRoster roster_file × HasLargeBase base_file
@@ -84,8 +85,8 @@ EndsReplacing roster_file base_file k desk.NoMemory = Unit {0}
 EndsReplacing roster_file base_file k desk.Storage = k.failed
 EndsReplacing roster_file base_file k _ = ⊥
 
--- The files may make no desk for this, where a desk of theirs is refused for such reasons. The base
--- is looked at where the other file is a roster's.
+-- The files may make no desk for this: a fault of theirs, or a reason why their desk is refused.
+-- The base is looked at where the other file is a roster.
 abbrev pub EndsWith : (roster_file base_file : List ℕ) → (Refusal → Type 0) → Reason → Type 0
 EndsWith roster_file base_file Ends reasons.FileFailed = ⊥
 EndsWith roster_file base_file Ends reasons.BadWord = ⊥

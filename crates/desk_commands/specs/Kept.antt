@@ -64,7 +64,7 @@ keeps_by g = keeps g.is_empty g.is_desk g.is_old g.roster g.holds
 abbrev pub kept_by : {K : Type 0} → Ghosts K → (before after : K) → Kept
 kept_by g = kept g.is_up g.is_empty g.is_desk g.is_old g.roster g.holds g.failures
 
--- the messages of a desk, of either form, if one is kept: none, where none is
+-- the messages of the desk that is kept, of either form; without a desk there are none
 abbrev pub held_in : (Desk Old : Type 0) → (holds : Message → Type 0) → Message → Type 0
 held_in Desk Old holds message = (Desk ⊎ Old) × holds message
 

@@ -26,8 +26,8 @@ use Rattle.desk_args.specs.declared.task.Store.TheVariants.{File, Memory}
 
 -- ---- at the keeper
 
--- All lines of the input were delivered as the relay's. What was held is held, and what was
--- acknowledged, and nothing else.
+-- All lines of the input were delivered, as the relay brings them. What was held is held, and what
+-- was acknowledged, and nothing else.
 pub record AreDelivered (roster : RosterFields Cmnd) (relay : List ℕ)
     (input : Option (List ℕ)) (old new : Message → Type 0) : Type 0 where
   pub lines : List (List ℕ)
@@ -81,8 +81,8 @@ OverOpened roster_file base_file k Left =
 -- What the keeper keeps, where it is up, after a job that was refused before there was an answer:
 -- the same; or `deliver`, `print` and `review` opened the desk, and it holds what was held, after
 -- `deliver` what was acknowledged too, and after a question without a database messages of its
--- lines. So `rebuild` leaves the old roster's text and the messages, and a job that is on no desk
--- leaves all.
+-- lines. So `rebuild` leaves the old roster's text and the messages, and a job that is not on a
+-- desk leaves all as it was.
 abbrev pub KeepsAfterRefusal : Job → (files : List (List ℕ))
     → Kept → (Same : Type 0) → (input : Option (List ℕ)) → Type 0
 KeepsAfterRefusal (Deliver places relay) files k Same input = Same
@@ -97,7 +97,7 @@ KeepsAfterRefusal job files k Same input = Same
 
 -- ---- on the standard error
 
--- nothing was said of the lines, or a beginning of what is said of those that are not taken
+-- nothing was said about the lines, or a beginning of what is said about those that are not taken
 abbrev pub SaysTaking : Store → RosterFields Cmnd → (input before after : Option (List ℕ)) → Type 0
 SaysTaking Memory roster input before after =
     Appends before after [] ⊎ ((lines : List (List ℕ)) × (said : List ℕ)
@@ -128,7 +128,7 @@ abbrev pub HasWantingAnswer : Job → (files : List (List ℕ))
 HasWantingAnswer job files k input = (status : Status) × (text said : List ℕ)
     × IsAnswer job files k input status text said × TellsWant job text
 
--- After what a refused job says before stands the line of its refusal, or a beginning of it. The
+-- After what a refused job says first comes the line of its refusal, or a beginning of it. The
 -- refusal is the job's cause; or the job has an answer, and it is `F1 FileFailed`. Where the keeper
 -- was up and its storage is honest, it is up, unless the refusal is one of want, or the answer
 -- tells of want.

@@ -65,7 +65,7 @@ pub record HasManyLines (roster : RosterFields Cmnd) (store : Store) (host : Lis
       → Lists (HeldWith roster lines old) messages
       → AreLines roster messages host printed → 8_192 < length (lines_printed after printed)
 
--- `print` may be refused for this. No line that is refused ends it.
+-- `print` may be refused for this. A line that is refused does not end it.
 abbrev pub EndsPrinting : (roster_file base_file : List ℕ) (store : Store) (host : List ℕ)
     (after : Option ℕ) → Kept → Option (List ℕ) → Reason → Type 0
 EndsPrinting roster_file base_file store host after k input reasons.FileFailed = MayFailTaking store

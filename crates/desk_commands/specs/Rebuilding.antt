@@ -15,7 +15,7 @@ pub record RebuildsDesk (old new : Message → Type 0)
   pub told : text ≡ codes "ok\n"
   pub stays : Up → SameSet old new
 
--- `rebuild` may be refused for this: never since the desk has another roster's text or an older
+-- `rebuild` may be refused for this: never because the desk has another roster's text or an older
 -- form.
 abbrev pub EndsRebuilding : (roster_file base_file : List ℕ) → Kept → Reason → Type 0
 EndsRebuilding roster_file base_file k reason =

@@ -27,7 +27,7 @@ pub record ReviewsDesk (roster : RosterFields Cmnd) (base : List Entry)
   pub done : status ≡ Done
   pub stays : Up → SameSet (HeldWith roster lines old) new
 
--- `review` may be refused for this. No line that is refused ends it.
+-- `review` may be refused for this. A line that is refused does not end it.
 abbrev pub EndsReviewing : (roster_file base_file : List ℕ) (store : Store) → Kept → Reason → Type 0
 EndsReviewing roster_file base_file store k reasons.FileFailed = MayFailTaking store
 EndsReviewing roster_file base_file store k reason = EndsMaking roster_file base_file k reason

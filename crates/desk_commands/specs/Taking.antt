@@ -1,5 +1,5 @@
--- The lines of the input that `print` and `review` take before they ask: all, where a desk is kept
--- in memory alone, and none of one that a database keeps.
+-- The lines of the input that `print` and `review` take before they ask: all where the desk is kept
+-- in memory alone, and none where a database keeps it.
 use Rattle.std.specs.Prelude.{◌≡◌, ◌⊎◌, ℕ, suc, List, [], ◌∷◌, ◌++◌, Option}
 use Rattle.std.specs.Prelude.{Result, Err, Ok, IfSome, codes, decimal}
 use Rattle.std.specs.List.{AllZip}
@@ -27,8 +27,8 @@ complaints number (Ok ack ∷ answers) = complaints (suc number) answers
 complaints number (Err refusal ∷ answers) =
     complaint number refusal ++ complaints (suc number) answers
 
--- The lines of the input are taken, as those of the roster's first relay in byte order, and this is
--- said of them. The messages that they bring can be listed.
+-- The lines of the input are taken, as if the roster's first relay in byte order brought them, and
+-- this is said about them. The messages that they bring can be listed.
 pub record AreTaken (roster : RosterFields Cmnd) (input : Option (List ℕ))
     (lines : List (List ℕ)) (said : List ℕ) : Type 0 where
   pub relay : List ℕ
@@ -40,7 +40,7 @@ pub record AreTaken (roster : RosterFields Cmnd) (input : Option (List ℕ))
   pub answered : AllZip (Answers roster) (from_relay relay lines) answers
   pub said_is : said ≡ complaints 1 answers
 
--- these lines are taken of the input, and this is said of them
+-- these lines are taken from the input, and this is said about them
 abbrev pub Takes : Store → RosterFields Cmnd → (input : Option (List ℕ))
     → (lines : List (List ℕ)) → (said : List ℕ) → Type 0
 Takes Memory roster input lines said = AreTaken roster input lines said
@@ -51,7 +51,7 @@ abbrev pub HeldWith : RosterFields Cmnd → (lines : List (List ℕ))
     → (old : Message → Type 0) → Message → Type 0
 HeldWith roster lines old message = old message ⊎ IsBrought roster lines message
 
--- taking them may fail: the input cannot be read, or what is to be said not be written
+-- taking them may fail: the input cannot be read, or what is to be said cannot be written
 abbrev pub MayFailTaking : Store → Type 0
 MayFailTaking Memory = Unit {0}
 MayFailTaking (File path) = ⊥

@@ -8,6 +8,6 @@ use Rattle.desk_commands.specs.declared.refusal.Refusal.{Refusal}
 abbrev pub refusal_line : Refusal → List ℕ
 refusal_line refusal = reason_text refusal ++ codes "\n"
 
--- Known bytes grow by a beginning of these: by all of them, or by none, too.
+-- Known bytes grow by a beginning of these, which may be all of them, or none.
 abbrev pub AppendsFront : (before after : Option (List ℕ)) → (bytes : List ℕ) → Type 0
 AppendsFront before after bytes = (n : ℕ) × Appends before after (take n bytes)

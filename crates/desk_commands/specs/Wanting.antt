@@ -21,7 +21,7 @@ abbrev pub ShowsWant : List ℕ → Type 0
 ShowsWant text =
     (answers : List (Result Ack Refusal)) × (text ≡ answer_lines answers) × WasWantingAmong answers
 
--- An answer tells of want: `deliver` alone answers so, line by line. Any other job is refused then.
+-- An answer tells of want. Only `deliver` answers so, line by line; any other job is refused then.
 abbrev pub TellsWant : Job → (text : List ℕ) → Type 0
 TellsWant (Deliver places relay) text = ShowsWant text
 TellsWant job text = ⊥

@@ -54,7 +54,7 @@ fn shown(alloc: Global, found: &Option<Invocation>) -> Result<Answer, AllocError
     }
 }
 
-/// The answer of two policies.
+/// The answer for two policies.
 fn compare(alloc: Global, a: &Policy, b: &Policy, scope: &Scope) -> Result<Answer, Refusal>
     ensures found { (a_file b_file : List ℕ) → Spells a_file a.now → Spells b_file b.now
         → IfOk result (λ r. ComparesFiles scope.now a_file b_file r.status (string_bytes r.text)) }
@@ -65,7 +65,7 @@ fn compare(alloc: Global, a: &Policy, b: &Policy, scope: &Scope) -> Result<Answe
     Ok(shown(alloc, &found)?)
 }
 
-/// The answer of a policy and that of a file.
+/// The answer for a policy and the policy of a file.
 fn compare_with(alloc: Global, a: &Policy, b: &[u8], scope: &Scope) -> Result<Answer, Refusal>
     ensures found { (a_file : List ℕ) → Spells a_file a.now
         → IfOk result (λ r. ComparesFiles scope.now a_file b.now r.status (string_bytes r.text)) }
@@ -79,8 +79,8 @@ fn compare_with(alloc: Global, a: &Policy, b: &[u8], scope: &Scope) -> Result<An
 /// An invocation in the scope that the first file's policy allows and the second's refuses, or
 /// `none`.
 ///
-/// The first file is read first. It is refused where a file spells no policy, where the policies
-/// have too many cases, and where memory runs out.
+/// The first file is read first. It is refused where a file does not spell a policy, where the
+/// policies have too many cases, and where memory runs out.
 pub fn compare_files(alloc: Global, a: &[u8], b: &[u8], scope: &Scope) -> Result<Answer, Refusal>
     ensures found { IfOk result
         (λ r. ComparesFiles scope.now a.now b.now r.status (string_bytes r.text)) }

@@ -66,7 +66,7 @@ fn status_of(answers: &[Result<Ack, desk::Refusal>]) -> Status
     }
 }
 
-/// What the desk answers to each line of the input, in order, as the relay's.
+/// What the desk answers to each line of the input, in order, as the relay brings them.
 ///
 /// A line that the desk refuses is answered by its code and name, and has no other effect but on
 /// the status. It is refused as a whole where the input cannot be read, and where memory runs out.
@@ -95,8 +95,8 @@ pub fn deliver_to<K: Keeper, R: Read>(
     })
 }
 
-/// The same, over the desk that the roster's file and the base's make and the keeper keeps; and the
-/// keeper.
+/// The same, over the desk that the files of the roster and the base make and the keeper keeps; and
+/// the keeper.
 fn deliver_over<K: Keeper, R: Read>(
     alloc: Global,
     roster: &[u8],

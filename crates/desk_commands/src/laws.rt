@@ -1,4 +1,4 @@
-//! What the answer of `beyond` tells, each law the contract of a function that does nothing.
+//! Laws of what the answer of `beyond` tells, each the contract of a function that does nothing.
 
 ghost use Rattle.std.specs.Prelude.{◌≡◌, ◌↔◌, ℕ, List, codes};
 ghost use Rattle.sudo_policy.specs.Spelling.{Spells};
@@ -10,15 +10,15 @@ ghost use Rattle.desk_commands.specs.Comparing.{ComparesFiles, case_text};
 ghost use Rattle.desk_args.specs.declared.status.Status.{Status};
 ghost use Rattle.desk_args.specs.declared.status.Status.TheVariants.{Done};
 
-/// Two cases with one line are one, and no case has the line `none`.
+/// Two cases with the same line are the same case, and no case has the line `none`.
 pub fn case_tells()
     ensures one { (i j : Invocation) → IsInvocation i
         → IsInvocation j → case_text i ≡ case_text j → i ≡ j }
     ensures not_none { (i : Invocation) → IsInvocation i → case_text i ≡ codes "none" → ⊥ }
 {}
 
-/// Of files that spell two policies, `none` is answered exactly where nothing of the first lies
-/// beyond the second. So it is with the status.
+/// For files that spell two policies, the answer is `none` exactly where nothing of the first lies
+/// beyond the second. The same holds for the status `Done`.
 pub fn none_tells()
     ensures text { (scope : Scope) (a_file b_file : List ℕ) (a b : List Entry) (status : Status)
         (text : List ℕ) → ComparesFiles scope a_file b_file status text → Spells a_file a

@@ -1,5 +1,5 @@
-//! The program's commands: doing over files, streams and what a keeper keeps what a command line
-//! says to do.
+//! The program's commands: they do what a command line says, over files, streams and what a keeper
+//! keeps.
 #![tactic(auto)]
 
 mod answer;

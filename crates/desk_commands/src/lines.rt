@@ -23,8 +23,8 @@ fn whole<R: Read>(alloc: Global, input: &mut R) -> Result<Vec<u8>, Refusal>
     }
 }
 
-/// The lines of a text, each as the relay's: what stands before each newline, and what stands after
-/// the last one, unless that is nothing.
+/// The lines of a text, each as the relay brings it: the bytes before each newline, and those after
+/// the last one, if there are any.
 fn lines(alloc: Global, relay: &str, bytes: &[u8]) -> Result<Vec<(String, Vec<u8>)>, AllocError>
     ensures { IfOk result
         (λ v. map delivery_of v.items ≡ from_relay relay.now (input_lines bytes.now)) }
@@ -45,7 +45,7 @@ fn lines(alloc: Global, relay: &str, bytes: &[u8]) -> Result<Vec<(String, Vec<u8
     Ok(lines)
 }
 
-/// The lines that an input has left, each as the relay's.
+/// The lines that an input has left, each as the relay brings it.
 pub fn read_lines<R: Read>(
     alloc: Global,
     relay: &str,

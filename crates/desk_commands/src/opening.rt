@@ -18,7 +18,7 @@ use std::alloc::Global;
 use std::str;
 use sudo_syntax::{Policy, read_policy};
 
-/// The roster of a file. Bytes that are not UTF-8 are no TOML.
+/// The roster of a file. Bytes that are not UTF-8 are not TOML.
 #[tactic(auto, using(crate::proofs::FileLemmas::no_text))]
 fn roster_of(alloc: Global, file: &[u8]) -> Result<Roster, RosterFault>
     ensures found { IfOk result (λ r. IsRosterFile file.now r.says × (r.text ≡ file.now)) }
@@ -73,7 +73,7 @@ pub fn open_over<K: Keeper>(
 }
 
 /// The desk of the roster and the base that the files hold, over the messages that the keeper
-/// keeps, whatever roster they were kept under.
+/// keeps. They may have been kept under another roster.
 ///
 /// It is refused with the roster's fault, the policy's, or the desk's; a refusal hands the keeper
 /// back, with what it keeps as it was.

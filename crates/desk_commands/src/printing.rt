@@ -96,8 +96,8 @@ fn print_of<K: Keeper, R: Read, E: Write>(
     }
 }
 
-/// The host's file, over the desk that the roster's file and the base's make and the keeper keeps;
-/// and the keeper.
+/// The host's file, over the desk that the files of the roster and the base make and the keeper
+/// keeps; and the keeper.
 fn print_over<K: Keeper, R: Read, E: Write>(
     alloc: Global,
     roster: &[u8],
@@ -132,7 +132,7 @@ fn print_over<K: Keeper, R: Read, E: Write>(
 ///
 /// A line that the desk does not take is named on `err`, as `line 3: M2 NotCanonical`, and has no
 /// other effect. It is refused where the files make no desk, where the input cannot be read or
-/// `err` not be written, where the file would have too many lines, and where memory runs out.
+/// `err` cannot be written, where the file would have too many lines, and where memory runs out.
 pub fn print_host<K: Keeper, R: Read, E: Write>(
     alloc: Global,
     files: &[Vec<u8>],

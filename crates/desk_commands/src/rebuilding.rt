@@ -17,7 +17,7 @@ use desk::Keeper;
 use desk_args::Status;
 use std::alloc::{AllocError, Global};
 
-/// What is answered where it is done.
+/// The answer when the desk is rebuilt.
 fn ok(alloc: Global) -> Result<Answer, AllocError>
     ensures { IfOk result (λ a. (a.status ≡ Done) × (string_bytes a.text ≡ codes "ok\n")) }
 {
@@ -27,8 +27,8 @@ fn ok(alloc: Global) -> Result<Answer, AllocError>
     })
 }
 
-/// Gives the desk that the keeper keeps the roster of the first file, and answers `ok`; and the
-/// keeper. The answer is made first: once the desk is rebuilt, no want of memory refuses it.
+/// Gives the roster of the first file to the desk that the keeper keeps, and returns the answer
+/// `ok` and the keeper. The answer is made first: a rebuilt desk is not refused for want of memory.
 fn rebuilt<K: Keeper>(
     alloc: Global,
     roster: &[u8],

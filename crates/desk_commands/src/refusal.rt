@@ -15,15 +15,15 @@ use sudo_syntax::{NoMemory, ReadFault};
 /// with its line, as `S5 UnknownAlias line 3`.
 #[derive(Clone, Copy, Debug, PartialEq, Eq)]
 pub enum Refusal {
-    /// A file could not be read, or an answer not be written.
+    /// A file could not be read, or an answer could not be written.
     FileFailed,
-    /// A word of the command line has not the form that its place asks for.
+    /// A word of the command line does not have the form that its place asks for.
     BadWord,
     /// Memory ran out.
     NoMemory,
-    /// A file's text is no roster.
+    /// A file's text is not a roster.
     Roster(RosterFault),
-    /// A file's text is no policy.
+    /// A file's text is not a policy.
     Policy(ReadFault),
     /// Two policies were not compared.
     Beyond(BeyondFault),

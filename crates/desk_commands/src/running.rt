@@ -78,7 +78,7 @@ fn check(alloc: Global, file: &mut Vec<u8>) -> Result<Answer, Refusal>
     })
 }
 
-/// What the policy decides, once it is compiled, and given back on the way.
+/// What the policy decides, once it is compiled. The policy's memory is given back on the way.
 fn decision_of(alloc: Global, policy: Policy, invocation: &Invocation) -> Result<Decision, NoMemory>
     ensures { IfOk result (λ d. Decides policy invocation.now d) }
 {
@@ -202,7 +202,7 @@ fn conclude<W: Write, E: Write>(answer: Result<Answer, Refusal>, out: &mut W, er
 
 /// Does the job over the bytes of the files that it names, in their order, what the keeper keeps,
 /// and the input; and hands the keeper on. The answer goes to `out`, and why there is none to
-/// `err`, as does what `print` and `review` say of lines of the input that they do not take.
+/// `err`, as does what `print` and `review` say about lines of the input that they do not take.
 ///
 /// `files` has the bytes of each file that the job names; `check` and `decide` give theirs back
 /// once they are read. A job whose STORE is left out or `-` wants a keeper in memory that is empty.
@@ -222,7 +222,7 @@ pub fn run<K: Keeper, R: Read, W: Write, E: Write>(
         (R.remaining input.old) result.0 text said × Appends (W.contents out.old)
         (W.contents out.new) text × Appends (E.contents err.old) (E.contents err.new) said
         × (K.is_up keeper → K.is_clean result.1 → TellsWant job.now text ⊎ K.is_up result.1) }
-    // A job that is refused leaves what stood on `out`, and there is a reason for it; or it has an
+    // A job that is refused leaves `out` as it was, and there is a reason for it; or it has an
     // answer, which could not be written.
     ensures refused { result.0 ≡ Status.Refused → ((W.contents out.new ≡ W.contents out.old)
         × HasCause job.now (map (λ f. f.items) files.old) (kept_by K.Keeper keeper result.1)

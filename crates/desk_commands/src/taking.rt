@@ -34,8 +34,8 @@ fn add_complaint(said: &mut String, number: usize, refusal: desk::Refusal) -> Re
     write!(said, "line {number}: {refusal}\n")
 }
 
-/// The same, but where the desk could not take the line for want of memory or storage: then nothing
-/// can be printed.
+/// The same, but it fails where the desk could not take the line for want of memory or storage:
+/// then nothing can be printed.
 fn complain(said: &mut String, number: usize, refusal: desk::Refusal) -> Result<(), Refusal>
     ensures said { OnOk result
         (string_bytes said.new ≡ string_bytes said.old ++ complaint number refusal) }
@@ -65,7 +65,7 @@ fn complaints_of(alloc: Global, answers: &[Result<Ack, desk::Refusal>]) -> Resul
     Ok(said)
 }
 
-/// Writes it on `err`, the whole of it.
+/// Writes the whole text on `err`.
 fn write_whole<E: Write>(said: &str, err: &mut E) -> Result<(), Refusal>
     ensures said { OnOk result (Appends (E.contents err.old) (E.contents err.new) said.now) }
     ensures front { AppendsFront (E.contents err.old) (E.contents err.new) said.now }
@@ -77,7 +77,7 @@ fn write_whole<E: Write>(said: &str, err: &mut E) -> Result<(), Refusal>
     Ok(())
 }
 
-/// Says it on `err`.
+/// Says the text on `err`, if it is not empty.
 fn say<E: Write>(said: &str, err: &mut E) -> Result<(), Refusal>
     ensures said { OnOk result (Appends (E.contents err.old) (E.contents err.new) said.now) }
     ensures front { AppendsFront (E.contents err.old) (E.contents err.new) said.now }
@@ -118,8 +118,8 @@ fn take_lines<K: Keeper, R: Read, E: Write>(
     say(said.as_str(), err)
 }
 
-/// The same, where the desk is kept in memory alone; one that a database keeps takes no line, and
-/// nothing is said.
+/// The same for a desk that is kept in memory alone. A desk that a database keeps takes no line,
+/// and nothing is said.
 pub fn take_input<K: Keeper, R: Read, E: Write>(
     alloc: Global,
     store: &Store,
@@ -138,7 +138,7 @@ pub fn take_input<K: Keeper, R: Read, E: Write>(
         (R.remaining input.old) (E.contents err.old) (E.contents err.new)) }
     ensures left { K.is_up desk.new.keeper → LeavesTaken store.now desk.old.roster.says
         (R.remaining input.old) (K.holds desk.old.keeper) (K.holds desk.new.keeper) }
-    // Of a desk that a database keeps nothing is read, and nothing said.
+    // For a desk that a database keeps, nothing is read.
     ensures unread { (store.now ≡ stores.Memory → ⊥) → input.new ≡ input.old }
     ensures roster { desk.new.roster ≡ desk.old.roster }
     ensures base { desk.new.base ≡ desk.old.base }

@@ -20,8 +20,8 @@ fn line_of(refusal: Refusal) -> Result<InlineText<64>, fmt::Error>
     Ok(line)
 }
 
-/// Writes the bytes on `err`, as far as it takes them. Where it fails, a beginning of them stands
-/// there.
+/// Writes the bytes on `err`, as far as it takes them. Where it fails, a beginning of them was
+/// written.
 pub(crate) fn write_front<E: Write>(bytes: &[u8], err: &mut E) -> io::Result<()>
     ensures whole { OnOk result (Appends (E.contents err.old) (E.contents err.new) bytes.now) }
     ensures front { AppendsFront (E.contents err.old) (E.contents err.new) bytes.now }
@@ -55,7 +55,7 @@ fn say_line<E: Write>(refusal: Refusal, err: &mut E) -> io::Result<()>
 /// Says on `err` why the program refuses: a line of the refusal's code and name. Answers the
 /// status, and whether that could be said.
 ///
-/// Where it could not be written, a beginning of the line stands there, and nothing else can be
+/// Where it could not be written, a beginning of the line was written, and nothing else can be
 /// done.
 pub fn refuse<E: Write>(refusal: Refusal, err: &mut E) -> (Status, io::Result<()>)
     ensures status { result.0 ≡ Status.Refused }

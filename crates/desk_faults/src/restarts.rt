@@ -62,8 +62,8 @@ fn delivery(alloc: Global, given: Given) -> Result<(String, Vec<u8>), Trouble> {
     }
 }
 
-/// An approval before its request, a verdict that nobody asks for, the request, no message, a
-/// repeat, and an unknown relay.
+/// An approval before its request, a verdict that nobody asks for, the request, a body that is not
+/// a message, a repeat, and an unknown relay.
 fn deliveries(alloc: Global) -> Result<Vec<(String, Vec<u8>)>, Trouble> {
     let mut list = Vec::new(alloc);
     for given in [
@@ -111,7 +111,7 @@ fn deliver_many<K: Keeper>(
     }
 }
 
-/// Adds what the desk answers of a number under which nobody asks, and which grants are in force,
+/// Adds what the desk answers for a number under which nobody asks, and which grants are in force,
 /// and which lines are left, as the window ends and a second later.
 fn say_edges<K: Keeper>(
     alloc: Global,
@@ -155,7 +155,7 @@ fn deliver_first<K: Keeper>(
     say_more(alloc, said, desk)
 }
 
-/// Adds what a desk answers that was opened again, or why it was not; and gives the keeper up.
+/// Adds what a desk that was opened again answers, or why it was not; and gives the keeper up.
 fn say_again<K: Keeper>(
     alloc: Global,
     said: &mut String,
@@ -170,8 +170,7 @@ fn say_again<K: Keeper>(
     }
 }
 
-/// Opens a desk of the roster of before over the keeper that was given back, and adds what it
-/// answers.
+/// Opens a desk of the first roster over the keeper that was given back, and adds what it answers.
 fn say_given_back<K: Keeper>(
     alloc: Global,
     said: &mut String,
@@ -204,8 +203,8 @@ fn both_parts(
     }
 }
 
-/// Adds what a desk in memory answers after the deliveries, and what one of these parts over its
-/// keeper does.
+/// Adds what a desk in memory answers after the deliveries, and what a desk of these parts over its
+/// keeper answers.
 fn again_in_memory(
     alloc: Global,
     said: &mut String,
@@ -221,8 +220,8 @@ fn again_in_memory(
     third
 }
 
-/// Adds what a desk over a database answers after the deliveries, and what one of these parts over
-/// the same connection does.
+/// Adds what a desk over a database answers after the deliveries, and what a desk of these parts
+/// over the same connection answers.
 fn again_in_database<S: Alter + Drop>(
     alloc: Global,
     said: &mut String,
@@ -238,7 +237,7 @@ fn again_in_database<S: Alter + Drop>(
     third
 }
 
-/// Adds what a desk in memory answers, and one of this roster over its keeper.
+/// Adds what a desk in memory answers, and what a desk of this roster over its keeper answers.
 fn say_in_memory(alloc: Global, said: &mut String, rules: Rules) -> Result<(), Trouble> {
     let (before, after) = both_parts(alloc, rules)?;
     match Desk::open(alloc, before.0, before.1, MemoryKeeper::new(alloc)) {
@@ -251,7 +250,8 @@ fn say_in_memory(alloc: Global, said: &mut String, rules: Rules) -> Result<(), T
     }
 }
 
-/// Adds what a desk over the keeper answers, and one of these parts over the same connection.
+/// Adds what a desk over the keeper answers, and what a desk of these parts over the same
+/// connection answers.
 fn say_over<S: Alter + Drop>(
     alloc: Global,
     said: &mut String,
@@ -269,7 +269,8 @@ fn say_over<S: Alter + Drop>(
     }
 }
 
-/// Adds what a desk over a database answers, and one of this roster over the same connection.
+/// Adds what a desk over a database answers, and what a desk of this roster over the same
+/// connection answers.
 fn say_in_database(alloc: Global, said: &mut String, rules: Rules) -> Result<(), Trouble> {
     let both = both_parts(alloc, rules)?;
     match opened_whole(alloc, &empty(alloc)) {
@@ -293,7 +294,7 @@ pub(crate) fn say_restarts(alloc: Global, said: &mut String) -> Result<(), Troub
     say_in_database(alloc, said, Rules::Short)
 }
 
-/// Adds what a desk in memory comes to that is rebuilt with another roster.
+/// Adds what a desk in memory that is rebuilt with another roster comes to.
 pub(crate) fn say_rebuilding(alloc: Global, said: &mut String) -> Result<(), Trouble> {
     let (filled, keeper) = make_call(alloc, Call::Both, MemoryKeeper::new(alloc));
     let seen = seen_over(alloc, keeper, Call::Rebuild(Rules::Short))?;

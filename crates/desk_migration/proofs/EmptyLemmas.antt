@@ -129,7 +129,7 @@ module _ (p : Part) (old a b : Database) (it : FindsPart a.schema p) (gone : Cle
         ∙ e.others t there apart.1;
   }
 
--- what the first database had of the schema, the next has
+-- if the schema stays, an older desk's tables stay
 old_still : (a b : Database) → b.schema ≡ a.schema → IsOld a.schema → IsOld b.schema
 old_still a b same old = subst IsOld (sym same) old
 

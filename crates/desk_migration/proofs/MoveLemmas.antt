@@ -84,7 +84,7 @@ moved roster ms a b c d utf8 one two three = record {
       migrates roster utf8 ms a.now b.now c.now d.now was lists p put (three.refills put.tidy);
 }
 
--- ---- what was promised of one schema holds of each that the trees list
+-- ---- what was promised for one schema holds for each that the trees list
 
 module _ (a b : Database) (first : IsDatabase a) (second : IsDatabase b) (same : b.trees ≡ a.trees) where
   sound : IsSound b.schema a.trees

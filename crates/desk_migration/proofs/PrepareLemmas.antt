@@ -1,4 +1,4 @@
--- An older desk's tables, emptied and with `verdicts` beside, are a desk's of today.
+-- An older desk's tables, emptied and with `verdicts` added, are those of a desk of today.
 use Rattle.std.proofs.Common.{◌≡◌, ◌≢◌, ◌++◌, [], ◌∷◌, length, codes, sym, ap, subst, ◌∙◌, arith}
 use Rattle.std.specs.List.{AllByRecursion}
 use Rattle.sqlite.specs.Schema.{Schema}
@@ -36,7 +36,7 @@ has_empty b p it none alone' = record {
 }
 
 module _ (b c : Database) (adds : Adds (table_at part.Verdicts 0) b c) where
-  -- a table that is found is found still, in its tree
+  -- a table that is found is still found, in its tree
   found_still : (p : Part) → FindsPart b.schema p → FindsPart c.schema p
   found_still p it = (
     it.0,
@@ -49,7 +49,7 @@ module _ (b c : Database) (adds : Adds (table_at part.Verdicts 0) b c) where
   unfolding found_still
   tree_still p it = tree_in c.schema p (found_still p it) ∙ sym (tree_in b.schema p it)
 
-  -- the new table is found behind them
+  -- the new table is found after them
   fresh : Lacks b.schema part.Verdicts → tree_of c.schema (codes "verdicts") ≡ next_tree b.schema
   fresh lacks = tree_in c.schema part.Verdicts (
     length b.schema.tables,

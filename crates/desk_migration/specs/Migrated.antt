@@ -9,7 +9,7 @@ use Rattle.desk_tables.specs.DeskTables.{verdicts_at}
 use Rattle.desk_tables.specs.Stored.{content_of, tree_of, with_roster}
 use Rattle.desk_opening.specs.Opened.{IsKept}
 
--- the tree is none of an older desk's five
+-- the tree is not one of an older desk's five
 pub record IsBeside (s : Schema) (tree : ℕ) : Type 0 where
   pub desk : tree ≢ tree_of s (codes "desk")
   pub messages : tree ≢ tree_of s (codes "messages")
@@ -27,8 +27,8 @@ abbrev pub GainsVerdicts : (old new : Database) → Type 0
 GainsVerdicts old new =
     (tree : ℕ) × (new.schema.tables ≡ old.schema.tables ++ verdicts_at tree ∷ [])
 
--- a desk of today, of this roster text and the messages that were there, beside the tables of other
--- names
+-- a desk of today, with this roster text and the messages that were there, beside the tables of
+-- other names
 pub record Migrates (roster : List ℕ) (old new : Database) : Type 0 where
   pub sound : IsDatabase new
   pub kept : IsKept new
@@ -36,7 +36,7 @@ pub record Migrates (roster : List ℕ) (old new : Database) : Type 0 where
   pub grown : GainsVerdicts old new
   pub others : KeepsOthers old new
 
--- Whatever database has these trees: it is that desk.
+-- Any database with these trees is that desk.
 abbrev pub MigratesAt : List ℕ → Database → Trees → Type 0
 MigratesAt roster old trees =
     (db : Database) → db.trees ≡ trees → IsDatabase db → Migrates roster old db

@@ -1,4 +1,4 @@
-//! The tables of an older desk, emptied.
+//! Emptying the tables of an older desk.
 
 ghost use Rattle.std.specs.Prelude.{◌≡◌, OnOk};
 ghost use Rattle.sqlite.specs.Held.{state};
@@ -12,8 +12,8 @@ use desk_schema::Part;
 use desk_tables::Fault;
 use sqlite::{Alter, Transaction};
 
-/// Empties the table. A row whose rowid is no whole number stays behind a DELETE: where one is
-/// left, it is refused.
+/// Empties the table. A DELETE leaves a row whose rowid is not a whole number: if one is left, the
+/// answer is `Fault::Stray`.
 fn clear<S: Alter>(tx: &mut Transaction<'_, S>, part: Part) -> Result<(), Fault>
     ensures same_reference { tx.new.conn.ghost_name ≡ tx.old.conn.ghost_name }
     ensures cleared { InStep (state S.Store tx.old.conn.now)
@@ -29,7 +29,7 @@ fn clear<S: Alter>(tx: &mut Transaction<'_, S>, part: Part) -> Result<(), Fault>
     }
 }
 
-/// Empties the tables of an older desk, but its messages.
+/// Empties the tables of an older desk, except its messages.
 pub(crate) fn clear_all<S: Alter>(tx: &mut Transaction<'_, S>) -> Result<(), Fault>
     ensures same_reference { tx.new.conn.ghost_name ≡ tx.old.conn.ghost_name }
     ensures emptied { InStep (state S.Store tx.old.conn.now)

@@ -1,4 +1,4 @@
-//! An older desk that becomes one of today, in one commit.
+//! Making an older desk one of today, in one commit.
 
 ghost use Rattle.std.specs.Prelude.{◌≡◌, ◌≢◌, ◌↔◌, false, Err, AllPairs};
 ghost use Rattle.std.specs.Prelude.{Contains, IsTrue, OnOk, OnErr};
@@ -32,8 +32,8 @@ fn can_migrate<S: Alter>(conn: &Connection<S>) -> bool
 /// Makes an older desk one of today, with another roster text and the messages that it has, in one
 /// commit.
 ///
-/// Where a foreign key refers to its tables or waits for `verdicts`, or a count lacks its table, it
-/// is refused, as `Fault::Stray`.
+/// It is refused, as `Fault::Stray`, if a foreign key refers to its tables that lose rows or waits
+/// for `verdicts`, or if a table counts by AUTOINCREMENT without the table of the counts.
 pub fn migrate<S: Alter>(
     alloc: Global,
     conn: &mut Connection<S>,

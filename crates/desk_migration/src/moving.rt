@@ -1,4 +1,4 @@
-//! An older desk's tables, made those of a desk of today, within a transaction.
+//! Turning an older desk's tables into those of a desk of today, within a transaction.
 
 ghost use Rattle.std.specs.Prelude.{◌≡◌, ◌≢◌, AllPairs, Contains, OnOk};
 ghost use Rattle.sqlite.specs.Held.{state};
@@ -15,7 +15,7 @@ use messages::Message;
 use sqlite::{Alter, Transaction};
 use std::alloc::Global;
 
-/// Makes the tables those of a desk of today, with no row but the messages.
+/// Turns the tables into those of a desk of today, with no rows but the messages.
 fn prepare<S: Alter>(tx: &mut Transaction<'_, S>) -> Result<(), Fault>
     ensures same_reference { tx.new.conn.ghost_name ≡ tx.old.conn.ghost_name }
     ensures prepared { InStep (state S.Store tx.old.conn.now)
@@ -27,8 +27,8 @@ fn prepare<S: Alter>(tx: &mut Transaction<'_, S>) -> Result<(), Fault>
     Ok(())
 }
 
-/// Makes the desk one of today, of this roster text, with the rows of its messages. Each message
-/// stands there once.
+/// Makes the desk one of today, with this roster text and the rows of its messages. No message
+/// comes twice in the list.
 pub(crate) fn move_within<S: Alter>(
     alloc: Global,
     tx: &mut Transaction<'_, S>,

@@ -1,4 +1,4 @@
-//! The statements that empty a table of a desk's, each in a function of its own.
+//! The statements that empty one of a desk's tables, each in a function of its own.
 
 ghost use Rattle.std.specs.Prelude.{◌≡◌, IfOk, OnOk};
 ghost use Rattle.sqlite.specs.Held.{state};
@@ -10,7 +10,7 @@ use desk_opening::select_of;
 use desk_schema::Part;
 use sqlite::{Alter, Error, Row, Transaction};
 
-/// The statement that takes all rows of the table out.
+/// The statement that deletes all rows of the table.
 fn delete_of(part: Part) -> &'static str
     ensures { result.now ≡ delete_of part }
 {
@@ -24,7 +24,7 @@ fn delete_of(part: Part) -> &'static str
     }
 }
 
-/// Takes the rows of the table out.
+/// Deletes the rows of the table.
 pub(crate) fn delete<S: Alter>(tx: &mut Transaction<'_, S>, part: Part) -> Result<usize, Error>
     ensures same_reference { tx.new.conn.ghost_name ≡ tx.old.conn.ghost_name }
     ensures deleted { InStep (state S.Store tx.old.conn.now)

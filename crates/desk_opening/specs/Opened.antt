@@ -26,7 +26,7 @@ is_number number (Real x) = false
 is_number number (Text t) = false
 is_number number (Blob b) = false
 
--- the roster's text, where there is one row, and it has the id 1 and this schema
+-- the roster's text, if there is exactly one row, and it has the id 1 and this schema
 abbrev pub recorded_as : ℕ → List Row → Option (List ℕ)
 recorded_as version [] = None
 recorded_as version (r ∷ []) =
@@ -35,14 +35,14 @@ recorded_as version (r ∷ s ∷ rs) = None
 
 -- ---- what is kept
 
--- `desk` has its row, of this schema, and `messages` has texts of messages alone
+-- `desk` has its row, with this schema, and `messages` has only texts of messages
 pub record HasContents (version : ℕ) (db : Database) (roster : List ℕ) : Type 0 where
   pub marked : recorded_as version (table_in db (codes "desk")) ≡ Some roster
   pub utf8 : IsUtf8 roster
   pub texts : list_any is_stray (table_in db (codes "messages")) ≡ false
   pub only : (text : List ℕ) → has (content_of db) text ≡ true → IsWritten text
 
--- `messages` has texts of messages alone
+-- `messages` has only texts of messages
 pub record HasTexts (db : Database) : Type 0 where
   pub texts : list_any is_stray (table_in db (codes "messages")) ≡ false
   pub only : (text : List ℕ) → has (content_of db) text ≡ true → IsWritten text
@@ -53,7 +53,8 @@ pub record IsKept (db : Database) : Type 0 where
   pub desk : IsDeskDatabase db
   pub unmarked : IsUnmarked db
 
--- Its tables are a desk's of today, and its texts too, whatever the rows that follow from these.
+-- Its tables are those of a desk of today, and its texts too; the rows that should follow from
+-- these may be any.
 pub record IsDeskBesideRows (db : Database) : Type 0 where
   pub common : HasCommon db.schema
   pub verdicts : FindsPart db.schema Verdicts
@@ -67,7 +68,7 @@ pub record IsOldDesk (db : Database) : Type 0 where
 
 -- ---- what is found
 
--- what is told of a database
+-- what a database is found to keep
 abbrev pub FoundIn : Database → Found → Type 0
 FoundIn db Empty = IsVacant db.schema
 FoundIn db (Desk c) = IsKept db × ((content_of db).roster ≡ string_bytes c.roster)
@@ -77,8 +78,8 @@ FoundIn db (Old c) =
     × Lists (HoldsText db) c.messages.items
 FoundIn db NotADesk = (¬ IsVacant db.schema) × (¬ IsDeskBesideRows db) × (¬ IsOldDesk db)
 
--- A desk's tables and texts are there, and the rows that follow from these, or foreign keys, are
--- none that a desk writes.
+-- A desk's tables and texts are there, but the rows that should follow from these, or the foreign
+-- keys, are not those of a desk.
 abbrev pub IsDamaged : Database → Type 0
 IsDamaged db = IsDeskBesideRows db × (¬ IsKept db)
 

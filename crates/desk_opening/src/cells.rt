@@ -1,4 +1,4 @@
-//! What single columns of a desk's rows say, as values. What no desk writes is a failure.
+//! What single columns of a desk's rows say, as values. A value that no desk writes is a failure.
 
 ghost use Rattle.std.specs.Prelude.{◌≡◌, if◌then◌else◌, Bool, List, ℕ, Ok, MatchResult, true, pos};
 ghost use Rattle.sqlite.specs.declared.types.Value.TheVariants.{Int, Text};

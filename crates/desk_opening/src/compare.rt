@@ -1,4 +1,4 @@
-//! Whether rows of a desk's tables show what a message comes to.
+//! Whether rows of a desk's tables are those that follow from a message.
 
 ghost use Rattle.std.specs.Prelude.{◌≡◌, if◌then◌else◌};
 ghost use Rattle.sqlite_value.specs.Value.{owned};
@@ -32,14 +32,14 @@ pub(crate) fn is_number(row: &Row, at: usize, number: u32) -> bool
     }
 }
 
-/// What the row has in the column: nothing where it has no such column.
+/// The value that the row has in the column: NULL if it has no such column.
 fn value_at(row: &Row, at: usize) -> ValueRef<'_>
     ensures { owned result ≡ column row.now at }
 {
     row.get_ref(at).unwrap_or(ValueRef::Null)
 }
 
-/// Both rows have the same text in the column, or the same number, or nothing.
+/// Both rows have the same text in the column, or the same number, or NULL.
 fn agree_at(row: &Row, other: &Row, at: usize) -> bool
     ensures { result ≡ compare.agree (column row.now at) (column other.now at) }
 {
@@ -78,14 +78,14 @@ pub(crate) fn has_rowid(row: &Row) -> bool
     matches!(row.get_ref(0), Ok(ValueRef::Int(_))) && row.column_count() <= 6
 }
 
-/// The rows, of `names`, are of different names, or have the same text.
+/// The two rows of `names` are of different names, or have the same text.
 pub(crate) fn is_once(row: &Row, other: &Row) -> bool
     ensures { result ≡ compare.is_once row.now other.now }
 {
     !(agree_at(row, other, 1) && agree_at(row, other, 2)) || agree_at(row, other, 3)
 }
 
-/// The row, of `names`, is of the name.
+/// The row of `names` is of this name.
 pub(crate) fn is_of_name(row: &Row, asker: &str, number: u32) -> bool
     ensures { result ≡ compare.is_of_name asker.now number row.now }
 {
@@ -120,7 +120,7 @@ fn asks(all: &[Stored], asker: &str, number: u32) -> bool
     all.iter().any(|stored| is_named(stored, asker, number))
 }
 
-/// It is a request of the other's name, and another one.
+/// It is another request of the same name.
 fn is_other(stored: &Stored, of: &Stored) -> bool
     ensures { result ≡ compare.is_other of.now stored.now }
 {
@@ -139,7 +139,7 @@ fn is_disputed(all: &[Stored], of: &Stored) -> bool
     all.iter().any(|stored| is_other(stored, of))
 }
 
-/// The row, of `names`, has the name and the text of the request.
+/// The row of `names` has the name and the text of the request.
 pub(crate) fn shows_text(row: &Row, stored: &Stored) -> bool
     ensures { result ≡ compare.shows_text row.now stored.now }
 {
@@ -154,14 +154,14 @@ pub(crate) fn shows_text(row: &Row, stored: &Stored) -> bool
     }
 }
 
-/// How a row of `names` says whether its name is disputed.
+/// The number by which a row of `names` says whether its name is disputed.
 pub(crate) fn flag(disputed: bool) -> u32
     ensures { result ≡ (if disputed then 1 else 0) }
 {
     if disputed { 1 } else { 0 }
 }
 
-/// The row, of `names`, is that of the request.
+/// The row of `names` is that of the request.
 pub(crate) fn shows_request(row: &Row, stored: &Stored, all: &[Stored]) -> bool
     ensures { result ≡ compare.shows_request all.now row.now stored.now }
 {
@@ -179,7 +179,7 @@ fn is_verdict(row: &Row, verdict: &Verdict) -> bool
         && is_number(row, 5, verdict.at().secs() as u32)
 }
 
-/// The row, of `verdicts`, is that of the verdict, whose name has a request.
+/// The row of `verdicts` is that of the verdict, whose name has a request.
 pub(crate) fn shows_verdict(row: &Row, stored: &Stored) -> bool
     ensures { result ≡ compare.shows_verdict row.now stored.now }
 {
@@ -189,7 +189,7 @@ pub(crate) fn shows_verdict(row: &Row, stored: &Stored) -> bool
     }
 }
 
-/// The row, of `parked`, is that of the verdict.
+/// The row of `parked` is that of the verdict.
 pub(crate) fn shows_parked(row: &Row, stored: &Stored) -> bool
     ensures { result ≡ compare.shows_parked row.now stored.now }
 {

@@ -14,12 +14,12 @@ pub struct Contents {
 /// What a database keeps.
 #[derive(Debug, Drop)]
 pub enum Found {
-    /// Nothing of a desk's.
+    /// No part of a desk.
     Empty,
     /// A desk.
     Desk(Contents),
-    /// A desk of schema 1, whose rows are to be made anew.
+    /// A desk of schema 1, whose rows are to be rebuilt.
     Old(Contents),
-    /// Something of a desk's, and no desk.
+    /// Something under a desk's names that is not a desk.
     NotADesk,
 }

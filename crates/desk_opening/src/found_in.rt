@@ -25,7 +25,7 @@ use sqlite::{Alter, Connection, Error};
 use std::alloc::Global;
 use sudo_words::NoMemory;
 
-/// The roster's text and the messages, where the rows show these and nothing else, in this schema.
+/// The roster's text and the messages, if the rows show these and nothing else, in this schema.
 fn contents_of(alloc: Global, texts: Texts, version: u32) -> Result<Option<Contents>, NoMemory>
     ensures { IfOk result (ShowsContents version texts.desk.items texts.messages.items) }
 {
@@ -39,8 +39,8 @@ fn contents_of(alloc: Global, texts: Texts, version: u32) -> Result<Option<Conte
     Ok(Some(Contents { roster, messages }))
 }
 
-/// The roster's text and the messages, where the database has these and nothing else, in this
-/// schema. It stays as it is.
+/// The roster's text and the messages, if `desk` and `messages` have these and nothing else, in
+/// this schema. The database stays as it is.
 fn contents_in<S: Alter>(
     alloc: Global,
     conn: &mut Connection<S>,
@@ -110,7 +110,7 @@ fn look_within<S: Alter>(alloc: Global, conn: &mut Connection<S>) -> Result<Foun
     Ok(Found::Desk(contents))
 }
 
-/// Whether the older desk's `marks` have a row.
+/// Whether the older desk's `marks` has a row.
 fn has_marks<S: Alter>(conn: &mut Connection<S>) -> Result<bool, Error>
     requires rests { Rests (state S.Store conn.old) }
     requires found { IsUp (state S.Store conn.old)
@@ -167,9 +167,10 @@ fn look_old<S: Alter>(alloc: Global, conn: &mut Connection<S>) -> Result<Found, 
     }
 }
 
-/// Tells what the database keeps. It stays as it is.
+/// Tells what the database keeps. The database stays as it is.
 ///
-/// A desk whose rows are not those that its messages come to is refused, as `Fault::Stray`.
+/// A desk is refused, as `Fault::Stray`, if its rows are not those that follow from its messages,
+/// or if a foreign key refers to its tables that lose rows.
 pub fn look<S: Alter>(alloc: Global, conn: &mut Connection<S>) -> Result<Found, Fault>
     requires rests { Rests (state S.Store conn.old) }
     ensures reads { Reads (state S.Store conn.old) (state S.Store conn.new) }

@@ -1,7 +1,8 @@
 //! Whether the tables that follow from the messages have the rows that these come to.
 //!
-//! The rows of a table are read, compared and freed before those of the next are read: so no more
-//! of them than one table's are in memory at a time.
+//! The rows of a table are read, compared and freed before those of the next are read, so that
+//! memory holds one table's rows at a time. The orders of the messages are made after the first
+//! table is read: reading takes more memory than the rows do.
 
 ghost use Rattle.std.specs.Prelude.{◌≡◌, ◌≢◌, ◌&&◌, List, Err, IfOk, OnOk};
 ghost use Rattle.sqlite.specs.Order.{Row as AnyRow};
@@ -28,12 +29,12 @@ use std::alloc::Global;
 use sudo_words::NoMemory;
 
 /// Whether the rows of the table are those that the messages come to, each with a rowid of its own.
-fn is_kept(alloc: Global, part: Part, known: &Known<'_>, rows: &[Row]) -> Result<bool, NoMemory>
+fn is_kept(alloc: Global, part: Part, known: &Known<'_>, rows: Vec<Row>) -> Result<bool, NoMemory>
     requires { IsIndex known.now.all.now known.now.names.items known.now.disputed.items }
-    ensures { IfOk result (λ kept. kept ≡ compare.is_kept part known.now.all.now rows.now) }
+    ensures { IfOk result (λ kept. kept ≡ compare.is_kept part known.now.all.now rows.items) }
 {
-    let of_messages = are_rows_of(alloc, part, known, rows)?;
-    let keyed = are_keyed(alloc, rows)?;
+    let of_messages = are_rows_of(alloc, part, known, rows.as_slice())?;
+    let keyed = are_keyed(alloc, rows.as_slice())?;
     Ok(of_messages && keyed)
 }
 
@@ -57,39 +58,13 @@ fn keeps_part<S: Alter>(
     ensures not_stray { result ≢ Err fault.Stray }
 {
     let rows = rows_of(conn, part)?;
-    Ok(is_kept(alloc, part, known, rows.as_slice())?)
+    Ok(is_kept(alloc, part, known, rows)?)
 }
 
 fn all_three(a: bool, b: bool, c: bool) -> bool
     ensures { result ≡ (a && (b && c)) }
 {
     a && b && c
-}
-
-/// The same of the three tables that follow from the messages.
-fn keeps_all<S: Alter>(
-    alloc: Global,
-    conn: &mut Connection<S>,
-    known: &Known<'_>,
-) -> Result<bool, Fault>
-    requires rests { Rests (state S.Store conn.old) }
-    requires common { IsUp (state S.Store conn.old)
-        → HasCommon (state S.Store conn.old).now.schema }
-    requires verdicts { IsUp (state S.Store conn.old)
-        → FindsPart (state S.Store conn.old).now.schema part.Verdicts }
-    requires index { IsIndex known.now.all.now known.now.names.items known.now.disputed.items }
-    ensures reads { Reads (state S.Store conn.old) (state S.Store conn.new) }
-    ensures up { IsUp (state S.Store conn.old) → HasCleanDisk (state S.Store conn.new)
-        → OnOk result (IsUp (state S.Store conn.new)) }
-    ensures kept { IsUp (state S.Store conn.new) → IfOk result
-        (λ kept. (names verdicts parked : List AnyRow) × ShowsRows (state S.Store conn.old).now
-        names verdicts parked × (kept ≡ compare.are_kept known.now.all.now names verdicts parked)) }
-    ensures not_stray { result ≢ Err fault.Stray }
-{
-    let names = keeps_part(alloc, conn, Part::Names, known)?;
-    let verdicts = keeps_part(alloc, conn, Part::Verdicts, known)?;
-    let parked = keeps_part(alloc, conn, Part::Parked, known)?;
-    Ok(all_three(names, verdicts, parked))
 }
 
 /// Whether the three tables have the rows that these messages come to. The database stays as it is.
@@ -111,6 +86,10 @@ pub(crate) fn keeps_rows<S: Alter>(
         names verdicts parked × (kept ≡ compare.are_kept all.now names verdicts parked)) }
     ensures not_stray { result ≢ Err fault.Stray }
 {
+    let rows = rows_of(conn, Part::Names)?;
     let known = Known::new(alloc, all)?;
-    keeps_all(alloc, conn, &known)
+    let names = is_kept(alloc, Part::Names, &known, rows)?;
+    let verdicts = keeps_part(alloc, conn, Part::Verdicts, &known)?;
+    let parked = keeps_part(alloc, conn, Part::Parked, &known)?;
+    Ok(all_three(names, verdicts, parked))
 }

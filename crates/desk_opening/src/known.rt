@@ -70,7 +70,7 @@ fn names_of<'a>(
 ) -> Result<Vec<(&'a [u8], i64)>, NoMemory>
     ensures { IfOk result (λ names. names.items ≡ map name_of told.now) }
 {
-    let mut names = Vec::new(alloc);
+    let mut names = Vec::with_capacity(alloc, told.len())?;
     for one in told {
         names.push(one.0)?;
     }

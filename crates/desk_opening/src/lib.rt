@@ -1,5 +1,5 @@
-//! Opening a database: what it keeps of a desk, and whether its rows are those that its messages
-//! come to.
+//! Opening a database: what it keeps of a desk, and whether its rows are those that follow from its
+//! messages.
 #![tactic(auto)]
 
 mod cells;

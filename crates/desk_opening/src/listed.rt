@@ -1,4 +1,4 @@
-//! The messages of a desk alone.
+//! A desk's messages, without the rows that follow from them.
 
 ghost use Rattle.std.specs.Prelude.{◌≡◌, ◌≢◌, Err, IfOk, IfSome, IfNone, OnOk};
 ghost use Rattle.sqlite.specs.State.{HasCleanDisk};
@@ -21,7 +21,7 @@ use sqlite::{Alter, Connection, Row};
 use std::alloc::Global;
 use sudo_words::NoMemory;
 
-/// The messages whose texts the rows show, where they show nothing else. Each row is freed once its
+/// The messages whose texts the rows show, if they show nothing else. Each row is freed once its
 /// message is read.
 fn messages_in(alloc: Global, rows: Vec<Row>) -> Result<Option<Vec<Message>>, NoMemory>
     ensures all { IfOk result (λ found. IfSome found (λ ms. AreBodies rows.items ms.items)) }
@@ -38,7 +38,7 @@ fn messages_in(alloc: Global, rows: Vec<Row>) -> Result<Option<Vec<Message>>, No
     Ok(Some(messages))
 }
 
-/// The messages, or a failure where the rows show something else.
+/// The messages, or a failure if the rows show something else.
 fn messages_shown(alloc: Global, rows: Vec<Row>) -> Result<Vec<Message>, Fault>
     ensures all { IfOk result (λ ms. AreBodies rows.items ms.items) }
     ensures stray { result ≡ Err fault.Stray → HasForeign rows.items }
@@ -49,7 +49,7 @@ fn messages_shown(alloc: Global, rows: Vec<Row>) -> Result<Vec<Message>, Fault>
     }
 }
 
-/// The messages of the desk that the database keeps, in an order of its own. It stays as it is.
+/// The messages of the desk in the database, in its own order. The database stays as it is.
 pub fn messages_of<S: Alter>(alloc: Global, conn: &mut Connection<S>) -> Result<Vec<Message>, Fault>
     requires rests { Rests (state S.Store conn.old) }
     requires found { IsUp (state S.Store conn.old)

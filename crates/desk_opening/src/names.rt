@@ -1,4 +1,4 @@
-//! Names of requests, each found by halving.
+//! Names of requests, each found by binary search.
 //!
 //! A name is who asked, as bytes, and a number. A rowid is a name with no bytes.
 
@@ -11,7 +11,7 @@ ghost use Rattle.desk_opening.specs.private.Names.{name_cmp, asked_cmp, repeats}
 use std::alloc::Global;
 use sudo_words::NoMemory;
 
-/// Whether the name stands among these, which are in order.
+/// Whether the name is one of these, which are in order.
 pub(crate) fn is_among(names: &[(&[u8], i64)], name: &(&[u8], i64)) -> bool
     requires { IsSorted name_cmp names.now }
     ensures { result ≡ list_any (is_at name.now.0.now name.now.1) names.now }
@@ -45,7 +45,7 @@ fn is_same(a: &(&[u8], i64), b: &(&[u8], i64)) -> bool
     b.0 == a.0 && b.1 == a.1
 }
 
-/// They are of one name, and have different texts.
+/// They have the same name and different texts.
 fn differ(a: &((&[u8], i64), &[u8]), b: &((&[u8], i64), &[u8])) -> bool
     ensures { result ≡ differ a.now b.now }
 {
@@ -83,7 +83,7 @@ fn repeats(names: &[(&[u8], i64)]) -> bool
     false
 }
 
-/// Whether each name stands once among these.
+/// Whether none of these names comes twice.
 pub(crate) fn are_apart(mut names: Vec<(&[u8], i64)>) -> bool
     ensures { result ≡ true → (asker : List ℕ) (number : ℤ)
         → count_by (is_at asker number) names.entry.items ≤ 1 }

@@ -34,7 +34,7 @@ fn names_in(alloc: Global, rows: &[Row]) -> Result<Vec<(&[u8], i64)>, NoMemory>
     ensures { IfOk result (λ names. (asker : List ℕ) (number : ℤ)
         → count_by (is_at asker number) names.items ≡ count_by (name_is asker number) rows.now) }
 {
-    let mut names = Vec::new(alloc);
+    let mut names = Vec::with_capacity(alloc, rows.len())?;
     for row in rows {
         names.push(name_in(row))?;
     }
@@ -45,7 +45,7 @@ fn ids_in(alloc: Global, rows: &[Row]) -> Result<Vec<(&[u8], i64)>, NoMemory>
     ensures { IfOk result (λ names. (asker : List ℕ) (number : ℤ)
         → count_by (is_at asker number) names.items ≡ count_by (id_is asker number) rows.now) }
 {
-    let mut names = Vec::new(alloc);
+    let mut names = Vec::with_capacity(alloc, rows.len())?;
     for row in rows {
         names.push(id_in(row))?;
     }

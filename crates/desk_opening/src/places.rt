@@ -69,7 +69,7 @@ pub(crate) fn key_in(row: &Row) -> VerdictKey<'_> {
 
 /// The places of a list of this length.
 pub(crate) fn count_up(alloc: Global, length: usize) -> Result<Vec<usize>, NoMemory> {
-    let mut places = Vec::new(alloc);
+    let mut places = Vec::with_capacity(alloc, length)?;
     for at in 0..length {
         places.push(at)?;
     }

@@ -17,7 +17,7 @@ use sqlite_value::value::ValueRef;
 use std::alloc::Global;
 use sudo_words::NoMemory;
 
-/// The text in the column, where it is UTF-8.
+/// The text in the column, if it is UTF-8.
 pub(crate) fn text_at(alloc: Global, row: &Row, at: usize) -> Result<Option<String>, NoMemory>
     ensures text { IfOk result
         (λ found. IfSome found (λ s. column row.now at ≡ Text (string_bytes s))) }
@@ -33,7 +33,7 @@ pub(crate) fn text_at(alloc: Global, row: &Row, at: usize) -> Result<Option<Stri
     }
 }
 
-/// The roster's text, of the rows of `desk`: of its one row, where that has the id 1 and this
+/// The roster's text from the rows of `desk`, if there is exactly one, and it has the id 1 and this
 /// schema.
 pub(crate) fn roster_of(
     alloc: Global,
@@ -51,7 +51,7 @@ pub(crate) fn roster_of(
     }
 }
 
-/// The message that the bytes are the text of.
+/// The message whose text the bytes are.
 fn message_of(
     alloc: Global,
     reader: &mut MessageReader,
@@ -84,7 +84,7 @@ pub(crate) fn message_in(
     message_of(alloc, reader, bytes)
 }
 
-/// The message whose text the row shows, with a copy of this text: it is not written again.
+/// The message whose text the row shows, with a copy of this text, not one written anew.
 #[tactic(auto, using(crate::proofs::ReadingLemmas::written_utf8))]
 fn stored_in(
     alloc: Global,
@@ -104,7 +104,7 @@ fn stored_in(
     Ok(Some(Stored::new(body, message)))
 }
 
-/// The messages whose texts the rows show, where they show nothing else. Each row is freed once its
+/// The messages whose texts the rows show, if they show nothing else. Each row is freed once its
 /// message is read: so the texts are not in memory twice.
 pub(crate) fn all_stored(alloc: Global, rows: Vec<Row>) -> Result<Option<Vec<Stored>>, NoMemory>
     ensures all { IfOk result (λ found. IfSome found (λ ms. AreBodies rows.items ms.items)) }

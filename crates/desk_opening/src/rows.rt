@@ -1,7 +1,7 @@
-//! Whether the rows of a desk's tables are those that its messages come to.
+//! Whether the rows of a desk's tables are those that follow from its messages.
 //!
-//! What a row is compared with is found by halving. Where that does not fit, each message is looked
-//! at.
+//! The message for a row, or the row for a message, is found by binary search. If what is found
+//! does not fit, all of them are tried.
 
 ghost use Rattle.std.specs.Prelude.{◌≡◌, Contains, IfOk};
 ghost use Rattle.std.specs.List.{list_all, list_any};
@@ -22,7 +22,7 @@ use sqlite::Row;
 use std::alloc::Global;
 use sudo_words::NoMemory;
 
-/// The row, of `names`, is that of the request.
+/// The row of `names` is that of the request.
 fn shows_request(known: &Known<'_>, row: &Row, stored: &Stored) -> bool
     requires index { IsIndex known.now.all.now known.now.names.items known.now.disputed.items }
     requires known { Contains known.now.all.now stored.now }
@@ -100,7 +100,7 @@ fn has_parked(parked: &Table<'_>, stored: &Stored) -> bool
     walk::has_parked(parked.rows, stored)
 }
 
-/// The message has its row in `names`, where it has one there.
+/// The message has its row in `names`, if it is to have one there.
 fn has_name_row(names: &Table<'_>, stored: &Stored) -> bool
     ensures { result ≡ compare.has_name_row names.now.rows.now stored.now }
 {
@@ -110,7 +110,7 @@ fn has_name_row(names: &Table<'_>, stored: &Stored) -> bool
     }
 }
 
-/// The message has its row in `verdicts`, where it has one there.
+/// The message has its row in `verdicts`, if it is to have one there.
 fn has_verdict_row(known: &Known<'_>, verdicts: &Table<'_>, stored: &Stored) -> bool
     requires { IsIndex known.now.all.now known.now.names.items known.now.disputed.items }
     ensures { result ≡ compare.has_verdict_row known.now.all.now verdicts.now.rows.now stored.now }
@@ -118,7 +118,7 @@ fn has_verdict_row(known: &Known<'_>, verdicts: &Table<'_>, stored: &Stored) -> 
     !known.counts(stored) || has_verdict(verdicts, stored)
 }
 
-/// The message has its row in `parked`, where it has one there.
+/// The message has its row in `parked`, if it is to have one there.
 fn has_parked_row(known: &Known<'_>, parked: &Table<'_>, stored: &Stored) -> bool
     requires { IsIndex known.now.all.now known.now.names.items known.now.disputed.items }
     ensures { result ≡ compare.has_parked_row known.now.all.now parked.now.rows.now stored.now }
@@ -175,7 +175,7 @@ fn have_parked_rows(known: &Known<'_>, parked: &Table<'_>) -> bool
         .all(|stored| has_parked_row(known, parked, stored))
 }
 
-/// The rows, of `names`, are those of the messages.
+/// The rows of `names` are those of the messages.
 fn are_names(alloc: Global, known: &Known<'_>, rows: &[Row]) -> Result<bool, NoMemory>
     requires { IsIndex known.now.all.now known.now.names.items known.now.disputed.items }
     ensures { IfOk result (λ are. are ≡ compare.are_rows_of part.Names known.now.all.now rows.now) }
@@ -185,7 +185,7 @@ fn are_names(alloc: Global, known: &Known<'_>, rows: &[Row]) -> Result<bool, NoM
     Ok(is_each_name_row(known, rows) && have_name_rows(known.all, &named) && once)
 }
 
-/// The rows, of `verdicts`, are those of the messages.
+/// The rows of `verdicts` are those of the messages.
 fn are_verdicts(alloc: Global, known: &Known<'_>, rows: &[Row]) -> Result<bool, NoMemory>
     requires { IsIndex known.now.all.now known.now.names.items known.now.disputed.items }
     ensures { IfOk result
@@ -195,7 +195,7 @@ fn are_verdicts(alloc: Global, known: &Known<'_>, rows: &[Row]) -> Result<bool, 
     Ok(is_each_verdict_row(known, rows) && have_verdict_rows(known, &counted))
 }
 
-/// The rows, of `parked`, are those of the messages.
+/// The rows of `parked` are those of the messages.
 fn are_parked(alloc: Global, known: &Known<'_>, rows: &[Row]) -> Result<bool, NoMemory>
     requires { IsIndex known.now.all.now known.now.names.items known.now.disputed.items }
     ensures { IfOk result
@@ -205,8 +205,8 @@ fn are_parked(alloc: Global, known: &Known<'_>, rows: &[Row]) -> Result<bool, No
     Ok(is_each_parked_row(known, rows) && have_parked_rows(known, &waiting))
 }
 
-/// Whether the rows of the table are those that the messages come to: so always for a table that
-/// does not follow from them.
+/// Whether the rows of the table are those that follow from the messages. For a table that does not
+/// follow from them the answer is always yes.
 pub(crate) fn are_rows_of(
     alloc: Global,
     part: Part,

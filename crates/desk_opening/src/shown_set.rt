@@ -1,4 +1,4 @@
-//! What the rows of a desk's tables show of its messages, which are not read again.
+//! What the rows of a desk's tables show of its messages. `messages` itself is not read.
 
 ghost use Rattle.std.specs.Prelude.{◌≡◌, ◌≢◌, ◌++◌, Err, List, IfOk, OnOk, MatchResult};
 ghost use Rattle.sqlite.specs.State.{HasCleanDisk};
@@ -27,7 +27,7 @@ use std::alloc::Global;
 pub struct ShownSet {
     /// A row for each name with a request.
     pub names: Vec<NameRow>,
-    /// The verdicts, those that wait among them.
+    /// All verdicts, including those that wait for their request.
     pub verdicts: Vec<Verdict>,
 }
 
@@ -145,8 +145,8 @@ pub fn shown_of<S: Alter>(alloc: Global, conn: &mut Connection<S>) -> Result<Sho
     ensures reads { Reads (state S.Store conn.old) (state S.Store conn.new) }
     ensures up { IsUp (state S.Store conn.old) → HasCleanDisk (state S.Store conn.new)
         → OnOk result (IsUp (state S.Store conn.new)) }
-    // Over a desk that is kept no row is stray, and what is shown is shown of the messages that it
-    // holds.
+    // If the database keeps a desk, no row is stray, and the names and verdicts that are shown are
+    // those of the messages that it holds.
     ensures whole { IsUp (state S.Store conn.new)
         → IsKept (state S.Store conn.old).now → result ≢ Err fault.Stray }
     ensures shown { IsUp (state S.Store conn.new) → IsKept (state S.Store conn.old).now

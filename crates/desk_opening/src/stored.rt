@@ -1,4 +1,4 @@
-//! A message that is stored, with its text.
+//! A stored message, with its text.
 
 ghost use Rattle.std.specs.Prelude.{◌≡◌, string_bytes};
 ghost use Rattle.messages.specs.Wire.{wire, IsMessage};

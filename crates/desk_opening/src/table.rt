@@ -1,4 +1,4 @@
-//! The rows of a table, and an order in which one is found by halving.
+//! The rows of a table, and an order in which one is found by binary search.
 
 ghost use Rattle.std.specs.Prelude.{◌≡◌, Contains, IfOk, IfSome};
 

@@ -1,6 +1,6 @@
-//! Rows and messages compared each with each.
+//! Every row compared with every message.
 //!
-//! This answers where halving finds nothing that fits, which is rare: where rows are not those that
+//! This answers if binary search finds nothing that fits, which is rare: if rows are not those that
 //! a desk writes.
 
 ghost use Rattle.std.specs.Prelude.{◌≡◌};
@@ -33,14 +33,14 @@ pub(crate) fn are_keyed(rows: &[Row]) -> bool
     rows.iter().all(|row| is_keyed(row, rows))
 }
 
-/// A message tells of the row, of `names`.
+/// The row of `names` is that of one of the messages.
 pub(crate) fn is_name_row(row: &Row, all: &[Stored]) -> bool
     ensures { result ≡ compare.is_name_row all.now row.now }
 {
     all.iter().any(|stored| shows_request(row, stored, all))
 }
 
-/// A verdict that counts tells of the row, of `verdicts`.
+/// The row of `verdicts` is that of a verdict that counts.
 pub(crate) fn is_verdict_row(row: &Row, all: &[Stored]) -> bool
     ensures { result ≡ compare.is_verdict_row all.now row.now }
 {
@@ -48,7 +48,7 @@ pub(crate) fn is_verdict_row(row: &Row, all: &[Stored]) -> bool
         .any(|stored| shows_verdict(row, stored) && counts(all, stored))
 }
 
-/// A verdict that waits tells of the row, of `parked`.
+/// The row of `parked` is that of a verdict that waits.
 pub(crate) fn is_parked_row(row: &Row, all: &[Stored]) -> bool
     ensures { result ≡ compare.is_parked_row all.now row.now }
 {
@@ -56,7 +56,7 @@ pub(crate) fn is_parked_row(row: &Row, all: &[Stored]) -> bool
         .any(|stored| shows_parked(row, stored) && waits(all, stored))
 }
 
-/// A row is of the name.
+/// One of the rows of `names` is of this name.
 pub(crate) fn has_name(rows: &[Row], asker: &str, number: u32) -> bool
     ensures { result ≡ list_any (compare.is_of_name asker.now number) rows.now }
 {

@@ -18,13 +18,13 @@ const TO_ANSWER: u64 = 30_000;
 /// The milliseconds that a peer has to close, or to send more, once the reply is out.
 const TO_CLOSE: u64 = 1_000;
 
-/// How often what it sends then is read.
+/// The most reads of what it sends then.
 const MOST_READS: usize = 64;
 
 /// The most bytes of a head.
 const MOST_HEAD_BYTES: usize = 8192;
 
-/// The most bytes that count of a request: a longest head and a longest content.
+/// The most bytes of a request that count: the longest head and the longest content.
 const MOST_ASKED: usize = 24_576;
 
 /// How a connection goes on.
@@ -39,7 +39,7 @@ pub(crate) enum Next {
     Fails(ServeFault),
 }
 
-/// What a request is looked at for again.
+/// What has to come before a request is looked at again.
 #[derive(Clone, Copy)]
 enum Awaited {
     /// The end of the first line.
@@ -50,14 +50,14 @@ enum Awaited {
     Bytes(usize),
 }
 
-/// Where a connection stands.
+/// How far a connection has come.
 #[derive(Drop)]
 enum Stage {
     /// These bytes of the request have come.
     Asking { come: Vec<u8>, awaited: Awaited },
-    /// Of these bytes of the reply so many went out.
+    /// These bytes of the reply were left to send, and so many of them went out.
     Answering { rest: Vec<u8>, sent: usize },
-    /// The reply is out, and what still came was read so often.
+    /// The reply is out, and what still came was read so many times.
     Closing { reads: usize },
 }
 
@@ -201,7 +201,7 @@ impl Connection {
         }
     }
 
-    /// The fault of letting it go now, if it has one.
+    /// The fault if it is let go now: none once its reply is out.
     pub(crate) fn fault(&self) -> Option<ServeFault> {
         match &self.stage {
             Stage::Asking { .. } => Some(ServeFault::ReadFailed),
@@ -244,8 +244,8 @@ impl Connection {
         read_last(&self.stream, chunk, reads)
     }
 
-    /// Has the desk answer the request, and sends what the peer takes of the reply at once; with
-    /// what is said of a 503.
+    /// Has the desk answer the request, and sends what the peer takes of the reply at once. It also
+    /// returns what the log says about a 503.
     pub(crate) fn answer<K: Keeper>(
         &mut self,
         alloc: Global,

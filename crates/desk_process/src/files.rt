@@ -3,7 +3,7 @@
 use desk_commands::{Job, Refusal, Text};
 use std::{fs, io};
 
-/// The bytes of a file. The room that was made for more is given back.
+/// The bytes of a file. Room that is left over is given back.
 fn file(rt: &HostRuntime, path: &Text) -> Result<Vec<u8>, Refusal> {
     match fs::read(rt, path.as_str()) {
         Ok(mut bytes) => {

@@ -61,7 +61,7 @@ fn listen(rt: &HostRuntime, addr: &str) -> io::Result<TcpListener> {
     Ok(TcpListener::from_std(listener))
 }
 
-/// How many messages the desk has, where memory and the storage allow to count them.
+/// How many messages the desk has, where memory and the storage allow counting them.
 fn count<K: Keeper>(desk: &mut Desk<K>) -> Option<usize> {
     match desk.texts() {
         Ok(texts) => Some(texts.len()),
@@ -74,9 +74,9 @@ fn count<K: Keeper>(desk: &mut Desk<K>) -> Option<usize> {
 /// once its request is there.
 ///
 /// It prints `listening` and the address, once it listens there. On the standard error it says what
-/// it serves, of the roster of this digest; a warning where the address is not loopback; each 503
+/// it serves, with the digest of the roster; a warning where the address is not loopback; each 503
 /// that is answered; each connection that is let go before its reply is out; and why it ended. It
-/// is an error where the address cannot be listened at, where nothing can be printed, and where a
+/// fails where the address cannot be listened at, where nothing can be printed, and where a
 /// connection cannot be accepted though no other is open.
 pub(crate) fn serve_at<K: Keeper>(
     rt: &HostRuntime,

@@ -10,15 +10,15 @@ use std::time::Duration;
 /// The standard error.
 const STANDARD_ERROR: RawFd = 2;
 
-/// What tells whether the standard error takes a line at once.
+/// Tells whether the standard error takes a line at once.
 #[derive(Drop)]
 struct Watch {
     poll: Poll,
     events: Events,
 }
 
-/// Says lines on the standard error, and drops those that it does not take at once: who does not
-/// read it does not stop the service.
+/// Says lines on the standard error, and drops those that it does not take at once: if nobody reads
+/// it, the service goes on.
 #[derive(Drop)]
 pub(crate) struct Log {
     /// None where it always takes them, as a file does.

@@ -6,7 +6,7 @@ use std::alloc::Global;
 use std::fmt;
 use std::io::{self, Write};
 
-/// What is said of a 503.
+/// What the log says about a 503.
 #[derive(Clone, Copy)]
 pub(crate) enum Wanting {
     /// Its body is the line of this refusal.
@@ -24,8 +24,8 @@ impl fmt::Display for Wanting {
     }
 }
 
-/// What is said of a reply by the first bytes that are written of it, which are all of a 503. A
-/// reply to HEAD has no code.
+/// What the log says about a reply, by the first bytes that are written, which are the whole reply
+/// if it is a 503. A reply to HEAD has no code.
 fn wanting_of(bytes: &[u8]) -> Option<Wanting> {
     if !bytes.starts_with(b"HTTP/1.1 503 ") {
         return None;
@@ -45,7 +45,7 @@ pub(crate) struct Outgoing<'a> {
     is_begun: bool,
     /// What the socket has not taken yet.
     pub(crate) rest: Vec<u8>,
-    /// What is said of a 503.
+    /// What the log says about a 503.
     pub(crate) wanting: Option<Wanting>,
 }
 

@@ -55,7 +55,7 @@ fn sooner(a: Option<(usize, u64)>, at: usize, due: u64) -> Option<(usize, u64)> 
     }
 }
 
-/// Room for what is ready.
+/// Room for the events of one turn.
 pub(crate) fn events(rt: &HostRuntime) -> io::Result<Events> {
     match Events::with_capacity(rt.alloc(), MOST_AT_ONCE) {
         Ok(events) => Ok(events),
@@ -291,7 +291,7 @@ impl Service {
         Ok(())
     }
 
-    /// Lets each connection go that is due.
+    /// Lets go each connection that is due.
     fn let_due_go(&mut self, rt: &HostRuntime, log: &mut Log) -> io::Result<()> {
         let now = self.now(rt)?;
         for at in 0..self.places.len() {
@@ -306,7 +306,8 @@ impl Service {
         Ok(())
     }
 
-    /// How long nothing is due, without end where nothing is open.
+    /// How long to wait for an event: until a connection is due, without end where none is open,
+    /// and not at all where more may wait to be accepted.
     fn patience(&self, rt: &HostRuntime) -> io::Result<Option<Duration>> {
         if self.more_wait {
             return Ok(Some(Duration::ZERO));
@@ -345,7 +346,7 @@ impl Service {
         self.let_due_go(rt, log)
     }
 
-    /// Serves until so many connections were accepted and are over.
+    /// Serves until all the connections that it accepts have come and are over.
     pub(crate) fn run<K: Keeper>(
         &mut self,
         rt: &HostRuntime,

@@ -15,7 +15,7 @@ fn digest_of(alloc: Global, roster: &[u8]) -> Result<String, Refusal> {
     }
 }
 
-/// What an end of the service comes to.
+/// The status or the refusal with which the service ended.
 fn status_of(served: io::Result<()>) -> Result<Status, Refusal> {
     match served {
         Ok(()) => Ok(Status::Done),
@@ -27,8 +27,8 @@ fn status_of(served: io::Result<()>) -> Result<Status, Refusal> {
 /// Serves the desk that the files make over what the keeper keeps, at the address, and hands the
 /// keeper on.
 ///
-/// It is refused where the files make no desk, and where the address cannot be listened at or
-/// accepted from.
+/// It is refused where the files make no desk, and where it cannot listen at the address or accept
+/// from it.
 pub(crate) fn serve<K: Keeper>(
     rt: &HostRuntime,
     files: &[Vec<u8>],

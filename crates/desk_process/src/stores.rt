@@ -22,8 +22,8 @@ fn store_of(job: &Job) -> Option<&Store> {
     }
 }
 
-/// What the database of this path keeps. Where its files open and the disk then refuses them a read
-/// or a write, as a full disk does, it is the storage that failed.
+/// A keeper over the database of this path. Where its files open and the disk then refuses them a
+/// read or a write, as a full disk does, the refusal is that the storage failed.
 fn keeper(rt: &HostRuntime, path: &Text) -> Result<Stored, Refusal> {
     match Connection::open_from(rt, path.as_str(), false, Unknown) {
         Ok(conn) => Ok(SqliteKeeper::new(rt.alloc(), conn)),
@@ -43,8 +43,8 @@ pub(crate) fn kept(rt: &HostRuntime, job: &Job) -> Result<Option<Stored>, Refusa
     }
 }
 
-/// Copies what stands in the database's log into its file, so that the file alone is the store.
-/// Where that fails the log keeps it.
+/// Copies what is in the database's log into its file, so that the file alone is the store. Where
+/// that fails the log keeps it.
 pub(crate) fn merge_log(stored: Stored) {
     let _ = stored.into_connection().close();
 }

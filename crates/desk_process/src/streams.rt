@@ -7,8 +7,8 @@ use std::os::fd::{AsRawFd, IntoRawFd};
 /// The last descriptor of a standard stream.
 const LAST_STREAM: i32 = 2;
 
-/// Opens the next descriptor that is free over nothing. A standard input that is missing is opened
-/// to write, and an output to read, so that using one fails as it would have without it.
+/// Opens `/dev/null` at the next free descriptor. A standard input that is missing is opened to
+/// write, and an output to read, so that using one fails as it would have without it.
 fn open_next(rt: &HostRuntime) -> io::Result<File> {
     let file = File::open(rt, "/dev/null")?;
     if file.as_raw_fd() != 0 {
@@ -18,8 +18,8 @@ fn open_next(rt: &HostRuntime) -> io::Result<File> {
     OpenOptions::new().write(true).open(rt, "/dev/null")
 }
 
-/// Takes up the descriptors of the standard streams that are closed, so that no file and no peer's
-/// socket gets one of them.
+/// Takes up the descriptors of the standard streams that are closed, so that no file and no socket
+/// gets one of them.
 pub fn hold_streams(rt: &HostRuntime) {
     for _ in 0..=LAST_STREAM {
         match open_next(rt) {

@@ -9,7 +9,7 @@ use desk_store::SqliteKeeper;
 use sqlite::Alter;
 use std::io::{BufReader, BufWriter};
 
-/// Does a job that is no `serve` over the process's streams and what the keeper keeps, and hands
+/// Does a job other than `serve` over the process's streams and what the keeper keeps, and hands
 /// the keeper on.
 fn run_on_streams<K: Keeper + Drop>(
     rt: &HostRuntime,
@@ -55,9 +55,9 @@ fn work_stored<S: Alter + Drop>(
 /// Does the job. Its files are read before its database is opened; without one it has a keeper in
 /// memory, which is empty.
 ///
-/// `F1` comes where a file cannot be read, a database not opened, or an address not listened at,
-/// and before anything is printed; the other refusals are those of the job itself. When the job
-/// ends in order, what stands in the database's log goes into its file.
+/// `F1` comes before anything is printed where a file cannot be read, a database cannot be opened,
+/// or an address cannot be listened at; the other refusals are those of the job itself. When the
+/// job ends in order, what is in the database's log goes into its file.
 pub fn work(rt: &HostRuntime, job: &Job) -> Result<Status, Refusal> {
     let mut files = files(rt, job)?;
     let Some(stored) = kept(rt, job)? else {

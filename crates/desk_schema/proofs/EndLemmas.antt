@@ -9,7 +9,7 @@ use Rattle.desk_tables.specs.private.Steps.{IsStep}
 use Rattle.desk_tables.proofs.ArriveLemmas.{Ends, begun}
 use Rattle.desk_tables.proofs.TurnLemmas.{clean_before}
 
--- whatever database has these trees
+-- any database with these trees has the property
 abbrev pub At : (Database → Type 0) → Trees → Type 0
 At Does trees = (db : Database) → db.trees ≡ trees → IsDatabase db → Does db
 

@@ -89,7 +89,7 @@ module _ (s : Schema) (part : Part) where
   abbrev more' : List Table
   more' = s.tables ++ new ∷ []
 
-  -- what has its parent in another table has so still
+  -- a reference that has its parent in another table still has it there
   still_other : (tree : ℕ) → tree < next_tree s → (ref : Reference) → is_in (parent_of s.tables ref) tree ≡ false → is_in (parent_of more' ref) tree ≡ false
   still_other tree low ref h = go (parent_of s.tables ref) refl
     where
@@ -105,7 +105,7 @@ module _ (s : Schema) (part : Part) where
       go (Some u) e =
           ap (λ o. is_in o tree) (find_kept (λ (t : Table). same_name t.name ref.parent) u s.tables (new ∷ []) e) ∙ sym (ap (λ o. is_in o tree) e) ∙ h
 
-  -- what does not name the new table has its parent in another
+  -- a reference that does not name the new table has its parent in another one
   new_other : (ref : Reference) → same_name (name_of part) ref.parent ≡ false → is_in (parent_of more' ref) (next_tree s) ≡ false
   new_other ref h = go (parent_of s.tables ref) refl
     where

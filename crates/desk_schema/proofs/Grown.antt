@@ -51,7 +51,7 @@ pub get_last : {K : Type 0} (x : K) (xs : List K) → slice_get (xs ++ x ∷ [])
 get_last x [] = refl
 get_last x (y ∷ xs) = get_last x xs
 
--- what was found is found still
+-- what was found is still found
 pub finds_still : (s : Schema) (u : Table) (name : Name) (at : ℕ) (t : Table) → Finds s name at t → Finds (created s u) name at t
 finds_still s u name at t it = record {
   named = position_kept (λ (v : Table). same_name v.name name) 0 at s.tables _ it.named;

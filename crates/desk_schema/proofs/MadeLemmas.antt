@@ -245,7 +245,7 @@ filled roster utf8 a b c grown put = record {
     marks : (ready : IsReady a.now.schema) → Marks (Says roster) b.now c.now
     marks ready = let g = grown.grows ready in put.marks (tidy a.now b.now g) (unrecorded a.now b.now g)
 
--- ---- what was promised of one schema holds of each that the trees list
+-- ---- what was promised for one schema holds for each that the trees list
 
 pub makes_again : (roster : List ℕ) (a b : Database) → IsDatabase b → b.trees ≡ a.trees → Makes roster a → Makes roster b
 makes_again roster a b sound same makes =

@@ -16,7 +16,7 @@ use Rattle.desk_schema.specs.declared.part.Part.TheVariants.{Desk, Messages, Nam
 use Rattle.desk_schema.specs.Parts.{name_of, table_at}
 use Rattle.desk_schema.specs.Shapes.{FindsPart}
 
--- what a slice lends is what stands at the place
+-- what a slice lends is what is at the place
 pub lent_at : (ts all : List Table) (at : ℕ) (r : Option (Bor Table)) (t : Bor Table) → ts ≡ all → IsItemAt ts at r → r ≡ Some t → slice_get all at ≡ Some t.now
 lent_at ts all at None t same item is = let e : ◌≡◌ {A = Option (Bor Table)} None (Some t) = is in absurd cc
 lent_at ts all at (Some x) t same item is =

@@ -6,7 +6,7 @@ use Rattle.sqlite.specs.Table.{Table}
 use Rattle.sqlite_rules.specs.Lists.{Has}
 
 module _ (q : Table → Bool) where
-  -- what is a member is found, or another before it
+  -- if a member has the property, it is found, or another one before it
   pub found_some : (ts : List Table) (t : Table) → Has ts t → q t ≡ true → (u : Table) × (find q ts ≡ Some u)
   found_some [] t there is = absurd there
   found_some (x ∷ ts) t there is = go (q x) refl (λ later. found_some ts t later is)
@@ -18,7 +18,7 @@ module _ (q : Table → Bool) where
         | inr later ↦ let it = more later in (it.0, ap (λ b. cond b (Some x) (find q ts)) e ∙ it.1)
       ]
 
-  -- what is found has no name that none has
+  -- what is found does not have the property that no table has
   pub not_named : (p : Table → Bool) (i : ℕ) (ts : List Table) (u : Table) → position_from p i ts ≡ None → find q ts ≡ Some u → p u ≡ false
   not_named p i [] u none h = absurd cc
   not_named p i (x ∷ ts) u none h = go (p x) refl (q x) none h (λ n e. not_named p (i + 1) ts u n e)

@@ -1,4 +1,4 @@
--- The tables of other names, beside which a desk's stand.
+-- The tables of other names beside a desk's.
 use Rattle.std.specs.Prelude.{◌≡◌, false, List, ℕ, Option, slice_get, option_and_then}
 use Rattle.sqlite.specs.Order.{Row}
 use Rattle.sqlite.specs.Schema.{Schema}
@@ -14,7 +14,7 @@ use Rattle.desk_schema.specs.Parts.{name_of}
 abbrev pub found_as : Schema → List ℕ → Option Table
 found_as s name = option_and_then (slice_get s.tables) (table_named s name)
 
--- the tree is that of none of a desk's tables, of today or of an older one
+-- the tree belongs to none of the tables of a desk, of today or older
 abbrev pub IsOther : Schema → ℕ → Type 0
 IsOther s tree = (part : Part) → is_in (found_as s (name_of part)) tree ≡ false
 
@@ -23,12 +23,12 @@ pub record TableWithRows : Type 0 where
   pub table : Table
   pub rows : List Row
 
--- The table is one of the database's, and none of a desk's, and these are its rows.
+-- The database has the table, with these rows, and it is not a desk's.
 pub record StandsBeside (db : Database) (it : TableWithRows) : Type 0 where
   pub there : Has db.schema.tables it.table
   pub other : IsOther db.schema it.table.tree
   pub rows : db.trees it.table.tree ≡ it.rows
 
--- Each table that stood beside a desk's still does, with its rows.
+-- Each table that was there beside a desk's is still there, with its rows.
 abbrev pub KeepsBeside : (old new : Database) → Type 0
 KeepsBeside old new = (it : TableWithRows) → StandsBeside old it → StandsBeside new it

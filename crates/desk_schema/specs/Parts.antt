@@ -8,7 +8,7 @@ use Rattle.desk_schema.specs.declared.part.Part.{Part}
 use Rattle.desk_schema.specs.declared.part.Part.TheVariants.{Desk, Messages, Names}
 use Rattle.desk_schema.specs.declared.part.Part.TheVariants.{Marks, Verdicts, Parked}
 
--- The table of an older desk, which kept one moment of each person and kind. CREATE TABLE marks
+-- The table of an older desk, which kept one moment for each person and kind. CREATE TABLE marks
 -- (asker TEXT NOT NULL, no INTEGER NOT NULL, person TEXT NOT NULL, kind TEXT NOT NULL, at INTEGER
 -- NOT NULL, PRIMARY KEY (asker, no, person, kind)) STRICT
 abbrev pub marks : Table

@@ -18,7 +18,7 @@ FindsPart s part = (at : ℕ) × (tree : ℕ) × Finds s (name_of part) at (tabl
 abbrev pub Lacks : Schema → Part → Type 0
 Lacks s part = IsUnused s (name_of part)
 
--- four tables are those of a desk of today and of an older one
+-- the four tables are there that a desk of today and an older one have in common
 pub record HasCommon (s : Schema) : Type 0 where
   pub desk : FindsPart s Desk
   pub messages : FindsPart s Messages

@@ -33,7 +33,7 @@ fn is_number(column: &Column, name: &[u8]) -> bool
     is_column(column, name, Kind::Integer, true)
 }
 
-/// The name of a request: who asks, and the number.
+/// Whether these are the columns of a request's name: who asks, and the number.
 fn are_name(asker: &Column, no: &Column) -> bool
     ensures { IsTrue result ↔ ((asker.now ≡ column_of (codes "asker") kind_of.Text true)
         × (no.now ≡ column_of (codes "no") kind_of.Integer true)) }
@@ -74,7 +74,7 @@ fn are_of_names(columns: &[Column]) -> bool
     }
 }
 
-/// Those of `marks` and `verdicts`, which differ in their keys.
+/// Whether these are the columns of `marks` and of `verdicts`, which differ in their keys.
 fn are_of_verdicts(columns: &[Column]) -> bool
     ensures { IsTrue result ↔ (columns.now ≡ verdicts.columns) }
 {

@@ -1,4 +1,4 @@
-//! The tables of a desk in a schema: found, told from an older desk's, and made.
+//! The tables of a desk in a schema: found, told apart from an older desk's, and made.
 #![tactic(auto)]
 
 mod columns;

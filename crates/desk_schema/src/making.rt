@@ -75,7 +75,7 @@ fn fill<S: Alter>(tx: &mut Transaction<'_, S>, roster: &str) -> Result<(), Error
     Ok(())
 }
 
-/// Makes a desk of this roster text, without messages, beside whatever other tables, in one commit.
+/// Makes a desk with this roster text and no messages, beside any other tables, in one commit.
 pub fn make<S: Alter>(conn: &mut Connection<S>, roster: &str) -> Result<(), Error>
     requires autocommit { conn.old.in_transaction ≡ false }
     requires rests { Rests (state S.Store conn.old) }

@@ -9,7 +9,8 @@ use crate::references::is_unreferred;
 use sqlite_schema::schema::Schema;
 
 /// Whether an older desk can become one of today: no foreign key refers to the tables that lose
-/// rows, or waits for `verdicts`, and no count lacks its table.
+/// rows, or waits for `verdicts`, and where a table counts by AUTOINCREMENT, the table of the
+/// counts is there.
 pub fn is_migratable(schema: &Schema) -> bool
     ensures { IsTrue result ↔ IsMigratable schema.now }
 {

@@ -3,7 +3,7 @@
 ghost use Rattle.std.specs.Prelude.{◌≡◌};
 ghost use Rattle.desk_schema.specs.Parts.{name_of};
 
-/// A table of a desk's. An older desk has `Marks` where one of today has `Verdicts`.
+/// One of a desk's tables. An older desk has `Marks` where one of today has `Verdicts`.
 #[derive(Clone, Copy, Debug, PartialEq, Eq)]
 pub enum Part {
     Desk,

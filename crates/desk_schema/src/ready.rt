@@ -60,8 +60,8 @@ pub(crate) fn lacks_sequence(schema: &Schema) -> bool
     has_counted(schema.tables.as_slice()) && !has_sequence(schema)
 }
 
-/// Whether a desk can be made: its tables' names are free, no foreign key waits for them, and no
-/// count lacks its table.
+/// Whether a desk can be made: its tables' names are free, no foreign key waits for them, and where
+/// a table counts by AUTOINCREMENT, the table of the counts is there.
 pub fn is_ready(schema: &Schema) -> bool
     ensures { IsTrue result ↔ IsReady schema.now }
 {

@@ -8,7 +8,7 @@ use crate::shape::Shape;
 use crate::tables::is_table;
 use sqlite_schema::schema::{Schema, Table};
 
-/// Trees from here on hold no table of a file.
+/// No table of a file has a tree from this number on.
 const PAST_STORED: u32 = 2_147_483_648;
 
 fn first_at(tables: &[Table], tree: u32) -> Option<&Table>
@@ -69,7 +69,7 @@ fn has_common(schema: &Schema) -> bool
         && has(schema, Part::Parked)
 }
 
-/// Tells what the schema has of a desk's tables, beside whatever others.
+/// Tells what the schema has of a desk's tables, beside any others.
 pub fn shape_of(schema: &Schema) -> Shape
     ensures { IsShape schema.now result }
 {

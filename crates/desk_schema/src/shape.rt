@@ -3,7 +3,7 @@
 /// What a schema has of a desk's tables.
 #[derive(Clone, Copy, Debug, PartialEq, Eq)]
 pub enum Shape {
-    /// None of their names.
+    /// None of their names is used.
     Free,
     /// A desk's five tables.
     Desk,
@@ -11,6 +11,6 @@ pub enum Shape {
     Migrated,
     /// An older desk's five tables.
     Old,
-    /// Something of a desk's, and no desk.
+    /// Something under a desk's names that is not a desk.
     Other,
 }

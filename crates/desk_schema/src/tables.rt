@@ -11,7 +11,7 @@ use sqlite_items::Items;
 use sqlite_schema::schema::Table;
 use sqlite_value::keys::Order;
 
-/// No check, no reference and no default that is computed.
+/// Whether the table has no check, no reference, no computed default and no AUTOINCREMENT.
 fn is_bare(table: &Table) -> bool
     ensures { IsTrue result ↔ IsBare table.now }
 {
@@ -48,7 +48,7 @@ fn are_orders(orders: &[Order]) -> bool
     }
 }
 
-/// Whether the table has this name, this unique key, and nothing else that its columns do not say.
+/// Whether the table has this name, this unique key, and nothing else besides its columns.
 fn is_keyed(table: &Table, name: &[u8], places: &[usize]) -> bool
     ensures { IsTrue result ↔ (table.now
         ≡ record (keyed name.now table.now.columns places.now) { tree = table.now.tree }) }
@@ -61,7 +61,7 @@ fn is_keyed(table: &Table, name: &[u8], places: &[usize]) -> bool
         && is_bare(table)
 }
 
-/// The same of `desk`, whose key is its rowid.
+/// The same for a table whose key is its rowid, as that of `desk` is.
 fn is_by_rowid(table: &Table, name: &[u8]) -> bool
     ensures { IsTrue result
         ↔ (table.now ≡ record (framed name.now table.now.columns) { tree = table.now.tree }) }
@@ -97,7 +97,7 @@ fn has_frame(table: &Table, part: Part) -> bool
     }
 }
 
-/// Whether the table is the desk's of this part, in whatever tree.
+/// Whether the table is a desk's table of this part, in any tree.
 pub(crate) fn is_table(table: &Table, part: Part) -> bool
     ensures { IsTrue result ↔ (table.now ≡ table_at part table.now.tree) }
 {

@@ -8,17 +8,17 @@ use sqlite_disk::{Crash, Disk, Files};
 use sqlite_store::FileStore;
 use std::alloc::Global;
 
-/// The files of the keeper's store, without a call of them.
+/// The files of the keeper's store, without calling them.
 pub(crate) fn files_at<D: Disk + Drop>(keeper: SqliteKeeper<FileStore<D>>) -> Files<D> {
     keeper.into_connection().into_store().close()
 }
 
-/// Whether the file would pass one call more on. Once it refused to sync, it may not be asked.
+/// Whether the file would pass on one more call. Once it refused to sync, it may not be asked.
 fn is_whole(file: &mut Fused) -> bool {
     file.may_be_used() && file.len().is_ok()
 }
 
-/// Whether each file would pass one call more on.
+/// Whether each file would pass on one more call.
 pub(crate) fn are_whole(files: &mut Files<Fused>) -> bool {
     is_whole(&mut files.log) && is_whole(&mut files.db)
 }
@@ -48,12 +48,12 @@ fn closed<D: Disk + Drop>(conn: Connection<FileStore<D>>) -> Result<Files<D>, Tr
     }
 }
 
-/// The same, of the keeper.
+/// The same for the keeper.
 fn closed_by<D: Disk + Drop>(keeper: SqliteKeeper<FileStore<D>>) -> Result<Files<D>, Trouble> {
     closed(keeper.into_connection())
 }
 
-/// The same, after these statements.
+/// The same after these statements.
 fn run_over<D: Disk + Drop>(
     keeper: SqliteKeeper<FileStore<D>>,
     sql: &str,

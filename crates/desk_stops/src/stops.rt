@@ -37,7 +37,7 @@ enum Side {
     Database,
 }
 
-/// How a call ended whose file may have stopped.
+/// How a call ended under which a file may have stopped.
 #[derive(Clone, Copy, PartialEq, Eq)]
 enum Made {
     /// One call, or the opening before it.
@@ -66,7 +66,7 @@ struct Row {
     outcome: Outcome,
 }
 
-/// How a call ended whose file may have stopped, and what is left.
+/// How a call ended under which a file may have stopped, and what is left.
 #[derive(Drop)]
 struct Stop {
     made: Made,
@@ -89,7 +89,7 @@ struct Lasts {
     cut: Last,
 }
 
-/// How many calls each file passes on where the one stops after so many.
+/// How many calls each file passes on where this one stops after so many.
 fn fuses(side: Side, calls: u64) -> Fuses {
     match side {
         Side::Log => Fuses {
@@ -205,7 +205,7 @@ fn seen_in(alloc: Global, left: &Pair, call: Call) -> Result<Seen, Trouble> {
     }
 }
 
-/// What is found in the bytes. Where they are the last ones, that is known.
+/// What is found in the bytes. Where they are those that were looked at last, it is known already.
 fn looked_at(alloc: Global, last: &mut Last, left: Pair, call: Call) -> Result<Seen, Trouble> {
     if are_same(&last.left, &left) {
         drop(left);
@@ -297,7 +297,7 @@ fn is_seen_right(made: Made, seen: Seen, case: Case) -> bool {
     may_find(made, seen.found, case) && seen.again == Answer::Done && seen.then == case.second
 }
 
-/// Whether the call ended as it may; where it ended untouched, as without a fuse.
+/// Whether the call ended as it may. Where it ended untouched, it must end as without a fuse.
 fn is_made_right(made: Made, is_whole: bool) -> bool {
     match made {
         Made::Called(answer) => !is_whole || answer == Answer::Done,
@@ -305,7 +305,7 @@ fn is_made_right(made: Made, is_whole: bool) -> bool {
     }
 }
 
-/// Whether the call ended as it may, and so is what was found.
+/// Whether the call ended as it may, and what was found may be found then.
 fn is_right(outcome: Outcome, case: Case) -> bool {
     let made = outcome.made;
     is_made_right(made, outcome.is_whole)
@@ -348,7 +348,7 @@ fn say_row(said: &mut String, row: Row, case: Case) -> Result<(), Trouble> {
     Ok(())
 }
 
-/// Adds the rows, of which the last is to be that of a call that ends untouched.
+/// Adds the rows. The last is to be that of a call that ends untouched.
 fn say_rows(said: &mut String, rows: &[Row], case: Case) -> Result<(), Trouble> {
     for row in rows {
         say_row(said, *row, case)?;
@@ -359,7 +359,7 @@ fn say_rows(said: &mut String, rows: &[Row], case: Case) -> Result<(), Trouble> 
     Ok(())
 }
 
-/// Nothing was looked at yet but the bytes of a store in which this is found.
+/// The bytes that were looked at last are those of the store at the start, in which this was found.
 fn last_of(alloc: Global, start: &Pair, seen: Seen) -> Result<Last, Trouble> {
     Ok(Last {
         left: start.copy(alloc)?,
@@ -367,7 +367,7 @@ fn last_of(alloc: Global, start: &Pair, seen: Seen) -> Result<Last, Trouble> {
     })
 }
 
-/// The same, for both.
+/// The same for both.
 fn lasts_of(alloc: Global, start: &Pair, seen: Seen) -> Result<Lasts, Trouble> {
     let killed = last_of(alloc, start, seen)?;
     match last_of(alloc, start, seen) {

@@ -1,4 +1,4 @@
--- What a message that arrives makes of a desk, whether it was taken in or refused.
+-- How an arriving message changes a desk, whether it was taken in or refused.
 use Rattle.std.proofs.Common.{◌≡◌, ◌∙◌, true, List, ℕ, Result, Ok, Err, ap, sym, subst}
 use Rattle.std.specs.Prelude.{OnErr, OnOk}
 use Rattle.sqlite.specs.Effect.{Database}

@@ -1,4 +1,4 @@
--- The messages of a list, put one after the other where each stands once.
+-- The messages of a list, put one after the other into a list that has each once.
 use Rattle.std.proofs.Common.{◌≡◌, ◌∙◌, inl, inr, ℕ, ◌<◌, ◌+◌, List, [], ◌∷◌, ◌++◌, length, get_or, take, Contains, ap, sym, subst}
 use Rattle.std.proofs.lemmas.List.{take_more}
 use Rattle.std.proofs.lemmas.List.Elements.{Contains-append_left, Contains-push, Contains-push_cases}
@@ -39,6 +39,6 @@ put_more all old new i x within is same put =
     let more : take (i + 1) all ≡ take i all ++ x ∷ [] = take_more all i x within ∙ ap (λ y. take i all ++ y ∷ []) (sym is) in
     subst (λ l. AreSame l new) (sym more) (push_same (take i all) old new x same put)
 
--- what lists a set still does
+-- a list with the same messages still lists the set
 pub lists_same : (S : Message → Type 0) (xs ys : List Message) → Lists S xs → AreSame xs ys → Lists S ys
 lists_same S xs ys lists same m = ((λ held. (same m).0 ((lists m).0 held)), (λ there. (lists m).1 ((same m).1 there)))

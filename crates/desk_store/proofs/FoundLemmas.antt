@@ -106,7 +106,7 @@ abbrev pub AsKept : Database → Left → Type 0
 AsKept db left = IsAsKept (IsVacant db.schema) (IsKept db) (IsOldDesk db) (content_of db).roster (HoldsText db) left
 
 module _ (a db : Database) (left : Left) (found : IsFound db left) where
-  -- where it keeps what the first does
+  -- if it keeps what the first does
   again_left : IsAgain a db → AsKept a left
   again_left same =
       let set' = same_texts a db (ap (λ (c : Content). c.texts) same.content) in
@@ -117,13 +117,13 @@ module _ (a db : Database) (left : Left) (found : IsFound db left) where
         old = λ is. same_old_left (HoldsText a) (HoldsText db) left set' (found_old db left found (same.old is));
       }
 
-  -- where it has a message more
+  -- if it has one more message
   arrives_left : (m : Message) → IsMessage m → IsKept a → Arrives (wire m) a db → IsDeskOf (content_of a).roster (With (HoldsText a) m) left
   arrives_left m is kept arrives =
       same_left (content_of a).roster (content_of db).roster (With (HoldsText a) m) (HoldsText db) left (ap (λ (c : Content). c.roster) arrives.content)
       (with_message a db m is arrives.content) (found_desk db left found (arrived_kept (wire m) a db kept arrives))
 
-  -- where it has another roster text
+  -- if it has another roster text
   becomes_left : (roster : List ℕ) → Becomes roster a db → IsDeskOf roster (HoldsText a) left
   becomes_left roster it =
       same_left roster (content_of db).roster (HoldsText a) (HoldsText db) left (ap (λ (c : Content). c.roster) it.content)
@@ -175,7 +175,7 @@ module _ (old new : State) (settled : Settled old) (up : IsUp old) (clean : HasC
             (let it = becomes_left old.now may.0 left may.2 roster (becomes may.0 refl may.1.sound) in record { desk = λ is. inr it; old = λ is. inr it })
       ]
 
--- ---- behind a commit
+-- ---- after a commit
 
 module _ (s : State) (settled : Settled s) (up : IsUp s) (left : Left) (may : MayLeave s left) where
   -- while it is up, what it keeps

@@ -21,21 +21,21 @@ abbrev kept : Option (List ℕ) → List Message → MemoryContent
 kept r messages = record { roster = r; messages = messages }
 
 module _ {A E : Type 0} (r : Option (List ℕ)) (old : List Message) (m : Message) (new : List Message) (is : IsMessage m) (some : IsSome r) where
-  -- where the message was put to the others
+  -- if the message was added to the others
   pub put_lasts : (result : Result A E) → OnOk result (IsPut old m new)
       → OnOk result (LeavesOnly (LeavesContent (kept r new)) (IsDeskOf (unwrap_or r []) (With (Holds (kept r old)) m)))
   put_lasts (Ok a) put = λ left may. same_left (unwrap_or r []) (unwrap_or r []) (With (Holds (kept r old)) m)
       (Holds (kept r new)) left refl (put_adds r old m new is put) (content_left (kept r new) left some may)
   put_lasts (Err e) put = tt
 
-  -- and where it may not have been
+  -- and if it may not have been
   pub put_leaves : (result : Result A E) → OnOk result (IsPut old m new) → OnErr result (new ≡ old) → (left : Left)
       → LeavesContent (kept r new) left → IsWithOrWithout (unwrap_or r []) (Holds (kept r old)) m left
   put_leaves (Ok a) put same left may = inr (put_lasts (Ok a) put left may)
   put_leaves (Err e) put same left may =
       inl (let P : List Message → Type 0 = λ l. LeavesContent (kept r l) left in content_left (kept r old) left some (subst P same may))
 
--- where the roster's text was replaced
+-- if the roster's text was replaced
 pub replaced_lasts : (r : Option (List ℕ)) (text : List ℕ) (messages : List Message)
     → LeavesOnly (LeavesContent (kept (Some text) messages)) (IsDeskOf text (Holds (kept r messages)))
 replaced_lasts r text messages left may = content_left (kept (Some text) messages) left refl may

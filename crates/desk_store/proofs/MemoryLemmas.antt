@@ -1,4 +1,4 @@
--- What a keeper in memory holds once a message was put to the others.
+-- What a keeper in memory holds after a message was added to the others.
 use Rattle.std.proofs.Common.{◌≡◌, ◌⊎◌, ℕ, List, [], ◌∷◌, ◌++◌, Result, Ok, Err, sym, subst, inl, inr}
 use Rattle.std.specs.Prelude.{Option, Contains, OnOk}
 use Rattle.std.proofs.lemmas.List.Elements.{Contains-append_left, Contains-push, Contains-push_cases}

@@ -1,4 +1,4 @@
--- What came of one call, behind which another tells what came of both.
+-- The outcome of one call, after which another tells the outcome of both.
 use Rattle.std.proofs.Common.{◌≡◌, ◌∙◌, ◌⊎◌, inl, inr, ℕ, ◌≤◌, Result, Ok, Err, arith}
 use Rattle.std.specs.Prelude.{OnOk, OnErr, IsOk, IsErr, IsErrAnd}
 use Rattle.desk_store.specs.declared.error.KeeperError.{KeeperError}
@@ -6,7 +6,7 @@ use Rattle.desk_store.specs.declared.error.KeeperError.TheVariants.{NoMemory, St
 use Rattle.desk_store.specs.Keeping.{HasFailed}
 
 module _ {T U E F : Type 0} (r : Result T E) (s : Result U F) where
-  -- what the Ok of the one says, the Ok of the other says
+  -- the Ok of the first says what the Ok of the second says
   pub behind_ok : (P Q : Type 0) → OnOk r (IsOk s) → (P → Q) → OnOk s P → OnOk r Q
   behind_ok P Q done on p = go r s done p
     where
@@ -15,7 +15,7 @@ module _ {T U E F : Type 0} (r : Result T E) (s : Result U F) where
       go (Ok a) (Err f) done p = absurd cc
       go (Err e) s done p = tt
 
-  -- and what else it says where that holds
+  -- and what it says besides, if that holds
   pub then_ok : (P Q R : Type 0) → OnOk r (IsOk s) → OnOk s P → (P → OnOk s Q) → (P → Q → R) → OnOk r R
   then_ok P Q R done p more on = go r s done p more
     where
@@ -41,12 +41,12 @@ module _ {T U E F : Type 0} (r : Result T E) (s : Result U F) where
       go (Ok a) (Err f) done p q = absurd cc
       go (Err e) s done p q = inr q
 
--- a refusal is an Err
+-- what holds for an Err holds for a result that is this Err
 pub of_err : {T E : Type 0} (r : Result T E) (e : E) (P : Type 0) → OnErr r P → r ≡ Err e → P
 of_err (Ok a) e P p is = absurd cc
 of_err (Err x) e P p is = p
 
--- what is an Err says nothing of an Ok, and what holds holds of an Err
+-- for an Err, a clause about Ok says nothing; and what holds anyway holds for an Err
 pub not_ok : {T E : Type 0} (r : Result T E) (P : Type 0) → IsErr r → OnOk r P
 not_ok (Ok a) P is = absurd cc
 not_ok (Err e) P is = tt

@@ -1,4 +1,4 @@
--- What the calls leave, one after the other, that replace the roster's text.
+-- What the calls that replace the roster's text leave, one after the other.
 use Rattle.std.proofs.Common.{◌≡◌, ◌∙◌, ℕ, List, [], ◌∷◌, Result, Ok, Err, inl, le_refl, refl, subst}
 use Rattle.std.specs.Prelude.{IsErr, OnErr, OnOk}
 use Rattle.sqlite.specs.Table.{Table}
@@ -132,7 +132,7 @@ module _ (old new : Database) (was : IsOldDesk old) (is : IsKept new) (grown : G
   abbrev more : List Table
   more = verdicts_at grown.0 ∷ []
 
-  -- a part that was there is found still, and `verdicts` has a tree of its own
+  -- a part that was there is still found, and `verdicts` has a tree of its own
   other_still_all : (t : Table) → Has old.schema.tables t → IsOther old.schema t.tree → IsOther new.schema t.tree
   other_still_all t there other part.Desk = other_still old.schema new.schema more grown.1 part.Desk t.tree was.tables.common.desk (other part.Desk)
   other_still_all t there other part.Messages =

@@ -16,7 +16,7 @@ failed_later a b c below (inr greatest) = inr greatest
 
 -- ---- whether it is up
 
--- an answer that is none of want
+-- an answer that is not a `Want`
 pub not_err : {Up : Type 0} → (false ≡ true) ⊎ Up → Up
 not_err (inl want) = absurd cc
 not_err (inr up) = up
@@ -40,7 +40,7 @@ module _ {K : Type 0} {is_up is_clean : K → Type 0} {failures : K → ℕ} {be
     others = λ up it stands. stands;
   }
 
-  -- the same call, told by another answer
+  -- the same call, with another answer
   pub served_as : {a b : K} {S W : Type 0} (S' W' : Type 0) → (S' → S) → (W → W')
       → IsServed is_up is_clean failures beside a b S W → IsServed is_up is_clean failures beside a b S' W'
   served_as S' W' storage want s = record {
@@ -87,12 +87,12 @@ module _ {K : Type 0} {is_up is_clean : K → Type 0} {failures : K → ℕ} {be
   served_then {a} {b} {c} {S} {W} {T} {V} want first second =
       served_as T V (λ told. inr told) (λ told. elim told as (λ _. V) [ inl sooner ↦ want sooner | inr later ↦ later ]) (served_both first second)
 
-  -- after a call that was answered by an Ok
+  -- after a call that answered Ok
   pub served_after : {a b c : K} {S T V : Type 0} → IsServed is_up is_clean failures beside a b S (false ≡ true)
       → IsServed is_up is_clean failures beside b c T V → IsServed is_up is_clean failures beside a c T V
   served_after first second = served_then (λ want. absurd cc) first second
 
-  -- such a call, told by an answer that tells of nothing
+  -- such a call, with an answer that tells of no failure of the storage
   pub served_at_ok : {a b : K} {S : Type 0} (Storage Want : Type 0) → (Storage → ⊥)
       → IsServed is_up is_clean failures beside a b S (false ≡ true) → IsServed is_up is_clean failures beside a b Storage Want
   served_at_ok Storage Want other s = served_as Storage Want (λ is. absurd (other is)) (λ want. absurd cc) s

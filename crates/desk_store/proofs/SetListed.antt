@@ -19,7 +19,7 @@ use Rattle.desk_opening.specs.private.Selecting.{shown_of}
 use Rattle.desk_opening.proofs.TextsShown.{listed, row_has, text_of}
 use Rattle.outcomes.proofs.Membership.{no_member, Contains-head, Contains-behind, Contains-cases}
 
--- a message that the row's body is the text of
+-- a message whose text is the row's body
 abbrev IsSpelled : Row → Type 0
 IsSpelled r = (m : Message) × IsKeepable m × (column r 1 ≡ body m)
 

@@ -1,4 +1,4 @@
--- A database keeps nothing of a desk's, a desk, or one of an older form: no two of these, and a look tells which.
+-- A database keeps no part of a desk, a desk, or one of an older form: no two of these, and a look tells which.
 use Rattle.std.proofs.Common.{◌≡◌, ◌∙◌, codes, sym, subst}
 use Rattle.sqlite.specs.Effect.{Database}
 use Rattle.desk_tables.specs.Kept.{table_in}

@@ -29,7 +29,7 @@ MayLeave s left = (db : Database) × MayShow s db × IsFound db left
 
 -- ---- memory
 
--- Of a keeper in memory a crash is taken to leave what it keeps.
+-- We model a crash as not losing what a memory keeper holds.
 abbrev pub LeavesContent : MemoryContent → Left → Type 0
 LeavesContent k Nothing = k.roster ≡ None
 LeavesContent k (ADesk c) = IsSome k.roster × IsDeskOf (unwrap_or k.roster []) (Holds k) (ADesk c)

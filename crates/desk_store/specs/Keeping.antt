@@ -6,7 +6,7 @@ use Rattle.outcomes.specs.Gathered.{AreGathered, Known}
 use Rattle.desk_store.specs.declared.found.Found.{Found}
 use Rattle.desk_store.specs.declared.found.Found.TheVariants as found
 
--- exactly one of the four, and a desk's roster
+-- a look tells exactly one of the four, and a desk's roster text
 abbrev pub Tells : (Empty Desk Old : Type 0) → (roster : List ℕ) → Found → Type 0
 Tells Empty Desk Old roster found.Empty = Empty × (¬ Desk) × (¬ Old)
 Tells Empty Desk Old roster (found.Desk text) =

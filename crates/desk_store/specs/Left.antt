@@ -5,8 +5,8 @@ use Rattle.messages.specs.declared.message.Message.{Message}
 use Rattle.desk_tables.specs.Sets.{SameSet, With}
 use Rattle.desk_tables.specs.Stored.{Content, has}
 
--- Nothing of a desk's, a desk with all that it keeps, a desk of an older form with its messages, or
--- something of a desk's that is no desk.
+-- No part of a desk, a desk with all that it keeps, a desk of an older form with its messages, or
+-- something under a desk's names that is not a desk.
 pub data Left : Type 0 where
   Nothing : Left
   ADesk : Content → Left
@@ -17,7 +17,7 @@ pub data Left : Type 0 where
 abbrev pub HoldsIn : Content → Message → Type 0
 HoldsIn c m = IsMessage m × (has c (wire m) ≡ true)
 
--- a whole desk: of this roster text, and with exactly these messages
+-- a whole desk, with this roster text and exactly these messages
 abbrev pub IsDeskOf : (roster : List ℕ) → (messages : Message → Type 0) → Left → Type 0
 IsDeskOf roster S Nothing = ⊥
 IsDeskOf roster S (ADesk c) = (c.roster ≡ roster) × SameSet S (HoldsIn c)
@@ -31,7 +31,7 @@ IsOldDeskOf S (ADesk c) = ⊥
 IsOldDeskOf S (AnOldDesk c) = SameSet S (HoldsIn c)
 IsOldDeskOf S NoDesk = ⊥
 
--- What is left is what was kept: nothing of a desk's, the whole desk, or the whole desk of an older
+-- What is left is what was kept: no part of a desk, the whole desk, or the whole desk of an older
 -- form.
 pub record IsAsKept (Empty Desk Old : Type 0) (roster : List ℕ)
     (S : Message → Type 0) (left : Left) : Type 0 where
@@ -39,7 +39,7 @@ pub record IsAsKept (Empty Desk Old : Type 0) (roster : List ℕ)
   pub desk : Desk → IsDeskOf roster S left
   pub old : Old → IsOldDeskOf S left
 
--- nothing of a desk's, or a whole desk of this roster text, with no message
+-- no part of a desk, or a whole desk with this roster text and no message
 abbrev pub IsNothingOrFresh : (roster : List ℕ) → Left → Type 0
 IsNothingOrFresh roster left = (left ≡ Nothing) ⊎ IsDeskOf roster (λ _. ⊥) left
 
@@ -55,8 +55,8 @@ pub record IsReplacedOrNot (Desk Old : Type 0) (recorded text : List ℕ)
   pub desk : Desk → IsDeskOf recorded S left ⊎ IsDeskOf text S left
   pub old : Old → IsOldDeskOf S left ⊎ IsDeskOf text S left
 
--- What a keeper keeps is what was left: nothing of a desk's, the whole desk, one of an older form,
--- or what is no desk.
+-- What a keeper keeps is what was left: no part of a desk, the whole desk, one of an older form, or
+-- something that is not a desk.
 abbrev pub IsFoundAs : (Empty Desk Old : Type 0) → (roster : List ℕ)
     → (messages : Message → Type 0) → Left → Type 0
 IsFoundAs Empty Desk Old roster S Nothing = Empty × (¬ Desk) × (¬ Old)
@@ -65,7 +65,7 @@ IsFoundAs Empty Desk Old roster S (ADesk c) =
 IsFoundAs Empty Desk Old roster S (AnOldDesk c) = Old × (¬ Empty) × (¬ Desk) × SameSet S (HoldsIn c)
 IsFoundAs Empty Desk Old roster S NoDesk = (¬ Empty) × (¬ Desk) × (¬ Old)
 
--- whatever may be left has the property
+-- everything that may be left has the property
 abbrev pub LeavesOnly : (MayLeave Property : Left → Type 0) → Type 0
 LeavesOnly MayLeave Property = (left : Left) → MayLeave left → Property left
 

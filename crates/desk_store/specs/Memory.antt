@@ -3,12 +3,12 @@ use Rattle.std.specs.Prelude.{ℕ, List, [], Option, None, Contains}
 use Rattle.messages.specs.Wire.{IsMessage}
 use Rattle.messages.specs.declared.message.Message.{Message}
 
--- The text of a desk's roster, and its messages. Of the list only the members mean anything.
+-- The text of a desk's roster, and its messages. Only the members of the list matter.
 pub record MemoryContent : Type 0 where
   pub roster : Option (List ℕ)
   pub messages : List Message
 
--- nothing of a desk's
+-- no part of a desk
 abbrev pub nothing : MemoryContent
 nothing = record { roster = None; messages = [] }
 

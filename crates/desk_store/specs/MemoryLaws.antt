@@ -1,4 +1,4 @@
--- What a keeper in memory keeps stays where the same is kept. For private clauses.
+-- Two keepers in memory with the same content keep the same of a desk. For private clauses.
 use Rattle.std.specs.Prelude.{◌≡◌, [], None, IsSome, unwrap_or}
 use Rattle.std.proofs.Common.{refl, sym, ◌∙◌, subst, ap}
 use Rattle.desk_tables.specs.Sets.{SameSet}

@@ -20,7 +20,7 @@ use std::marker::Model;
 pub(crate) struct Collected {
     alloc: Global,
     messages: Vec<Message>,
-    /// The text of each, where a repeat is found at the cost of a logarithm.
+    /// The text of each, in which a repeat is found in logarithmic time.
     texts: BTreeSet<String>,
 }
 
@@ -43,7 +43,7 @@ fn knows(texts: &BTreeSet<String>, text: &str) -> bool
     texts.contains(text)
 }
 
-/// A copy of the message, and one of its text. Where it ends well, the list has room for one more.
+/// A copy of the message, and one of its text. After Ok the list has room for one more.
 fn copies(
     alloc: Global,
     messages: &mut Vec<Message>,
@@ -62,7 +62,7 @@ fn copies(
     Ok((copy, key))
 }
 
-/// Puts the text to the texts.
+/// Adds the text to the texts.
 fn add_text(texts: &mut BTreeSet<String>, key: String) -> Result<(), KeeperError>
     ensures keys { OnOk result (texts.new.keys ≡ insert_key string_cmp texts.old.keys key) }
     ensures unchanged { OnErr result (texts.new.keys ≡ texts.old.keys) }
@@ -84,7 +84,7 @@ impl Collected {
         }
     }
 
-    /// Puts a copy of the message, whose text this is, after the others, unless it is there
+    /// Adds a copy of the message, whose text this is, after the others, unless it is there
     /// already.
     pub(crate) fn put(&mut self, message: &Message, text: &str) -> Result<(), KeeperError>
         requires message { IsMessage message.now }
@@ -97,8 +97,8 @@ impl Collected {
             return Ok(());
         }
         let (copy, key) = copies(self.alloc, &mut self.messages, message, text)?;
-        // A call drops the copy: where an exit drops it in line, each of its fields is proved again
-        // there.
+        // The copy is dropped by a call: if the exit dropped it inline, each of its fields would be
+        // proved again there.
         match add_text(&mut self.texts, key) {
             Ok(()) => {
                 self.messages.push_reserved(copy);

@@ -1,4 +1,4 @@
-//! Failures of a keeper over a database, told and counted.
+//! Failures of a keeper over a database, reported and counted.
 
 ghost use Rattle.std.specs.Prelude.{◌≡◌, ◌↔◌, ◌≤◌, IsTrue};
 ghost use Rattle.desk_store.specs.Keeping.{HasFailed};
@@ -27,10 +27,10 @@ fn count(failed: &mut u64)
     *failed = failed.saturating_add(1);
 }
 
-/// Counts a failure, and tells its cause: want of memory, or the storage.
+/// Counts a failure, and answers its cause: want of memory, or the storage.
 ///
-/// Want of memory is counted too: what it stops is undone, and the disk may fail there, which shuts
-/// the store.
+/// Want of memory is counted too: what it interrupts is undone, and the disk may fail at that,
+/// which shuts the store.
 pub(crate) fn told(failed: &mut u64, fault: Fault) -> KeeperError
     ensures failed { HasFailed failed.old failed.new }
     ensures counts { failed.old ≤ failed.new }

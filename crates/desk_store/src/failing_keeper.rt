@@ -11,11 +11,11 @@ use crate::keeper::Keeper;
 use messages::Message;
 use outcomes::Gathered;
 
-/// Any keeper, of which so many calls succeed or fail as they would, and each later one is refused
-/// before it comes to it.
+/// A keeper around any other: the given number of calls succeed or fail as they would, and each
+/// later one is refused before it reaches the keeper inside.
 ///
-/// It shows what a caller does when its storage fails at a given call. What is kept stays as it was
-/// at the last call that came through. Calls that only lend are never refused, and are not counted.
+/// It shows what a caller does when its storage fails at a given call. What is kept stays as the
+/// last call that came through left it. Calls by `&self` are never refused, and are not counted.
 #[derive(Drop)]
 pub struct FailingKeeper<K: Keeper> {
     kept: K,
@@ -24,7 +24,7 @@ pub struct FailingKeeper<K: Keeper> {
 }
 
 impl<K: Keeper> FailingKeeper<K> {
-    /// Passes so many calls on to the keeper. It takes no memory.
+    /// A keeper that passes this many calls on. It takes no memory.
     pub fn new(kept: K, calls: u64) -> FailingKeeper<K>
         ensures same { result.kept ≡ kept }
         ensures calls { result.calls_left ≡ calls }

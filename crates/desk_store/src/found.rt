@@ -3,12 +3,12 @@
 /// What a keeper keeps.
 #[derive(Debug, Drop)]
 pub enum Found {
-    /// Nothing of a desk's.
+    /// No part of a desk.
     Empty,
     /// A desk, with this text as its roster's.
     Desk(String),
     /// A desk of an older form, which is to be rebuilt.
     OldDesk,
-    /// Something of a desk's, and no desk.
+    /// Something under a desk's names that is not a desk.
     NotADesk,
 }

@@ -15,7 +15,7 @@ use sqlite::{Alter, Connection};
 use std::alloc::Global;
 
 /// What is known of the messages of the desk that the database keeps, by the rows that follow from
-/// them. It stays as it is.
+/// them. The database stays as it is.
 pub(crate) fn gather_in<S: Alter>(
     alloc: Global,
     conn: &mut Connection<S>,

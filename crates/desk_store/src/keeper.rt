@@ -15,22 +15,22 @@ use crate::found::Found;
 use messages::Message;
 use outcomes::Gathered;
 
-/// What keeps a desk: nothing of a desk's, or a desk's roster text and the set of its messages, or
-/// what is no desk.
+/// What keeps a desk: it has no part of a desk, or a desk's roster text and the set of its
+/// messages, or a desk of an older form, or something that is not a desk.
 ///
-/// Each call that changes what is kept does it whole, in one commit, or not at all, and takes the
-/// memory that it needs before. A clause of what is kept holds where the keeper is up as the call
-/// ends: its storage has been honest, and no failure has shut it. A keeper in memory is always up.
-/// `Storage` is answered only where the count of failures rose in that call, or stands at the
-/// greatest number of 64 bits. A clause `served` says this of each call, with whether the keeper is
-/// up then, and that what else its storage keeps stays as it was.
+/// Each call that changes what is kept makes the whole change, in one commit, or none of it, and
+/// takes the memory that it needs first. A clause about what is kept holds if the keeper is up when
+/// the call ends: its storage has been honest, and no failure has shut it. A keeper in memory is
+/// always up. `Storage` is answered only if the count of failures rose in that call, or stands at
+/// the greatest number of 64 bits. The clause `served` of each call says this, says when the keeper
+/// is up then, and says that whatever else its storage keeps stays as it was.
 ///
 /// A clause `crash` holds at each exit of its call, also after a failure, as long as the storage
-/// has been honest: what a crash may leave then, for the next opening, is all that was kept as the
-/// call began, or all that the call was to commit. A clause `lasting` says that after Ok it is the
-/// latter alone, and a clause `durable` that it is what the keeper keeps, as long as that is up.
+/// has been honest: what a crash may leave then, for the next opening, is all that was kept when
+/// the call began, or all that the call was to commit. A clause `lasting` says that after Ok it is
+/// only the latter, and a clause `durable` that it is what the keeper keeps, as long as it is up.
 pub trait Keeper {
-    /// It keeps nothing of a desk's.
+    /// It keeps no part of a desk.
     ghost is_empty: { Self → Type 0 };
 
     /// It keeps a desk.
@@ -54,7 +54,7 @@ pub trait Keeper {
     /// How many failures were counted.
     ghost failures: { Self → ℕ };
 
-    /// The table is kept too, with these rows, and is none of a desk's.
+    /// The table is kept too, with these rows, and is not one of a desk's.
     ghost beside: { Self → TableWithRows → Type 0 };
 
     /// The second keeps what the first does.
@@ -74,7 +74,7 @@ pub trait Keeper {
             → LeavesOnly (may_leave self.new) (IsAsKept (is_empty self.old)
             (is_desk self.old) (is_old self.old) (roster self.old) (holds self.old)) };
 
-    /// Makes a desk of this roster text, without messages, in one commit.
+    /// Makes a desk with this roster text and no messages, in one commit.
     fn make(&mut self, text: &str) -> Result<(), KeeperError>
         requires { is_up self.old → is_empty self.old }
         ensures made { is_up self.new → OnOk result (is_desk self.new) }
@@ -114,8 +114,8 @@ pub trait Keeper {
         ensures durable { is_up self.new
             → LeavesOnly (may_leave self.new) (IsDeskOf (roster self.new) (holds self.new)) };
 
-    /// Replaces the desk's roster text, in one commit, and makes what is kept beside the messages
-    /// anew from them. A desk of an older form becomes one of today's. The messages stay.
+    /// Replaces the desk's roster text, and rebuilds from the messages what is kept beside them, in
+    /// one commit. A desk of an older form becomes one of today's. The messages stay.
     fn replace(&mut self, text: &str) -> Result<(), KeeperError>
         requires { is_up self.old → is_desk self.old ⊎ is_old self.old }
         ensures desk { is_up self.new → OnOk result (is_desk self.new) }
@@ -158,16 +158,16 @@ pub trait Keeper {
     fn failures(&self) -> u64
         ensures { result ≡ Self.failures self.now };
 
-    /// While it is up, a crash leaves what it keeps, for the next opening. It does nothing: a
-    /// keeper over another names it.
+    /// While the keeper is up, a crash leaves what it keeps, for the next opening. The function
+    /// does nothing: a keeper around another one calls it for this contract.
     fn lasts(&self)
         ensures { is_up self.now → LeavesOnly (may_leave self.now) (IsAsKept (is_empty self.now)
             (is_desk self.now) (is_old self.now) (roster self.now) (holds self.now)) };
 
-    /// Each message that is held is one that a desk knows.
+    /// Each message that is held is valid (`IsMessage`).
     ghost holds_messages: { (k : Self) → (m : AnyMessage) → holds k m → IsMessage m };
 
-    /// What is up has had honest storage.
+    /// A keeper that is up has had honest storage.
     ghost up_is_clean: { (k : Self) → is_up k → is_clean k };
 
     /// What is kept is the same as itself.
@@ -177,13 +177,14 @@ pub trait Keeper {
 
     ghost same_on: { (a b c : Self) → is_same a b → is_same b c → is_same a c };
 
-    /// Where nothing of a desk's is kept, there is none where the same is kept.
+    /// A keeper that keeps the same as one without any part of a desk has none either.
     ghost stays_empty: { (a b : Self) → is_same a b → is_empty a → is_empty b };
 
-    /// Where a desk is kept, the same is the same desk.
+    /// A keeper that keeps the same as one with a desk keeps a desk.
     ghost stays_desk: { (a b : Self) → is_same a b → is_desk a → is_desk b };
 
-    /// Where a desk of an older form is kept, the same is one too, and of the same messages.
+    /// A keeper that keeps the same as one with a desk of an older form keeps such a desk, with the
+    /// same messages.
     ghost stays_old: { (a b : Self) → is_same a b → is_old a
         → is_old b × SameSet (holds a) (holds b) };
 

@@ -1,4 +1,4 @@
-//! A law of what a crash leaves, the contract of a function that does nothing.
+//! A law about what a crash leaves, as the contract of a function that does nothing.
 
 ghost use Rattle.sqlite.specs.Effect.{Database};
 ghost use Rattle.desk_tables.specs.Kept.{HoldsText};
@@ -8,8 +8,8 @@ ghost use Rattle.desk_opening.specs.Opened.{IsKept, IsOldDesk};
 ghost use Rattle.desk_store.specs.Crash.{IsFound};
 ghost use Rattle.desk_store.specs.Left.{IsFoundAs, Left as AnyLeft};
 
-/// What a look at a database finds is what a keeper over it keeps: nothing of a desk's, the whole
-/// desk, one of an older form, or what is no desk.
+/// What a look at a database finds is what a keeper over it keeps: no part of a desk, the whole
+/// desk, one of an older form, or something that is not a desk.
 pub fn found_is_kept()
     ensures { (db : Database) (left : AnyLeft) → IsFound db left → IsFoundAs (IsVacant db.schema)
         (IsKept db) (IsOldDesk db) (content_of db).roster (HoldsText db) left }

@@ -17,8 +17,8 @@ use outcomes::Gathered;
 use std::alloc::Global;
 use std::marker::Model;
 
-/// A desk in memory, or nothing of a desk's. It is always up, never answers `Storage`, and keeps no
-/// desk of an older form.
+/// A desk in memory, or no part of one. It is always up, never answers `Storage`, and keeps no desk
+/// of an older form.
 #[derive(Drop)]
 pub struct MemoryKeeper {
     alloc: Global,
@@ -39,7 +39,7 @@ impl Model for MemoryKeeper {
 }
 
 impl MemoryKeeper {
-    /// A keeper of nothing. It takes no memory.
+    /// A keeper that keeps no part of a desk. It takes no memory.
     pub fn new(alloc: Global) -> MemoryKeeper
         ensures { result ≡ memory.nothing }
     {

@@ -1,4 +1,4 @@
-//! Another roster's text for a desk of either form, in one commit.
+//! Replacing the roster's text of a desk of either form, in one commit.
 
 ghost use Rattle.std.specs.Prelude.{◌≡◌, Contains, IfOk};
 ghost use Rattle.sqlite.specs.Held.{state};

@@ -1,4 +1,4 @@
-//! What a crash leaves of a connection that rests.
+//! What a crash leaves of a connection at rest.
 
 ghost use Rattle.sqlite.specs.Held.{state};
 ghost use Rattle.desk_tables.specs.SqliteStates.{Rests};
@@ -6,8 +6,8 @@ ghost use Rattle.desk_store.specs.private.Survival.{Settled};
 
 use sqlite::{Alter, Connection};
 
-/// While the store is up, a crash leaves what the connection shows. It reads nothing: a proof names
-/// it.
+/// While the store is up, a crash leaves what the connection shows. The function is called for this
+/// contract alone.
 pub(crate) fn settles<S: Alter>(conn: &Connection<S>)
     requires { Rests (state S.Store conn.now) }
     ensures { Settled (state S.Store conn.now) }

@@ -33,8 +33,8 @@ use std::alloc::Global;
 /// A desk in a database over any store, or a database that has none. Between calls all that it
 /// shows is committed.
 ///
-/// It counts a failure for each call that is refused, for whatever reason: so for a look at a desk
-/// whose rows are none that its messages come to, and for want of memory.
+/// It counts a failure for each call that is refused, for whatever reason: also for a look at a
+/// desk whose rows are not those that follow from its messages, and for want of memory.
 pub struct SqliteKeeper<S: Alter> {
     alloc: Global,
     conn: Connection<S>,
@@ -71,8 +71,8 @@ impl<S: Alter> SqliteKeeper<S> {
         conn
     }
 
-    /// Gives the connection up, and makes a keeper of it anew: what another keeper finds over the
-    /// same connection.
+    /// Gives up this keeper, and makes a new one over its connection: what another keeper finds
+    /// over the same connection.
     ///
     /// It keeps what this one did, and is up exactly where this one was. Its count of failures
     /// begins again.
@@ -108,7 +108,7 @@ impl<S: Alter + Drop> Drop for SqliteKeeper<S> {
     }
 }
 
-/// What the keeper tells of what was found. The messages are let go.
+/// What the keeper tells of what was found. The messages are dropped.
 fn shown(found: InDatabase) -> Found
     ensures { result ≡ shown found }
 {
@@ -170,7 +170,8 @@ impl<S: Alter> Keeper for SqliteKeeper<S> {
 
     ghost stays_set = { λ a b same desk. laws.stays_set _ _ same };
 
-    /// A desk whose rows are none that its messages come to is refused, and counted as a failure.
+    /// A desk whose rows are not those that follow from its messages is refused, and counted as a
+    /// failure.
     fn look(&mut self) -> Result<Found, KeeperError> {
         settles(&self.conn);
         match look(self.alloc, &mut self.conn) {
@@ -179,8 +180,8 @@ impl<S: Alter> Keeper for SqliteKeeper<S> {
         }
     }
 
-    /// A database is refused, as what fails is, where a foreign key waits for a desk's tables, and
-    /// where a table counts by AUTOINCREMENT without the table of the counts.
+    /// A database is refused, as `Storage` and with a failure counted, if a foreign key waits for a
+    /// desk's tables, or if a table counts by AUTOINCREMENT without the table of the counts.
     fn make(&mut self, text: &str) -> Result<(), KeeperError> {
         settles(&self.conn);
         if !self.conn.is_autocommit() || !is_ready(self.conn.schema()) {

@@ -21,7 +21,7 @@ use Rattle.sqlite.specs.Kind.TheVariants.{Integer}
 pub same_sets : (s t : Texts) → ((q : List ℕ) → set.contains s q ≡ set.contains t q) → s ≡ t
 same_sets = set.same_set nat_list_cmp_total (slice_cmp-IsAntisymmetric nat_cmp-IsAntisymmetric)
 
--- the rows have one text more
+-- the rows have one more text
 one_more : (rows news : List Row) (text : List ℕ) → ((q : List ℕ) → list_any (has_text q) news ≡ (same_text q text || list_any (has_text q) rows))
     → set.from_list {R = slice_cmp nat_cmp} (bodies news) ≡ set.insert (set.from_list (bodies rows)) text
 one_more rows news text each = same_sets _ _ (λ q. contains_bodies q news ∙ each q ∙ ap (λ b. same_text q text || b) (sym (contains_bodies q rows))
@@ -43,7 +43,7 @@ all_at P [] i x e h = absurd cc
 all_at P (y ∷ xs) zero x e h = let same : y ≡ x = cc in subst P same h.0
 all_at P (y ∷ xs) (suc i) x e h = all_at P xs i x e h.1
 
--- a text that was put behind a fresh rowid is one more, and the bodies are texts as before
+-- a text that was inserted with a fresh rowid is one more, and the bodies are texts as before
 module _ (n : ℤ) (text : List ℕ) (old new : List Row)
     (fresh : are_fresh old ((Int n ∷ Text text ∷ []) ∷ []) ≡ true) (is : new ≡ put_all old ((Int n ∷ Text text ∷ []) ∷ [])) where
   abbrev row : Row

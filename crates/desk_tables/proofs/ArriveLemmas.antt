@@ -1,4 +1,4 @@
--- How the transaction of a message that arrives ends.
+-- How the transaction of an arriving message ends.
 use Rattle.std.proofs.Common.{◌≡◌, ℕ, List, true, false, IsTrue, refl, sym, ap, subst, ◌∙◌, arith}
 use Rattle.sqlite.specs.Tree.{Trees}
 use Rattle.sqlite.specs.State.{State, HasCleanDisk, IsLive, KeepsCommit, Shows, Survives}

@@ -236,7 +236,7 @@ keyed_less old ids keyed = record {
   once = λ a b here there. keyed.once a b (without_all_has ids old a here) (without_all_has ids old b there);
 }
 
--- a row behind a fresh rowid keeps the table keyed
+-- a row with a fresh rowid keeps the table keyed
 pub keyed_more : (n : ℤ) (values : List Value) (old new : List Row) → are_fresh old ((Int n ∷ values) ∷ []) ≡ true
     → new ≡ put_all old ((Int n ∷ values) ∷ []) → IsKeyed old → IsKeyed new
 keyed_more n values old new fresh is keyed = record {

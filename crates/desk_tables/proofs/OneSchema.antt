@@ -27,7 +27,7 @@ zip_same R one (x ∷ xs) [] zs p q = absurd p
 zip_same R one (x ∷ xs) (y ∷ ys) [] p q = absurd q
 zip_same R one (x ∷ xs) (y ∷ ys) (z ∷ zs) p q = λ i. one x y z p.0 q.0 i ∷ zip_same R one xs ys zs p.1 q.1 i
 
--- what is told alike of each is found at the same place
+-- a test that says the same for each pair finds the same place in both lists
 zip_position : {A B : Type 0} (R S : A → B → Type 0) (t : B → Bool) → ((x : A) (y z : B) → R x y → S x z → t y ≡ t z)
     → (i : ℕ) (xs : List A) (ys zs : List B) → AllZip R xs ys → AllZip S xs zs → position_from t i ys ≡ position_from t i zs
 zip_position R S t alike i [] [] [] p q = refl

@@ -38,7 +38,7 @@ cast_int n = either _ (Int n)
 behind : (a b : Value) (r values : List Value) → ◌≡◌ {A = List Value} (a ∷ r) (b ∷ values) → r ≡ values
 behind a b r values e = cc
 
--- A row that was put behind a fresh rowid is one row more.
+-- A row that was inserted with a fresh rowid is one more row.
 pub one_more : (n : ℤ) (values : List Value) (old new : List Row) → are_fresh old ((Int n ∷ values) ∷ []) ≡ true
     → new ≡ put_all old ((Int n ∷ values) ∷ []) → Gains values (IsRow old) (IsRow new)
 one_more n values old new fresh is = record { each = each; kept = kept; there = there }
@@ -58,7 +58,7 @@ one_more n values old new fresh is = record { each = each; kept = kept; there = 
     there : IsRow new values
     there = (Int n, subst (λ rows. Has rows row) (sym is) (put_all_adds (row ∷ []) old row fresh (inl refl)))
 
--- the row stands in the table behind a fresh rowid, and each other table keeps its rows
+-- the table has the row, after a fresh rowid, and each other table keeps its rows
 pub record Puts (s : Schema) (tree : ℕ) (values : List Value) (old new : Trees) : Type 0 where
   pub n : ℤ
   pub fresh : are_fresh (old tree) ((Int n ∷ values) ∷ []) ≡ true

@@ -53,7 +53,7 @@ found_among (n ∷ ms) q h = elim (or_cases (same_text q (wire n)) (list_any (sa
   | inr later ↦ let it = found_among ms q later in (it.0, inr it.1, it.2)
 ]
 
--- a message that is none of these has a text that is none of theirs
+-- a message that is not one of these has a text that is not one of theirs
 none_such : (ms : List Message) (m : Message) → IsMessage m → ((n : Message) → Has ms n → IsMessage n × (n ≢ m)) → set.contains (texts_in ms) (wire m) ≡ false
 none_such ms m is others = elim (cases_Bool (set.contains (texts_in ms) (wire m))) [
   | inl there ↦
@@ -75,7 +75,7 @@ before_differs (y ∷ ms) (suc i) m pairs within at x (inr later) =
 
 -- ---- the loop
 
--- as far as the messages were gone through
+-- the state after the messages that were gone through so far
 pub record Refilling (messages : List Message) (old now : State) : Type 0 where
   pub step : IsStep old now
   pub refilled : HasCleanDisk now → IsTrue old.in_transaction → Refilled messages old now

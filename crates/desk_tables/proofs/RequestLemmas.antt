@@ -1,4 +1,4 @@
--- How the steps of a request that arrives make one.
+-- How the steps of an arriving request combine into one.
 use Rattle.std.proofs.Common.{◌≡◌, ◌⊎◌, inl, inr, ℕ, List, [], ◌∷◌, ◌++◌, codes, Bool, true, false, IsTrue, refl, sym, ap, subst, ◌∙◌}
 use Rattle.std.specs.FinSet as set
 use Rattle.sqlite.specs.declared.types.Value.{Value}
@@ -68,7 +68,7 @@ renamed q body asker n told a b c d text by number finds lost put =
 
 -- ---- the parked verdicts
 
--- as far as the rows were gone through
+-- the state after the rows that were gone through so far
 pub record Joining (rows : List Row) (old now : State) : Type 0 where
   pub step : IsStep old now
   pub turned : HasCleanDisk now → IsTrue old.in_transaction → Turned Stays (Rowwise (JoinsAll rows)) Stays old now

@@ -1,4 +1,4 @@
--- The rows of a set of messages, and what a message that is added makes of them.
+-- The rows of a set of messages, and how an added message changes them.
 use Rattle.std.proofs.Common.{◌≡◌, ◌⊎◌, inl, inr, ℕ, pos, Bool, true, false, List, refl, sym, ap, subst, ◌∙◌}
 use Rattle.std.proofs.lemmas.Bool.{cases_Bool}
 use Rattle.std.specs.Str.{bytes_eq}
@@ -133,7 +133,7 @@ module _ (S : Message → Type 0) (v : VerdictFields) where
   names_for N V P r q (inr e) = absurd (no_request v q (sym e))
 
   module _ (N V P : RowSet) (r : AreRows S N V P) where
-    -- A verdict whose name has a request: its row is put to the verdicts.
+    -- A verdict whose name has a request: its row is added to the verdicts.
     pub counted : (V' : RowSet) → Tells N (name_meant v) true → Gains (verdict_row v) V V' → AreRows (With S (Verdict v)) N V' P
     counted V' told gains = record {
       names_each = names_still N V P r;
@@ -303,7 +303,7 @@ module _ (S : Message → Type 0) (q : RequestFields) (only : (m : Message) → 
         loses.kept (parked_row v) (r.parked_all v there (λ asks. none (more_asks (name_meant v) asks)))
         (λ of_name. let is = parked_named v (name_of q) of_name in none (q, inr refl, (sym is.0, sym is.1)))
 
-    -- A request: its name's row, and the verdicts that waited for it, stand as the set with it has them.
+    -- A request: its name's row, and the verdicts that waited for it, are as the set with it has them.
     pub asked : AreRows (With S (Request q)) N' V' P'
     asked = record {
       names_each = names_each;

@@ -1,4 +1,4 @@
--- How the steps of a transaction make one.
+-- How the steps of a transaction combine into one.
 use Rattle.std.proofs.Common.{◌≡◌, ◌≢◌, ◌⊎◌, inl, inr, ℕ, List, [], ◌∷◌, codes, Bool, true, false, ◌||◌}
 use Rattle.std.proofs.Common.{IsTrue, Result, Ok, Err, OnOk, slice_index_or, refl, sym, ap, subst, ◌∙◌, arith}
 use Rattle.std.specs.List.{AllByRecursion}

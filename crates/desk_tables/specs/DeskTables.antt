@@ -53,7 +53,7 @@ messages = record {
   is_counted = false;
 }
 
--- a table whose unique key is over these columns, and which checks and refers to nothing
+-- a table with a unique key over these columns, and with no checks or references
 abbrev pub keyed : List ℕ → List Column → List ℕ → Table
 keyed name columns key = record {
   name = name;
@@ -91,7 +91,7 @@ abbrev pub parked : Table
 parked = keyed (codes "parked") ((column_of (codes "body") Text true)
     ∷ (column_of (codes "asker") Text true) ∷ (column_of (codes "no") Integer true) ∷ []) (1 ∷ [])
 
--- the same, with its rows in this tree of the file
+-- each of the five tables, with its rows in this tree of the file
 abbrev pub desk_at : ℕ → Table
 desk_at tree = record desk { tree = tree }
 

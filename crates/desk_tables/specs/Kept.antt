@@ -29,18 +29,18 @@ pub record IsKeyed (rows : List Row) : Type 0 where
   pub ints : (r : Row) → Has rows r → is_int (rowid r) ≡ true
   pub once : (a b : Row) → Has rows a → Has rows b → rowid a ≡ rowid b → a ≡ b
 
--- the value is no floating-point number
+-- the value is not a floating-point number
 abbrev pub IsNoReal : Value → Type 0
 IsNoReal (Real x) = ⊥
 IsNoReal _ = ⊤
 
 -- the rows are told apart by their rowids, and none has a floating-point number in this column,
--- which has the number of a request
+-- which holds the number of a request
 pub record IsNeat (at : ℕ) (rows : List Row) : Type 0 where
   pub keyed : IsKeyed rows
   pub whole : (r : List Value) → IsRow rows r → IsNoReal (column r at)
 
--- A desk's tables are there, and rows may be taken from those that lose rows.
+-- A desk's tables are there, and rows can be deleted from those that lose rows.
 pub record IsTidy (db : Database) : Type 0 where
   pub desk : HasDesk db.schema
   pub names : IsNeat 1 (table_in db (codes "names"))
@@ -49,7 +49,7 @@ pub record IsTidy (db : Database) : Type 0 where
 
 -- ---- the tables of other names
 
--- the tree is none of a desk's five
+-- the tree is not one of a desk's five
 pub record IsForeign (s : Schema) (tree : ℕ) : Type 0 where
   pub desk : tree ≢ tree_of s (codes "desk")
   pub messages : tree ≢ tree_of s (codes "messages")
@@ -77,8 +77,8 @@ abbrev pub HasRows : Texts → Database → Type 0
 HasRows texts db = AreRows (Holds texts) (IsRow (table_in db (codes "names")))
     (IsRow (table_in db (codes "verdicts"))) (IsRow (table_in db (codes "parked")))
 
--- A desk is kept: its tables, in `desk` the one row with a roster's text, in `messages` texts of
--- messages alone, and in the other three the rows of these.
+-- A desk is kept: its tables are there, `desk` has its one row with a roster's text, `messages` has
+-- only texts of messages, and the other three tables have the rows of these.
 pub record IsDeskDatabase (db : Database) : Type 0 where
   pub tidy : IsTidy db
   pub marked : (text : List ℕ) × (recorded (table_in db (codes "desk")) ≡ Some text) × IsUtf8 text

@@ -14,11 +14,11 @@ use Rattle.messages.specs.declared.message.Message.TheVariants.{Request, Verdict
 
 -- ---- the rows of a table, as a set
 
--- A set of rows, each seen as the values of its columns.
+-- A set of rows, each given by the values of its columns.
 abbrev pub RowSet : Type 1
 RowSet = List Value → Type 0
 
--- The table has a row of these values, behind whatever rowid.
+-- The table has a row with these values, after some rowid.
 abbrev pub IsRow : List Row → RowSet
 IsRow rows values = (id : Value) × Has rows (id ∷ values)
 
@@ -38,7 +38,7 @@ verdict_row v =
 abbrev pub parked_row : VerdictFields → List Value
 parked_row v = Text (wire (Verdict v)) ∷ Text v.of ∷ Int (pos v.no) ∷ []
 
--- the row is of the name: it has the asker in this place, and the number in the next
+-- the row is of the name: it has the asker in this column, and the number in the next
 abbrev pub OfName : ℕ → RequestName → RowSet
 OfName at name values =
     (column values at ≡ Text name.by) × (column values (suc at) ≡ Int (pos name.no))
@@ -50,8 +50,8 @@ abbrev pub Asks : (Message → Type 0) → RequestName → Type 0
 Asks S name = (q : RequestFields) × S (Request q) × IsNamed q name
 
 -- Each name with a request has one row, which has one such request and tells whether there is
--- another. Each verdict has a row: among the verdicts where its name has a request, and among those
--- that are parked where it has none.
+-- another. Each verdict has a row: in `verdicts` if its name has a request, and in `parked` if it
+-- has none.
 pub record AreRows (S : Message → Type 0) (names verdicts parked : RowSet) : Type 0 where
   pub names_each : (r : List Value) → names r → (q : RequestFields) × (disputed : Bool)
       × S (Request q) × IsMarked S q disputed × (r ≡ name_row q disputed)

@@ -1,5 +1,5 @@
--- Sets of messages, each seen as what says of a message whether it is in the set: no order, no
--- repeats.
+-- Sets of messages. A set is a predicate, which holds for the messages in it: it has no order and
+-- no repeats.
 use Rattle.std.specs.Prelude.{◌≡◌, ◌⊎◌, List, Contains}
 use Rattle.messages.specs.declared.message.Message.{Message}
 

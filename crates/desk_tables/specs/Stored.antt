@@ -1,4 +1,4 @@
--- What a database holds of a desk, beside whatever tables of other names.
+-- What a database holds of a desk, beside any tables of other names.
 use Rattle.std.specs.Prelude.{◌≡◌, ◌==◌, ◌^◌, ◌≤◌, ◌&&◌, not, nat_le, cond, true, false}
 use Rattle.std.specs.Prelude.{Bool, ℕ, pos, List, [], ◌∷◌, ◌++◌, length, Option, Some, None}
 use Rattle.std.specs.Prelude.{option_map, option_and_then, unwrap_or, slice_get, find, codes}
@@ -53,8 +53,8 @@ is_referred s tree =
 abbrev pub IsUnreferred : Schema → ℕ → Type 0
 IsUnreferred s tree = is_referred s tree ≡ false
 
--- the schema has a desk's five tables, beside whatever others, and no foreign key refers to those
--- that lose rows
+-- the schema has a desk's five tables, beside any others, and no foreign key refers to those that
+-- lose rows
 pub record HasDesk (s : Schema) : Type 0 where
   pub d : ℕ
   pub m : ℕ
@@ -71,8 +71,8 @@ pub record HasDesk (s : Schema) : Type 0 where
   pub verdicts_alone : IsUnreferred s (tree_of s (codes "verdicts"))
   pub parked_alone : IsUnreferred s (tree_of s (codes "parked"))
 
--- The second schema has the tables of the first, and finds views and indexes by the names by which
--- the first does.
+-- The second schema has the tables of the first, and finds views and indexes by the same names as
+-- the first.
 pub record IsListedAs (s u : Schema) : Type 0 where
   pub tables : u.tables ≡ s.tables
   pub views : (name : List ℕ) → view_named u name ≡ view_named s name
@@ -126,11 +126,11 @@ text_at (Real x) = None
 text_at (Text t) = Some t
 text_at (Blob b) = None
 
--- the roster's text, of an id 1 and a schema 2
+-- the roster's text, if the id is 1 and the schema 2
 abbrev pub mark : Value → Value → Value → Option (List ℕ)
 mark id schema roster = cond (is_one id && is_two schema) (text_at roster) None
 
--- the roster's text, where there is one row, and it has the id 1 and the schema 2
+-- the roster's text, if there is exactly one row, and it has the id 1 and the schema 2
 abbrev pub recorded : List Row → Option (List ℕ)
 recorded [] = None
 recorded (r ∷ []) = mark (column r 0) (column r 2) (column r 3)
@@ -171,15 +171,15 @@ with_roster roster c = record { roster = roster; texts = c.texts }
 abbrev pub has : Content → List ℕ → Bool
 has c text = set.contains c.texts text
 
--- the text of a message, of the length that is read
+-- the text of a message that is short enough to be read: of at most 16,384 bytes
 abbrev pub IsWritten : List ℕ → Type 0
 IsWritten text = (m : Message) × IsMessage m × (text ≡ wire m) × (length text ≤ 16_384)
 
--- The body is no text.
+-- The body is not a text.
 abbrev pub is_stray : Row → Bool
 is_stray r = not (is_text (column r 1))
 
--- The database keeps nothing of a desk's: the names of its tables are unused.
+-- The database keeps no part of a desk: the names of a desk's tables are unused.
 pub record IsFree (s : Schema) : Type 0 where
   pub desk : IsUnused s (codes "desk")
   pub messages : IsUnused s (codes "messages")

@@ -1,4 +1,4 @@
-//! What a message that arrives makes of a desk's tables, within a transaction.
+//! How an arriving message changes a desk's tables, within a transaction.
 
 ghost use Rattle.std.specs.Prelude.{◌≡◌, IfOk, OnOk};
 ghost use Rattle.sqlite.specs.Held.{state};
@@ -36,7 +36,7 @@ fn word_of(kind: VerdictKind) -> &'static str
     }
 }
 
-/// Puts the verdict's row to the verdicts.
+/// Adds the verdict's row to `verdicts`.
 fn count_verdict<S: Alter>(tx: &mut Transaction<'_, S>, verdict: &Verdict) -> Result<(), Fault>
     ensures same_reference { tx.new.conn.ghost_name ≡ tx.old.conn.ghost_name }
     ensures turned { InStep (state S.Store tx.old.conn.now) (state S.Store tx.new.conn.now)
@@ -55,7 +55,7 @@ fn count_verdict<S: Alter>(tx: &mut Transaction<'_, S>, verdict: &Verdict) -> Re
     Ok(())
 }
 
-/// Puts the verdict's row to those that are parked.
+/// Adds the verdict's row to `parked`.
 fn park<S: Alter>(tx: &mut Transaction<'_, S>, verdict: &Verdict, body: &str) -> Result<(), Fault>
     requires { body.now ≡ wire (message_of.Verdict verdict.now) }
     ensures same_reference { tx.new.conn.ghost_name ≡ tx.old.conn.ghost_name }
@@ -67,8 +67,8 @@ fn park<S: Alter>(tx: &mut Transaction<'_, S>, verdict: &Verdict, body: &str) ->
     Ok(())
 }
 
-/// A verdict that is new: it stands among the verdicts where its name has a request, and is parked
-/// where it has none.
+/// Settles a new verdict: its row goes into `verdicts` if its name has a request, and into `parked`
+/// if it has none.
 fn settle_verdict<S: Alter>(
     tx: &mut Transaction<'_, S>,
     verdict: &Verdict,
@@ -87,7 +87,7 @@ fn settle_verdict<S: Alter>(
     }
 }
 
-/// Puts the request's row in place of whatever row its name has: it is disputed where there was
+/// Replaces the name's row, if it has one, by the request's. The new row is disputed if there was
 /// one.
 fn rename<S: Alter>(tx: &mut Transaction<'_, S>, request: &Request, body: &str) -> Result<(), Fault>
     requires { body.now ≡ wire (message_of.Request request.now) }
@@ -118,7 +118,7 @@ fn verdict_in(alloc: Global, row: &Row) -> Result<Verdict, Fault>
     }
 }
 
-/// Puts the row of the verdict that is shown to the verdicts.
+/// Adds to `verdicts` the row of the verdict whose text this row shows.
 fn join_one<S: Alter>(alloc: Global, tx: &mut Transaction<'_, S>, row: &Row) -> Result<(), Fault>
     ensures same_reference { tx.new.conn.ghost_name ≡ tx.old.conn.ghost_name }
     ensures turned { InStep (state S.Store tx.old.conn.now) (state S.Store tx.new.conn.now)
@@ -129,7 +129,7 @@ fn join_one<S: Alter>(alloc: Global, tx: &mut Transaction<'_, S>, row: &Row) -> 
     count_verdict(tx, &verdict)
 }
 
-/// Puts the rows of the verdicts that are shown to the verdicts.
+/// Adds to `verdicts` the rows of the verdicts whose texts these rows show.
 fn join<S: Alter>(alloc: Global, tx: &mut Transaction<'_, S>, rows: &[Row]) -> Result<(), Fault>
     ensures same_reference { tx.new.conn.ghost_name ≡ tx.old.conn.ghost_name }
     ensures turned { InStep (state S.Store tx.old.conn.now) (state S.Store tx.new.conn.now)
@@ -142,7 +142,7 @@ fn join<S: Alter>(alloc: Global, tx: &mut Transaction<'_, S>, rows: &[Row]) -> R
     Ok(())
 }
 
-/// Moves the name's parked verdicts to the verdicts.
+/// Moves the name's parked verdicts to `verdicts`.
 fn join_parked<S: Alter>(
     alloc: Global,
     tx: &mut Transaction<'_, S>,
@@ -159,8 +159,8 @@ fn join_parked<S: Alter>(
     Ok(())
 }
 
-/// A request that is new: its name has its row, and the verdicts that waited for it stand among the
-/// verdicts.
+/// Settles a new request: its name gets its row, and the verdicts that waited for it move to
+/// `verdicts`.
 fn settle_request<S: Alter>(
     alloc: Global,
     tx: &mut Transaction<'_, S>,
@@ -177,7 +177,7 @@ fn settle_request<S: Alter>(
     join_parked(alloc, tx, request)
 }
 
-/// A message that is new to the messages: the rows become those of the messages with it.
+/// Settles a new message: the rows become those of the messages with it.
 pub(crate) fn settle<S: Alter>(
     alloc: Global,
     tx: &mut Transaction<'_, S>,
@@ -196,7 +196,7 @@ pub(crate) fn settle<S: Alter>(
     }
 }
 
-/// Takes a message in: where it is there, nothing changes.
+/// Takes a message in. One that is there already changes nothing.
 pub(crate) fn receive<S: Alter>(
     alloc: Global,
     tx: &mut Transaction<'_, S>,

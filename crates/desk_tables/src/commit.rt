@@ -1,4 +1,4 @@
-//! A message that arrives, in one commit.
+//! A message's arrival, and a new roster's text, each in one commit.
 
 ghost use Rattle.std.specs.Prelude.{◌≡◌, ◌≢◌, true, false, AllPairs, Contains, OnOk, OnErr};
 ghost use Rattle.sqlite.specs.State.{HasCleanDisk, IsLive, Survives};
@@ -18,15 +18,15 @@ use messages::Message;
 use sqlite::{Alter, Connection};
 use std::alloc::Global;
 
-/// The database obeys its schema, as long as the store is open. It reads nothing: a proof names it.
+/// The database obeys its schema, as long as the store is open. It is called for this contract.
 fn obeys<S: Alter>(conn: &Connection<S>)
     ensures { IsLive (state S.Store conn.now) }
 {
     let _schema = conn.schema();
 }
 
-/// Takes a message into a desk with all that it changes, in one commit. One that is there changes
-/// nothing.
+/// Takes a message into a desk, with all that it changes, in one commit. One that is there already
+/// changes nothing.
 pub fn arrive<S: Alter>(
     alloc: Global,
     conn: &mut Connection<S>,

@@ -16,7 +16,7 @@ use messages::{Message, text};
 use sqlite::{Alter, Transaction};
 use std::alloc::Global;
 
-/// Settles a message that stands among the messages.
+/// Settles a message whose text `messages` has already.
 fn refill_one<S: Alter>(
     alloc: Global,
     tx: &mut Transaction<'_, S>,
@@ -31,8 +31,8 @@ fn refill_one<S: Alter>(
     settle(alloc, tx, message, body.as_str())
 }
 
-/// Fills the three tables of rows, where they are empty, from the messages. Each message stands
-/// there once.
+/// Fills the three tables of rows, which are empty, from the messages. No message comes twice in
+/// the list.
 pub fn refill_rows<S: Alter>(
     alloc: Global,
     tx: &mut Transaction<'_, S>,
@@ -64,8 +64,8 @@ fn clear<S: Alter>(tx: &mut Transaction<'_, S>) -> Result<(), Fault>
     Ok(())
 }
 
-/// Makes the rows of the three tables anew: whatever they were, they are those of the messages.
-/// Each message stands there once.
+/// Rebuilds the rows of the three tables from the messages, whatever they were before. No message
+/// comes twice in the list.
 pub(crate) fn renew<S: Alter>(
     alloc: Global,
     tx: &mut Transaction<'_, S>,

@@ -1,4 +1,4 @@
-//! The roster's text, in place of the one before.
+//! Replacing the roster's text.
 
 ghost use Rattle.std.specs.Prelude.{◌≡◌, ◌≢◌, AllPairs, Contains, OnOk};
 ghost use Rattle.sqlite.specs.Held.{state};

@@ -26,7 +26,7 @@ pub(crate) fn has_text<S: Alter>(tx: &mut Transaction<'_, S>, text: &str) -> Res
     Ok(!rows.is_empty())
 }
 
-/// Puts the text of a message in, which the messages do not have.
+/// Inserts the text of a message that the messages do not have.
 pub(crate) fn put_text<S: Alter>(tx: &mut Transaction<'_, S>, text: &str) -> Result<usize, Error>
     ensures same_reference { tx.new.conn.ghost_name ≡ tx.old.conn.ghost_name }
     ensures wrote { InStep (state S.Store tx.old.conn.now)
@@ -39,7 +39,7 @@ pub(crate) fn put_text<S: Alter>(tx: &mut Transaction<'_, S>, text: &str) -> Res
     tx.execute("INSERT INTO messages (body) VALUES (?1)", params![text])
 }
 
-/// Puts a name's row in.
+/// Inserts a name's row.
 pub(crate) fn put_name<S: Alter>(
     tx: &mut Transaction<'_, S>,
     asker: &str,
@@ -62,7 +62,7 @@ pub(crate) fn put_name<S: Alter>(
     )
 }
 
-/// Puts the row of a verdict in whose name has a request.
+/// Inserts the row of a verdict whose name has a request.
 pub(crate) fn put_verdict<S: Alter>(
     tx: &mut Transaction<'_, S>,
     asker: &str,
@@ -86,7 +86,7 @@ pub(crate) fn put_verdict<S: Alter>(
     )
 }
 
-/// Puts the row of a verdict in whose name has no request.
+/// Inserts the row of a verdict whose name has no request.
 pub(crate) fn put_parked<S: Alter>(
     tx: &mut Transaction<'_, S>,
     body: &str,
@@ -108,7 +108,7 @@ pub(crate) fn put_parked<S: Alter>(
     )
 }
 
-/// Takes the name's row out, where it has one.
+/// Deletes the name's row, if it has one.
 pub(crate) fn take_name<S: Alter>(
     tx: &mut Transaction<'_, S>,
     asker: &str,
@@ -129,7 +129,7 @@ pub(crate) fn take_name<S: Alter>(
     )
 }
 
-/// Takes the name's parked verdicts out.
+/// Deletes the name's parked verdicts.
 pub(crate) fn take_parked<S: Alter>(
     tx: &mut Transaction<'_, S>,
     asker: &str,
@@ -191,7 +191,7 @@ pub(crate) fn parked_of<S: Alter>(
     )
 }
 
-/// Takes all rows of the names out.
+/// Deletes all rows of `names`.
 pub(crate) fn clear_names<S: Alter>(tx: &mut Transaction<'_, S>) -> Result<usize, Error>
     ensures same_reference { tx.new.conn.ghost_name ≡ tx.old.conn.ghost_name }
     ensures wrote { InStep (state S.Store tx.old.conn.now) (state S.Store tx.new.conn.now)
@@ -204,7 +204,7 @@ pub(crate) fn clear_names<S: Alter>(tx: &mut Transaction<'_, S>) -> Result<usize
     tx.execute("DELETE FROM names", &[])
 }
 
-/// Takes all rows of the verdicts out.
+/// Deletes all rows of `verdicts`.
 pub(crate) fn clear_verdicts<S: Alter>(tx: &mut Transaction<'_, S>) -> Result<usize, Error>
     ensures same_reference { tx.new.conn.ghost_name ≡ tx.old.conn.ghost_name }
     ensures wrote { InStep (state S.Store tx.old.conn.now) (state S.Store tx.new.conn.now)
@@ -217,7 +217,7 @@ pub(crate) fn clear_verdicts<S: Alter>(tx: &mut Transaction<'_, S>) -> Result<us
     tx.execute("DELETE FROM verdicts", &[])
 }
 
-/// Takes all rows of the parked verdicts out.
+/// Deletes all rows of `parked`.
 pub(crate) fn clear_parked<S: Alter>(tx: &mut Transaction<'_, S>) -> Result<usize, Error>
     ensures same_reference { tx.new.conn.ghost_name ≡ tx.old.conn.ghost_name }
     ensures wrote { InStep (state S.Store tx.old.conn.now) (state S.Store tx.new.conn.now)
@@ -230,7 +230,7 @@ pub(crate) fn clear_parked<S: Alter>(tx: &mut Transaction<'_, S>) -> Result<usiz
     tx.execute("DELETE FROM parked", &[])
 }
 
-/// Takes the desk's row out.
+/// Deletes the row of `desk`.
 pub(crate) fn clear_desk<S: Alter>(tx: &mut Transaction<'_, S>) -> Result<usize, Error>
     ensures same_reference { tx.new.conn.ghost_name ≡ tx.old.conn.ghost_name }
     ensures marked { InStep (state S.Store tx.old.conn.now)
@@ -243,7 +243,7 @@ pub(crate) fn clear_desk<S: Alter>(tx: &mut Transaction<'_, S>) -> Result<usize,
     tx.execute("DELETE FROM desk", &[])
 }
 
-/// Puts the desk's row in, with the roster's text, where there is none.
+/// Inserts the row of `desk`, with the roster's text, if there is none.
 pub fn put_roster<S: Alter>(tx: &mut Transaction<'_, S>, roster: &str) -> Result<usize, Error>
     ensures same_reference { tx.new.conn.ghost_name ≡ tx.old.conn.ghost_name }
     ensures marked { InStep (state S.Store tx.old.conn.now) (state S.Store tx.new.conn.now)

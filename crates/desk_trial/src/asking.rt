@@ -302,7 +302,7 @@ pub fn ask_holdings<K: Keeper>(said: &mut String, desk: &mut Desk<K>) -> Result<
     }
 }
 
-/// Adds which messages these are the texts of.
+/// Adds the messages whose texts these are.
 fn say_texts(said: &mut String, texts: &[String]) -> Result<(), Trouble> {
     for text in texts {
         said.push_str(if text.as_str() == APPROVAL {

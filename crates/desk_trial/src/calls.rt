@@ -115,7 +115,7 @@ pub fn make_call<K: Keeper>(alloc: Global, call: Call, keeper: K) -> (Result<Ans
     }
 }
 
-/// What a keeper tells that it keeps.
+/// What a keeper says that it keeps.
 #[derive(Clone, Copy)]
 enum Thing {
     /// A desk of one of the rosters.
@@ -124,7 +124,7 @@ enum Thing {
     State(State),
 }
 
-/// What a keeper tells.
+/// What a keeper's answer says that it keeps.
 fn thing_of(found: Result<Found, KeeperError>) -> Thing {
     match found {
         Ok(Found::Desk(text)) => {

@@ -88,8 +88,8 @@ pub fn make_both<K: Keeper>(
 }
 
 /// Whether a delivery over a desk in the state `before` ended as it may: acknowledged, and it leads
-/// to `after`; or refused over the storage, and nothing changed. A question after it is answered
-/// so, or refused over the storage.
+/// to `after`; or refused over the storage, and nothing changed. The questions after it find that
+/// state, or are refused over the storage.
 fn is_delivered(delivered: Delivered, before: State, after: State) -> bool {
     let (is_known, state) = match delivered.answer {
         Answer::Done => (true, after),
@@ -119,9 +119,9 @@ pub fn are_well(both: Both) -> bool {
         && request.then == State::Granted
 }
 
-/// Whether the next opening may find the message there, or may not, after its delivery. What was
-/// acknowledged is there. What was refused is not there where the desk went on to answer, and else
-/// it may be.
+/// Whether the next opening may find the message there, or missing, after its delivery. What was
+/// acknowledged is there. What was refused is missing where the desk went on to answer; otherwise
+/// it may be there.
 fn may_be(delivered: Delivered, is_there: bool) -> bool {
     if delivered.answer == Answer::Done {
         is_there

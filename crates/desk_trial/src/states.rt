@@ -2,7 +2,7 @@
 
 use std::fmt;
 
-/// What a desk answers to every question, or what is found where there is none.
+/// What a desk answers to every question, or what is found where there is no desk.
 #[derive(Clone, Copy, PartialEq, Eq)]
 pub enum State {
     /// There is nothing of a desk's.
@@ -25,7 +25,7 @@ pub enum State {
     Other,
 }
 
-/// The states of which each has a text.
+/// The states that have a text.
 pub const KNOWN: [State; 6] = [
     State::Fresh,
     State::Parked,

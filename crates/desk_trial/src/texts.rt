@@ -5,7 +5,7 @@ use roster::Roster;
 use std::alloc::Global;
 use sudo_syntax::{Policy, read_policy};
 
-/// A roster but for the longest time that its ceiling allows.
+/// A roster without its last line, which is the longest time that its ceiling allows.
 const ROSTER: &str =
     "relays = [\"web\"]\nhosts = [\"db1\"]\nduties = [\"approve-db\", \"audit\", \"operate-db\"]\nconflicts = [[\"approve-db\", \"audit\"]]\n[people]\nann = [\"operate-db\"]\nbob = [\"approve-db\"]\ncarol = [\"approve-db\", \"audit\"]\ndave = [\"approve-db\"]\n[ceilings.db-root]\nask = \"operate-db\"\napprove = \"approve-db\"\nneeds = 1\nhosts = [\"db1\"]\nrunas = [\"root\"]\ncommands = [\"/bin/\"]\n";
 
@@ -41,7 +41,7 @@ pub fn roster_text(alloc: Global, rules: Rules) -> Result<String, Trouble> {
     Ok(text)
 }
 
-/// Which of the rosters this is the text of.
+/// The roster whose text this is, if it is one of these.
 pub fn rules_of(text: &str) -> Option<Rules> {
     let rest = text.strip_prefix(ROSTER)?;
     if rest == longest(Rules::Full) {

@@ -41,7 +41,7 @@ pub none_below_one : (d : Denial) → number d < 1 → ⊥
 none_below_one UnknownPerson l = omega arith
 none_below_one _ l = omega arith
 
--- what holds below a denial's number, and of it, holds below the next
+-- what holds for a denial, and for those with lower numbers, holds for all below the next number
 below_next : (P : Denial → Type 0) (d : Denial) → ((e : Denial) → number e < number d → P e) → P d → (e : Denial) → number e < number d + 1 → P e
 below_next P d below at_it e l =
     elim (cases_lt (number e) (number d)) as (λ _. P e) [

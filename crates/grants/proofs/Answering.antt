@@ -17,7 +17,7 @@ use Rattle.grants.specs.declared.denial.Denial.TheVariants.{UnknownPerson, Unkno
 use Rattle.grants.specs.declared.denial.Denial.TheVariants.{RunasOutside, CommandOutside, WindowTooLong, WindowBackwards}
 use Rattle.grants.proofs.AdmissionLemmas.{same_denial}
 
--- what holds of the request's ceiling holds of the one that it is admitted under
+-- what holds for the request's ceiling holds for the one that it is admitted under
 under : (f : RosterFields Cmnd) (r : RequestFields) (a : AdmitsRequest f r) (P : CeilingFields Cmnd → Type 0) → UnderCeiling f r P → P a.ceiling
 under f r a P h = subst P (same_Some h.0 a.ceiling (sym h.1 ∙ a.may_ask.ceiling_is)) h.2
 

@@ -1,4 +1,4 @@
--- Verdicts that do not count change nothing, and whose do not.
+-- Verdicts that do not count change nothing, and whose verdicts do not count.
 use Rattle.std.proofs.Common.{◌≡◌, ◌≢◌, ℕ, Bool, true, false, ◌||◌, List, [], ◌∷◌, ◌++◌, refl, sym, subst, inl, inr}
 use Rattle.std.specs.List.{Contains}
 use Rattle.std.proofs.lemmas.Bool.{both_ways, false_from_ne_true}

@@ -7,18 +7,18 @@ use Rattle.grants.specs.private.Firsts.{is_sooner, earliest_from, earliest_of}
 use Rattle.grants.proofs.MemberCases.{nothing_there, cases_behind}
 use Rattle.grants.proofs.Members.{Contains-head, Contains-behind}
 
--- one of the marks that pass, of which none is earlier
+-- one of the marks that pass, and none of them is earlier
 pub record IsFirst (test : Mark → Bool) (marks : List Mark) (first : Mark) : Type 0 where
   pub among : Contains marks first
   pub passes : test first ≡ true
   pub least : (r : Mark) → Contains marks r → test r ≡ true → first.at ≤ r.at
 
--- one that passes and is the first, or that none passes
+-- the first mark that passes; or none, if no mark passes
 abbrev pub IsEarliest : (Mark → Bool) → List Mark → Option Mark → Type 0
 IsEarliest test marks None = (r : Mark) → Contains marks r → test r ≡ true → ⊥
 IsEarliest test marks (Some first) = IsFirst test marks first
 
--- where a mark stands before the others
+-- what is found if the search begins with a mark
 record FromMark (test : Mark → Bool) (start : Mark) (marks : List Mark) : Type 0 where
   first : Mark
   is : earliest_from (Some start) test marks ≡ Some first
@@ -26,7 +26,7 @@ record FromMark (test : Mark → Bool) (start : Mark) (marks : List Mark) : Type
   low : first.at ≤ start.at
   least : (r : Mark) → Contains marks r → test r ≡ true → first.at ≤ r.at
 
--- what is not sooner and passes, or does not pass, is no earlier
+-- a mark that passes, but not as a sooner one, is no earlier
 no_earlier : (test : Mark → Bool) (start r : Mark) → (is_sooner r (Some start) && test r) ≡ false → test r ≡ true → start.at ≤ r.at
 no_earlier test start r e t =
     elim (and_cases (is_sooner r (Some start)) (test r) e) as (λ _. start.at ≤ r.at) [
@@ -116,7 +116,7 @@ is_earliest test (s ∷ rs) =
           subst (IsEarliest test (s ∷ rs)) (sym is) (one_more test s rs (earliest_of test rs) e (is_earliest test rs))
     ]
 
--- a test of what a list is shown as
+-- a test of the images of a list's elements
 pub any_shown : {A B : Type 0} (f : A → B) (p : B → Bool) (xs : List A) → list_any (λ x. p (f x)) xs ≡ list_any p (map f xs)
 any_shown f p [] = refl
 any_shown f p (x ∷ xs) = ap (λ (b : Bool). p (f x) || b) (any_shown f p xs)

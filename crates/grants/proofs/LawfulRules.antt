@@ -23,13 +23,13 @@ all_append : {X : Type 0} (P : X → Type 0) (xs ys : List X) → AllByRecursion
 all_append P [] ys a b = b
 all_append P (x ∷ xs) ys a b = (a.0, all_append P xs ys a.1 b)
 
--- what holds of each rule holds of it as an entry
+-- what holds for each rule holds for it as an entry
 all_rules : (P : Rule → Type 0) (Q : Entry → Type 0) → ((r : Rule) → P r → Q (entries.Rule r))
     → (rules : List Rule) → AllByRecursion P rules → AllByRecursion Q (map entries.Rule rules)
 all_rules P Q from [] each = tt
 all_rules P Q from (r ∷ rules) each = (from r each.0, all_rules P Q from rules each.1)
 
--- entries that may stand anywhere may stand behind any
+-- entries that may stand anywhere may be added after any others
 placed_append : (above es more : List Entry) → ArePlaced above es → AllByRecursion (λ e. (a : List Entry) → IsPlaced a e) more → ArePlaced above (es ++ more)
 placed_append above [] [] placed each = tt
 placed_append above [] (e ∷ more) placed each = (each.0 above, placed_append (e ∷ above) [] more tt each.1)
@@ -63,7 +63,7 @@ host_short : (w : List ℕ) → is_host_name w ≡ true → length w ≤ 32
 host_short [] h = omega arith
 host_short (b ∷ bs) h = leb-true (length (b ∷ bs)) 32 (and_parts (is_lower b && list_all is_host_byte bs) (leb (length (b ∷ bs)) 32) (host_shape (b ∷ bs) h)).1
 
--- texts of so many bytes at most
+-- texts of at most so many bytes
 within : (v w : List ℕ) (m n : ℕ) → length v ≤ m → length w ≤ n → length (v ++ w) ≤ m + n
 within v w m n a b = omega (arith, length-append v w, a, b)
 

@@ -46,7 +46,7 @@ each_from P Q f (x ∷ xs) h = (f x h.0, each_from P Q f xs h.1)
 
 -- ---- the directory of a file
 
--- behind the last slash of a file's path stands a component
+-- after the last slash of a file's path comes a component
 name_is : (f y name : List ℕ) → is_absolute f ≡ true → f ≡ y ++ 47 ∷ name → AllByRecursion (λ b. (b == 47) ≡ false) name → is_component name ≡ true
 name_is f [] name h is plain =
     let comps : are_components name ≡ true = (and_parts true (are_components name) (ap is_absolute (sym is) ∙ h)).1 in
@@ -76,7 +76,7 @@ in_same_dir d f y name is hn same =
     let whole : f ≡ d ++ name = is ∙ sym (append_assoc y (47 ∷ []) name) ∙ ap (λ (z : List ℕ). z ++ name) (sym same) in
     ap (is_directly_in d) whole ∙ within d name hn
 
--- a file's directory, its last slash among it, and what stands behind it
+-- a file's directory, with its last slash, and what comes after it
 pub record Parted (f dir : List ℕ) : Type 0 where
   pub front : List ℕ
   pub name : List ℕ

@@ -105,7 +105,7 @@ either_there k (x ∷ xs) r h = go (mark_cmp k x) (either_there k xs r) h
 
 -- ---- growth
 
--- where nothing is said of the kind, nothing is kept
+-- where there is no verdict of the kind, nothing is kept
 pub keep_nothing : (set : List Message) (q : RequestFields) (kind : VerdictKind)
     → ((v : VerdictFields) → Contains set (Verdict v) → IsAbout q v → v.kind ≡ kind → ⊥) → Keep set q kind []
 unfolding IsStrictlySortedBy

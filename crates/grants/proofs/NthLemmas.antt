@@ -15,7 +15,7 @@ use Rattle.grants.proofs.StatusLaws.{at_least_more}
 
 -- ---- different people
 
--- n + 1 different people are n different people but for one
+-- without any one person, n + 1 different people are at least n different people
 but_for_one : (n : ℕ) (P : List ℕ → Type 0) (x : List ℕ) → AtLeast (suc n) P → AtLeast n (λ other. P other × (other ≢ x))
 but_for_one zero P x h = tt
 but_for_one (suc n) P x h =
@@ -33,7 +33,7 @@ but_for_one (suc n) P x h =
 
 -- ---- marks of others
 
--- the person has a mark by the moment that passes
+-- the person has a mark that passes, by the moment
 pub record HasBy (test : Mark → Bool) (marks : List Mark) (moment : ℕ) (person : List ℕ) : Type 0 where
   pub mark : Mark
   pub among : Contains marks mark
@@ -77,7 +77,7 @@ abbrev pub IsNth : ℕ → (ℕ → List ℕ → Type 0) → Option ℕ → Type
 IsNth n P o =
     MatchOption o ((moment : ℕ) → AtLeast n (P moment) → ⊥) (λ moment. AtLeast n (P moment) × ((other : ℕ) → AtLeast n (P other) → moment ≤ other))
 
--- where as many have the one property as the other
+-- if as many people have the one property as the other, both have the same least moment
 pub nth_same : (n : ℕ) (P Q : ℕ → List ℕ → Type 0) → ((moment : ℕ) → AtLeast n (P moment) → AtLeast n (Q moment))
     → ((moment : ℕ) → AtLeast n (Q moment) → AtLeast n (P moment)) → (o : Option ℕ) → IsNth n P o → IsNth n Q o
 nth_same n P Q to back None none = λ moment h. none moment (back moment h)
@@ -87,7 +87,7 @@ module _ (test : Mark → Bool) (marks : List Mark) where
   abbrev By : List (List ℕ) → ℕ → List ℕ → Type 0
   By others = HasBy (is_of_another test others) marks
 
-  -- what others than these have is what others than one of them have who is not that one
+  -- to leave out these people and one more is to leave out these people, and then that one
   but_one : (others : List (List ℕ)) (x : List ℕ) (moment : ℕ) (person : List ℕ) → By others moment person × (person ≢ x) → By (others ++ x ∷ []) moment person
   but_one others x moment person h = record {
     mark = h.0.mark;
@@ -102,13 +102,13 @@ module _ (test : Mark → Bool) (marks : List Mark) where
       let less = another_less test others x h.mark h.passes in
       (record { mark = h.mark; among = h.among; passes = less.0; person_is = h.person_is; by_then = h.by_then }, λ same. less.1 (sym (h.person_is ∙ same)))
 
-  -- without the first one, one fewer of the others
+  -- if n + 1 have a mark, then n still have one when one more person is left out
   fewer : (others : List (List ℕ)) (x : List ℕ) (n moment : ℕ) → AtLeast (suc n) (By others moment) → AtLeast n (By (others ++ x ∷ []) moment)
   fewer others x n moment h =
       at_least_more n (λ person. By others moment person × (person ≢ x)) (By (others ++ x ∷ []) moment) (but_one others x moment)
       (but_for_one n (By others moment) x h)
 
-  -- and with the first one again
+  -- and one more has a mark when the first person is not left out any more
   again : (others : List (List ℕ)) (first : Mark) (n moment : ℕ) → IsEarliest (is_of_another test others) marks (Some first)
       → AtLeast (suc n) (By (others ++ first.person ∷ []) moment) → AtLeast (suc (suc n)) (By others moment)
   again others first n moment is h =
@@ -174,7 +174,7 @@ module _ (test : Mark → Bool) (marks : List Mark) where
   no_more others zero e = ap (option_map moment_of) e
   no_more others (suc more) e = ap (option_and_then (λ (first : Mark). after_others test (others ++ first.person ∷ []) more marks)) e
 
-  -- where two at least are wanted, and there is a first one alone
+  -- at least two are wanted, and there is only a first one
   pub no_second : (n : ℕ) (r : Mark) → 2 ≤ n → First [] ≡ Some r → First (r.person ∷ []) ≡ None → nth_of test n marks ≡ None
   no_second n r two e f =
       let count : n - 1 ≡ suc (n - 2) = omega (arith, two) in

@@ -112,7 +112,7 @@ is_time : (f : RosterFields Cmnd) (c : CeilingFields Cmnd) (set : List Message) 
     → IsUnder f q c → IsGiven f set q Approve v → v.by ≡ person → time_of f c q person (Verdict v) ≡ Some v.at
 is_time f c set q person v at g by = cond-true _ (Some v.at) None (does_approve f c set q person v at g by)
 
--- what has a moment is an approval
+-- a message that has a moment is an approval
 approval_at : (f : RosterFields Cmnd) (c : CeilingFields Cmnd) (q : RequestFields) (person : List ℕ) (m : Message) (n : ℕ)
     → time_of f c q person m ≡ Some n → (v : VerdictFields) × (m ≡ Verdict v) × (approves f c q person v ≡ true) × (v.at ≡ n)
 approval_at f c q person (Request r) n e = absurd (not_none n e)

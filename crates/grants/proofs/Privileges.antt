@@ -1,4 +1,4 @@
--- Least privilege: what is admitted lies inside its ceiling, and more that is allowed denies nothing that was admitted.
+-- Least privilege: what is admitted lies inside its ceiling, and allowing more denies nothing that was admitted.
 use Rattle.std.proofs.Common.{◌≡◌, ℕ, ◌+◌, ◌≤◌, true, List, Some, sym, ◌∙◌, subst, arith}
 use Rattle.std.specs.Prelude.{Contains}
 use Rattle.std.proofs.lemmas.Option.{same_Some}

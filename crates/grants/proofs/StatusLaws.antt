@@ -27,7 +27,7 @@ not_alone set name q d alone named =
     d.differ (alone.alone d.first d.first_asked (one_request d.first q name d.first_named named)
     ∙ sym (alone.alone d.second d.second_asked (one_request d.second q name d.second_named named)))
 
--- both hold of the one request
+-- both hold for the one request
 both : (f : RosterFields Cmnd) (set : List Message) (name : RequestName) (P Q : RequestFields → Type 0)
     → IsAdmitted f set name P → IsAdmitted f set name Q → (q : RequestFields) × P q × Q q
 both f set name P Q x y =
@@ -45,7 +45,7 @@ one_window f set q v w x y =
     let end : v.end ≡ w.end = omega (arith, x.1.greatest w.end y.1.inside, y.1.greatest v.end x.1.inside) in
     rw (start, end) refl
 
--- of two different statuses the first to apply leaves no room for the second
+-- where the first of two different statuses applies, the second does not
 later_not : (f : RosterFields Cmnd) (set : List Message) (name : RequestName) (P Q : RequestFields → Type 0)
     → ((q : RequestFields) → P q → Q q → ⊥) → IsAdmitted f set name P → IsAdmitted f set name Q → ⊥
 later_not f set name P Q apart x y = let h = both f set name P Q x y in apart h.0 h.1 h.2

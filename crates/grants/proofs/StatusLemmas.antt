@@ -203,7 +203,7 @@ ends f set q (Some m) is =
 
 -- ---- statuses
 
--- what is known of a request before it is asked whether it is complete
+-- what is known about a request before the question whether it is complete
 abbrev IsOpen : RosterFields Cmnd → List Message → RequestFields → Type 0
 IsOpen f set q = StandsAlone set q × AdmitsRequest f q × (¬ IsRefused f set q)
 

@@ -44,7 +44,7 @@ same_head x y xs ys low high to back =
       ]
     ]
 
--- behind the head stands what is not the head
+-- where the heads are the same, the rest of one list lies within the rest of the other
 within_tail : (x : Mark) (xs ys : List Mark) → AllByRecursion (λ r. mark_cmp x r ≡ Less) xs → Within (x ∷ xs) (x ∷ ys) → Within xs ys
 within_tail x xs ys low to r h =
     elim (cases_behind x ys r (to r (Contains-behind x xs r h))) as (λ _. Contains ys r) [
@@ -89,7 +89,7 @@ marks set a b s t named = (
 turned : (p q : RequestFields) → SameName p q → SameName q p
 turned p q named = (sym named.0, sym named.1)
 
--- where the one is disputed the other is
+-- if one is disputed, so is the other
 also_disputed : (set : List Message) (a b : Kept) → StandsFor set a → StandsFor set b
     → SameName a.request b.request → a.is_disputed ≡ true → b.is_disputed ≡ false → ⊥
 also_disputed set a b s t named two single =

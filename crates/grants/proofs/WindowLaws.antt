@@ -10,7 +10,7 @@ use Rattle.grants.specs.Statuses.{InWindow, IsFirstMoment, IsLastMoment}
 use Rattle.grants.specs.Completion.{IsFirstRevocation}
 use Rattle.grants.proofs.StatusLemmas.{later_too}
 
--- a moment of the window for a moment where the rest holds
+-- from one moment of the window to another at which the rest holds
 moved : (f : RosterFields Cmnd) (set : List Message) (q : RequestFields) (old new : ℕ) → InWindow f set q old → q.from ≤ new
     → ((m : ℕ) → IsComplete f set q m → m ≤ new) → new ≤ q.until → ¬ RevokedBy f set q new → InWindow f set q new
 moved f set q old new w from behind until bare = record {

@@ -131,7 +131,7 @@ beyond_file f g r s hf hg e =
 pub beyond_dir : (f d : List ℕ) (r : ArgRule) → IsLawful (Path f r) → is_inside (Path f r) (Dir d) ≡ false → ReachesBeyond (Path f r) (Dir d)
 beyond_dir f d r hf e = record { something = file_reaches f r hf; not_matched = e }
 
--- ALL and a file: of two files one is another
+-- ALL and a file: of two files, at least one is a different file
 pub all_beyond_file : (g : List ℕ) (s : ArgRule) → ReachesBeyond All (Path g s)
 all_beyond_file g s =
     elim (cases_Bool (bytes_eq (47 ∷ 97 ∷ []) g)) as (λ _. ReachesBeyond All (Path g s)) [
@@ -148,7 +148,7 @@ dir_long (a ∷ []) h = absurd (both_ways _ refl (dir_parts (a ∷ []) h).1)
 dir_long (a ∷ b ∷ []) h = absurd (both_ways _ refl (and_parts (a == 47) false (dir_parts (a ∷ b ∷ []) h).1).1)
 dir_long (a ∷ b ∷ c ∷ d) h = omega arith
 
--- ALL and a directory: a file of two bytes is in none
+-- ALL and a directory: a file whose path has two bytes is in no directory
 pub all_beyond_dir : (d : List ℕ) → IsLawful (Dir d) → ReachesBeyond All (Dir d)
 all_beyond_dir d hd =
     let long : 3 ≤ length d = dir_long d hd.head.0 in

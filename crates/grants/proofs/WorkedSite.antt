@@ -1,4 +1,4 @@
--- The worked site: what is asked there is admitted, or denied first of all for this.
+-- The worked site: what is asked there is admitted, or this is its first denial.
 use Rattle.std.proofs.Common.{◌≡◌, true, false, [], ◌∷◌, All, refl, lit≤}
 use Rattle.std.specs.Prelude.{codes}
 use Rattle.std.specs.List.{list_any}

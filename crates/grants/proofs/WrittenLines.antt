@@ -34,7 +34,7 @@ regroup : (old by s1 host s2 runas s3 nb eq first s4 na last cmnd nl : List ℕ)
     ++ ((((((nb ++ eq) ++ first) ++ s4) ++ (((na ++ eq) ++ last) ++ s4)) ++ []) ++ cmnd) ++ nl)
 regroup old by s1 host s2 runas s3 nb eq first s4 na last cmnd nl = simp (append-nil, append_assoc)
 
--- what is written of a command is the line of its rule
+-- what is written for a command is the line of its rule
 pub line_is : (old host : List ℕ) (q : RequestFields) (first last : ℕ) (cmnd : Cmnd)
     → (((old ++ who host q) ++ when first last) ++ cmnd_text cmnd) ++ codes "\n" ≡ old ++ line_text (entries.Rule (grant_rule host q first last cmnd))
 line_is old host q first last cmnd =
@@ -52,7 +52,7 @@ lines_suc rule (c ∷ cmnds) (suc i) d h =
     ap (λ (t : List ℕ). line ++ t) (lines_suc rule cmnds i d (omega arith))
     ∙ sym (append_assoc line (lines_text (map rule (take i cmnds))) (line_text (entries.Rule (rule (get_or cmnds i d)))))
 
--- one more behind those so far
+-- one more line after those so far
 pub lines_more : (rule : Cmnd → Rule) (cmnds : List Cmnd) (i : ℕ) (d : Cmnd) (old : List ℕ) → i < length cmnds
     → (old ++ lines_text (map rule (take i cmnds))) ++ line_text (entries.Rule (rule (get_or cmnds i d))) ≡ old ++ lines_text (map rule (take (i + 1) cmnds))
 lines_more rule cmnds i d old h =
@@ -90,7 +90,7 @@ module _ (host : List ℕ) (q : RequestFields) (after : Option ℕ) where
     none_left named over =
         ap (λ (t : Bool). filter (stays after) (cond t (map rule_of q.cmnds) [])) named ∙ none_stays over q.cmnds
 
-  -- ---- of a request that can have none
+  -- ---- a request that can have none
 
   sooner : (o : Option ℕ) (end until : ℕ) → end ≤ until → is_left o until ≡ false → is_left o end ≡ false
   sooner None end until le over = over

@@ -17,7 +17,7 @@ use Rattle.grants.specs.declared.denial.Denial.TheVariants.{WindowTooLong, Windo
 
 -- ---- what a roster admits
 
--- one of the commands holds all that this one reaches
+-- one of the commands reaches all that this one reaches
 abbrev pub LiesInsideOne : (commands : List Cmnd) → Cmnd → Type 0
 LiesInsideOne commands cmnd = (c : Cmnd) × Contains commands c × LiesInside cmnd c
 
@@ -27,30 +27,31 @@ pub record IsWithin (r : RequestFields) (c : CeilingFields Cmnd) : Type 0 where
   pub target : Contains c.runas r.runas
   pub commands : (cmnd : Cmnd) → Contains r.cmnds cmnd → LiesInsideOne c.commands cmnd
 
--- The request's window is as long as the ceiling allows at most, and lies ahead of the request.
+-- The request's window is at most as long as the ceiling allows, begins no earlier than the request
+-- was made, and ends no earlier than it begins.
 pub record IsInTime (r : RequestFields) (c : CeilingFields Cmnd) : Type 0 where
   pub short : r.until ≤ r.from + c.longest
   pub ahead : r.at ≤ r.from
   pub forward : r.from ≤ r.until
 
--- The request's ceiling is this one, and who asks is listed and holds, as the request is made, the
--- duty that it wants of whoever asks.
+-- The request names this ceiling, and the asker is listed and holds, when the request is made, the
+-- duty that the ceiling requires for asking.
 pub record MayAskUnder (f : RosterFields Cmnd)
     (r : RequestFields) (c : CeilingFields Cmnd) : Type 0 where
   pub listed : has_person f r.by ≡ true
   pub ceiling_is : ceiling_at f r.ceiling ≡ Some c
   pub may_ask : holds f r.by c.ask r.at ≡ true
 
--- The roster admits the request: who asks may ask under a ceiling that holds all that is asked for,
--- for so long.
+-- The roster admits the request: the asker may ask under a ceiling that allows all that is asked
+-- for, for so long.
 pub record AdmitsRequest (f : RosterFields Cmnd) (r : RequestFields) : Type 0 where
   pub ceiling : CeilingFields Cmnd
   pub may_ask : MayAskUnder f r ceiling
   pub within : IsWithin r ceiling
   pub in_time : IsInTime r ceiling
 
--- The roster admits the verdict: it lists who gives it, and who asked. Whether it counts is for the
--- request to say.
+-- The roster admits the verdict: it lists the person who gives it and the person who asked. Whether
+-- it counts is decided under the request's ceiling.
 pub record AdmitsVerdict (f : RosterFields Cmnd) (v : VerdictFields) : Type 0 where
   pub listed : has_person f v.by ≡ true
   pub asker_listed : has_person f v.of ≡ true
@@ -61,11 +62,11 @@ Admits f (Verdict v) = AdmitsVerdict f v
 
 -- ---- why a roster denies
 
--- the request's ceiling is in the roster, and this holds of it
+-- the request's ceiling is in the roster, and P holds for it
 abbrev pub UnderCeiling : RosterFields Cmnd → RequestFields → (CeilingFields Cmnd → Type 0) → Type 0
 UnderCeiling f r P = (c : CeilingFields Cmnd) × (ceiling_at f r.ceiling ≡ Some c) × P c
 
--- a host of the request is not among the ceiling's
+-- a host of the request is not among the ceiling's hosts
 abbrev pub HasHostOutside : RequestFields → CeilingFields Cmnd → Type 0
 HasHostOutside r c = (host : List ℕ) × Contains r.hosts host × ¬ Contains c.hosts host
 
@@ -73,7 +74,7 @@ HasHostOutside r c = (host : List ℕ) × Contains r.hosts host × ¬ Contains c
 abbrev pub HasCommandOutside : RequestFields → CeilingFields Cmnd → Type 0
 HasCommandOutside r c = (cmnd : Cmnd) × Contains r.cmnds cmnd × ¬ LiesInsideOne c.commands cmnd
 
--- Each denial, for itself: where it applies to a request.
+-- When each denial, taken by itself, applies to a request.
 abbrev pub DeniesRequest : RosterFields Cmnd → RequestFields → Denial → Type 0
 DeniesRequest f r UnknownPerson = has_person f r.by ≡ false
 DeniesRequest f r UnknownCeiling = ceiling_at f r.ceiling ≡ None
@@ -84,7 +85,7 @@ DeniesRequest f r CommandOutside = UnderCeiling f r (HasCommandOutside r)
 DeniesRequest f r WindowTooLong = UnderCeiling f r (λ c. r.from + c.longest < r.until)
 DeniesRequest f r WindowBackwards = (r.from < r.at) ⊎ (r.until < r.from)
 
--- A verdict meets the first of them alone.
+-- A verdict can meet only the first of them.
 abbrev pub DeniesVerdict : RosterFields Cmnd → VerdictFields → Denial → Type 0
 DeniesVerdict f v UnknownPerson = (has_person f v.by ≡ false) ⊎ (has_person f v.of ≡ false)
 DeniesVerdict f v _ = ⊥

@@ -7,7 +7,7 @@ use Rattle.messages.specs.declared.kind.VerdictKind.TheVariants.{Approve}
 use Rattle.roster.specs.Fields.{RosterFields}
 use Rattle.grants.specs.Verdicts.{AtLeast, HasGiven, RevokedBy}
 
--- The person's earliest approval that counts, made while the person was eligible, is of this
+-- The person's earliest approval that counts, made while the person was eligible, was given at this
 -- moment.
 pub record IsFirstApproval (f : RosterFields Cmnd) (messages : List Message)
     (q : RequestFields) (person : List ℕ) (moment : ℕ) : Type 0 where
@@ -20,7 +20,7 @@ pub record IsNthSmallest (n : ℕ) (At : List ℕ → ℕ → Type 0) (moment : 
   pub enough : AtLeast n (λ person. (m : ℕ) × At person m × (m ≤ moment))
   pub fewer : ¬ AtLeast n (λ person. (m : ℕ) × At person m × (m < moment))
 
--- The first revocation that counts is of this moment.
+-- The first revocation that counts was given at this moment.
 pub record IsFirstRevocation (f : RosterFields Cmnd)
     (messages : List Message) (q : RequestFields) (moment : ℕ) : Type 0 where
   pub revoked : RevokedBy f messages q moment

@@ -9,7 +9,7 @@ use Rattle.roster.specs.Fields.{CeilingFields, RosterFields}
 use Rattle.roster.specs.Relations.{ceiling_at}
 use Rattle.grants.specs.Verdicts.{counts}
 
--- The verdict counts under the ceiling of no request of the set that it is about.
+-- The verdict does not count under the ceiling of any request of the set that it is about.
 abbrev pub NeverCounts : RosterFields Cmnd → List Message → VerdictFields → Type 0
 NeverCounts f messages v =
     (q : RequestFields) (c : CeilingFields Cmnd) → Contains messages (Request q)

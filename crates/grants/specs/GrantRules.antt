@@ -60,9 +60,9 @@ pub record IsGrantRule (r : Rule) : Type 0 where
 abbrev pub grant_rule : List ℕ → RequestFields → (first last : ℕ) → Cmnd → Rule
 grant_rule host q first last cmnd = plain_rule q.by host q.runas (Some first) (Some last) false cmnd
 
--- The rules that a request gives a host: where it names the host and its window is not empty, one
--- for each of its commands, in its order, with the window's first and last moment as dates. None
--- elsewhere.
+-- The rules that a request gives a host: if it names the host and its window is not empty, one for
+-- each of its commands, in its order, with the window's first and last moment as dates; otherwise
+-- none.
 pub record AreRules (f : RosterFields Cmnd) (messages : List Message)
     (q : RequestFields) (host : List ℕ) (rules : List Rule) : Type 0 where
   pub granted : (first last : ℕ) → Contains q.hosts host → IsFirstMoment f messages q first
@@ -82,7 +82,7 @@ rules_for host q (Granted w) =
     if list_any (λ h. bytes_eq h host) q.hosts then map
     (grant_rule host q w.start w.end) q.cmnds else []
 
--- the rules of what the set's messages come to
+-- the rules that follow from what the set's messages come to
 pub record AreGiven (f : RosterFields Cmnd) (messages : List Message)
     (q : RequestFields) (host : List ℕ) (rules : List Rule) : Type 0 where
   pub status : Status

@@ -4,7 +4,8 @@ pub mod Denials
 pub mod Admission
 pub mod Privilege
 pub mod WorkedAdmission
--- statuses: which verdicts count, what the messages about a name come to, and laws of it
+-- statuses: which verdicts count, what the messages about a name come to, and definitions for its
+-- laws
 pub mod Verdicts
 pub mod Statuses
 pub mod Completion

@@ -1,4 +1,5 @@
--- The marks of a summary: of each person every moment of the verdicts of one kind.
+-- The marks of a summary: for each person, every moment at which the person gave a verdict of one
+-- kind.
 use Rattle.std.specs.Prelude.{◌↔◌, List, Contains}
 use Rattle.std.specs.Cmp.Lexicographic.{slice_cmp}
 use Rattle.std.specs.List.Sorted.{IsStrictlySortedBy}
@@ -25,7 +26,7 @@ abbrev pub mark_cmp : Mark → Mark → Ordering
 mark_cmp a b = ordering_then (slice_cmp nat_cmp a.person b.person) (nat_cmp a.at b.at)
 
 -- The marks are the set's verdicts of the kind on the request, whether they count or not: each of
--- them, and once.
+-- them, exactly once.
 pub record Keep (messages : List Message)
     (q : RequestFields) (kind : VerdictKind) (marks : List Mark) : Type 0 where
   pub each : (mark : Mark)

@@ -18,7 +18,7 @@ pub record AsksFor (r : RequestFields) (host target path : List ℕ)
   pub of_request : Contains r.cmnds cmnd
   pub reaches_it : Reaches cmnd path args
 
--- So much the ceiling allows.
+-- The ceiling allows running the path with these arguments, on the host and as the target.
 pub record CeilingAllows (c : CeilingFields Cmnd)
     (host target path : List ℕ) (args : List (List ℕ)) : Type 0 where
   pub host_is : Contains c.hosts host
@@ -36,7 +36,7 @@ pub record IsWider (c d : CeilingFields Cmnd) : Type 0 where
   pub longest : c.longest ≤ d.longest
 
 -- The second roster lists all whom the first lists, with all their duties at each moment, and has a
--- wider ceiling for each of the first.
+-- ceiling at least as wide for each ceiling of the first.
 pub record GivesMore (f g : RosterFields Cmnd) : Type 0 where
   pub people : (person : List ℕ) → has_person f person ≡ true → has_person g person ≡ true
   pub duties : (person duty : List ℕ) (at : ℕ)

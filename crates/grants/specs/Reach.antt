@@ -16,7 +16,7 @@ pub record Reaches (cmnd : Cmnd) (path : List ℕ) (args : List (List ℕ)) : Ty
   pub args_are : AreArgs args
   pub matches_it : matches cmnd path args ≡ true
 
--- The one lies inside the other: whatever the one reaches, the other reaches too.
+-- The inner command lies inside the outer: whatever the inner reaches, the outer reaches too.
 abbrev pub LiesInside : (inner outer : Cmnd) → Type 0
 LiesInside inner outer =
     (path : List ℕ) (args : List (List ℕ)) → Reaches inner path args → Reaches outer path args
@@ -30,7 +30,7 @@ pub record ReachesSomething (cmnd : Cmnd) : Type 0 where
   pub reached : Reaches cmnd path args
   pub plain : is_sudoedit path ≡ false
 
--- something such that the one reaches, and the other does not match
+-- something such that the inner command reaches, and the outer does not match
 pub record ReachesBeyond (inner outer : Cmnd) : Type 0 where
   pub something : ReachesSomething inner
   pub not_matched : matches outer something.path something.args ≡ false

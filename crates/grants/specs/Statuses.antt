@@ -41,7 +41,7 @@ pub record IsLastMoment (f : RosterFields Cmnd) (messages : List Message)
 
 -- ---- statuses
 
--- The set has one request of the name, the roster still admits it, and this holds of it.
+-- The set has one request of the name, the roster still admits it, and P holds for it.
 pub record IsAdmitted (f : RosterFields Cmnd) (messages : List Message)
     (name : RequestName) (P : RequestFields → Type 0) : Type 0 where
   pub request : RequestFields
@@ -84,7 +84,7 @@ IsStatus f messages name (Granted w) =
 
 -- ---- what is in force at a moment
 
--- the window of what is granted, where it holds the moment
+-- the window of a grant, if it contains the moment
 abbrev pub window_at : ℕ → Status → Option Window
 window_at at Disputed = None
 window_at at Lapsed = None

@@ -20,9 +20,9 @@ pub record Kept : Type 0 where
   pub refusals : List Mark
   pub revocations : List Mark
 
--- It keeps one request of the set, is disputed exactly where the set has another of its name, and
--- keeps of each person and of each kind every moment at which the person has given such a verdict
--- on it.
+-- It keeps one request of the set, is disputed exactly if the set has another of its name, and
+-- keeps for each person and each kind every moment at which the person has given a verdict of the
+-- kind on it.
 pub record StandsFor (messages : List Message) (k : Kept) : Type 0 where
   pub asked : Contains messages (Request k.request)
   pub alone : k.is_disputed ≡ false → (p : RequestFields)
@@ -40,7 +40,7 @@ abbrev pub approval_cmp : List ℕ × ℕ → List ℕ × ℕ → Ordering
 approval_cmp a b = ordering_then (slice_cmp nat_cmp a.0 b.0) (nat_cmp a.1 b.1)
 
 -- Each approval of the request, as its author and its moment, whether it counts or not; in order,
--- and none twice.
+-- and each once.
 pub record AreApprovals (messages : List Message)
     (q : RequestFields) (list : List (List ℕ × ℕ)) : Type 0 where
   pub in_order : IsStrictlySortedBy approval_cmp list

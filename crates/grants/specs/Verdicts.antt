@@ -1,5 +1,5 @@
--- Which verdicts on a request count, and what they come to. The set of messages is given as a list,
--- of which each definition asks only which messages it contains.
+-- Which verdicts on a request count, and what they come to. The set of messages is given as a list;
+-- each definition asks only which messages it contains.
 use Rattle.std.specs.Prelude.{◌≡◌, ◌≢◌, ℕ, zero, suc, ◌≤◌, Bool, true, List, Contains, Some}
 use Rattle.sudo_words.specs.declared.cmnd.Cmnd.{Cmnd}
 use Rattle.messages.specs.Fields.{RequestFields, VerdictFields}
@@ -32,16 +32,16 @@ pub record IsDisputed (messages : List Message) (name : RequestName) : Type 0 wh
 -- ---- verdicts that count
 
 -- Who may give which verdict at a moment, on what the asker asked for (NIST SP 800-53 AC-5): people
--- approve and refuse who are eligible then; the asker, and whoever holds the approving duty then,
--- revoke.
+-- who are eligible then may approve and refuse; the asker, and whoever holds the approving duty
+-- then, may revoke.
 abbrev pub may_give : RosterFields Cmnd → CeilingFields Cmnd
     → VerdictKind → (person asker : List ℕ) → (at : ℕ) → Bool
 may_give f c Approve person asker at = eligible f person asker c at
 may_give f c Refuse person asker at = eligible f person asker c at
 may_give f c Revoke person asker at = may_revoke f person asker c at
 
--- Under the ceiling the verdict counts: its author might give it at its own moment, whatever the
--- author may do before or after.
+-- The verdict counts under the ceiling: its author was allowed to give it at its own moment,
+-- whatever the author may do before or after.
 abbrev pub counts : RosterFields Cmnd → CeilingFields Cmnd → VerdictFields → Bool
 counts f c v = may_give f c v.kind v.by v.of v.at
 
@@ -55,7 +55,8 @@ pub record IsGiven (f : RosterFields Cmnd) (messages : List Message)
   pub ceiling_is : ceiling_at f q.ceiling ≡ Some ceiling
   pub counts_is : counts f ceiling v ≡ true
 
--- By this moment the person has given one: it counts by what the person might do as it was given.
+-- By this moment the person has given one, which counts by what the person was allowed to do when
+-- it was given.
 pub record HasGiven (f : RosterFields Cmnd) (messages : List Message)
     (q : RequestFields) (kind : VerdictKind) (moment : ℕ) (person : List ℕ) : Type 0 where
   pub verdict : VerdictFields
@@ -85,8 +86,8 @@ pub record IsComplete (f : RosterFields Cmnd) (messages : List Message)
 
 -- ---- refusals and revocations
 
--- The set has a refusal that counts and does not come after the completion, or any that counts
--- where there is none.
+-- The set has a refusal that counts and does not come after the completion, or any that counts if
+-- there is no completion.
 pub record IsRefused (f : RosterFields Cmnd)
     (messages : List Message) (q : RequestFields) : Type 0 where
   pub verdict : VerdictFields

@@ -77,6 +77,6 @@ asked_for cmnd = record asked { cmnds = cmnd ∷ [] }
 abbrev pub asked_from : (from until : ℕ) → RequestFields
 asked_from from until = record asked { from = from; until = until }
 
--- an approval by the one of what the other asked for
+-- an approval by one person of what another asked for
 abbrev pub approved : (by of : List ℕ) → VerdictFields
 approved by of = record { at = 30_000; by = by; kind = Approve; no = 7; of = of }

@@ -34,11 +34,11 @@ team = record {
   ceilings = (codes "db-root", by_two) ∷ [];
 }
 
--- the same team, with a ceiling of a second less than ann asks for
+-- the same team, with a ceiling whose longest window is a second shorter than ann asks for
 abbrev pub shorter : RosterFields Cmnd
 shorter = record team { ceilings = (codes "db-root", record by_two { longest = 7199 }) ∷ [] }
 
--- what somebody says at a moment of what ann asked, for nine to eleven
+-- what somebody says at a moment about ann's request for nine to eleven
 abbrev pub says : VerdictKind → (by : List ℕ) → (at : ℕ) → VerdictFields
 says kind by at = record { at = at; by = by; kind = kind; no = 7; of = codes "ann" }
 
@@ -51,7 +51,7 @@ refuses = says Refuse
 abbrev pub revokes : (by : List ℕ) → (at : ℕ) → VerdictFields
 revokes = says Revoke
 
--- bob approves, then dave does, which completes it; and what more is said
+-- bob approves, then dave does, which completes it; and then further verdicts
 abbrev pub both_and : List VerdictFields → List VerdictFields
 both_and more = approves (codes "bob") 30_600 ∷ approves (codes "dave") 33_000 ∷ more
 
@@ -64,7 +64,7 @@ ComesTo verdicts status =
 abbrev pub Gives : List VerdictFields → (start end : ℕ) → Type 0
 Gives verdicts start end = ComesTo verdicts (Granted (record { start = start; end = end }))
 
--- ---- duties of some days
+-- ---- duties on some days only
 
 -- The same team by days: bob approves from 2 January on, and carol, who always approves, audits up
 -- to 1 January.

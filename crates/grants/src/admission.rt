@@ -17,8 +17,8 @@ use messages::{Message, Request, Verdict};
 use roster::{Ceiling, Roster};
 use sudo_words::{ArgRule, Cmnd, FilePath};
 
-/// The ceiling that the request names, where who asks is listed and may ask under it at the
-/// request's own moment.
+/// The ceiling that the request names, if the asker is listed and may ask under it at the request's
+/// own moment; otherwise the first denial that applies.
 fn ceiling_for<'r>(roster: &'r Roster, request: &Request) -> Result<&'r Ceiling, Denial>
     ensures { MatchResult result
         (λ c. MayAskUnder roster.now.says request.now c.now)
@@ -36,7 +36,7 @@ fn ceiling_for<'r>(roster: &'r Roster, request: &Request) -> Result<&'r Ceiling,
     Ok(ceiling)
 }
 
-/// Whether each host is among the ceiling's.
+/// Whether each host is among the ceiling's hosts.
 fn hosts_inside(request: &Request, ceiling: &Ceiling) -> bool
     ensures { result ≡ list_all (is_among ceiling.now.hosts) request.now.hosts }
 {
@@ -46,7 +46,7 @@ fn hosts_inside(request: &Request, ceiling: &Ceiling) -> bool
         .all(|host| ceiling.hosts().contains(host))
 }
 
-/// Whether the target is among the ceiling's.
+/// Whether the target is among the ceiling's targets.
 fn target_inside(request: &Request, ceiling: &Ceiling) -> bool
     ensures { result ≡ is_among ceiling.now.runas request.now.runas }
 {
@@ -88,7 +88,8 @@ fn holds_file(file: &FilePath, rule: &ArgRule, ceiling: &Ceiling) -> bool
     ceiling.has_file(file, rule)
 }
 
-/// Whether the command lies inside one of the ceiling's. Each that it can lie inside is looked up.
+/// Whether the command lies inside one of the ceiling's. Each command that it can lie inside is
+/// looked up.
 fn lies_inside_one(cmnd: &Cmnd, ceiling: &Ceiling) -> bool
     requires lawful { All IsLawful ceiling.now.commands }
     requires no_all { list_any forms.is_all ceiling.now.commands ≡ false }
@@ -131,7 +132,7 @@ fn is_backwards(request: &Request) -> bool
     request.from() < request.at() || request.until() < request.from()
 }
 
-/// Admits the request, or says the first denial that applies to it. It takes no memory.
+/// Admits the request, or answers the first denial that applies to it. It takes no memory.
 pub(crate) fn admit_request(roster: &Roster, request: &Request) -> Result<(), Denial>
     ensures { MatchResult result
         (λ _. AdmitsRequest roster.now.says request.now)
@@ -156,7 +157,7 @@ pub(crate) fn admit_request(roster: &Roster, request: &Request) -> Result<(), De
     Ok(())
 }
 
-/// Admits the verdict, where the roster lists who gives it and who asked.
+/// Admits the verdict, if the roster lists the person who gives it and the person who asked.
 fn admit_verdict(roster: &Roster, verdict: &Verdict) -> Result<(), Denial>
     ensures { MatchResult result
         (λ _. AdmitsVerdict roster.now.says verdict.now)
@@ -169,11 +170,11 @@ fn admit_verdict(roster: &Roster, verdict: &Verdict) -> Result<(), Denial>
     }
 }
 
-/// Admits the message, or says the first denial that applies to it. It takes no memory.
+/// Admits the message, or answers the first denial that applies to it. It takes no memory.
 pub fn admit(roster: &Roster, message: &Message) -> Result<(), Denial>
-    // It is admitted exactly where the roster admits it.
+    // It is admitted exactly if the roster admits it.
     ensures admitted { IsOk result ↔ Admits roster.now.says message.now }
-    // A denial is answered exactly where it is the first that applies.
+    // A denial is answered exactly if it is the first that applies.
     ensures denied { (d : AnyDenial) → ((result ≡ Err d) ↔ IsDenial roster.now.says message.now d) }
 {
     match message {

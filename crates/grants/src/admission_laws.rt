@@ -17,7 +17,8 @@ ghost use Rattle.grants.specs.WorkedAdmission as worked;
 ghost use Rattle.grants.specs.declared.denial.Denial.{Denial as AnyDenial};
 ghost use Rattle.grants.specs.declared.denial.Denial.TheVariants as denial;
 
-/// A message of a roster's readers is admitted, or has a first denial; never both, and never two.
+/// Under a roster that was read from a text, each message is admitted or has a first denial; never
+/// both, and never two. A verdict's only denial is `UnknownPerson`.
 pub fn one_answer()
     ensures some { (text : List ℕ) (f : RosterFields AnyCmnd) (m : AnyMessage) →
         IsRosterText text f → IsMessage m → Admits f m ⊎ ((d : AnyDenial) × IsDenial f m d) }
@@ -30,7 +31,8 @@ pub fn one_answer()
 {}
 
 /// Least privilege (NIST SP 800-53 AC-6): what is admitted under a ceiling reaches no command, host
-/// or target outside it, and no moment further from the first than the ceiling's longest window.
+/// or target outside it, no moment before it was made, and none further from its first moment than
+/// the ceiling's longest window.
 pub fn least_privilege()
     ensures inside { (f : RosterFields AnyCmnd) (r : RequestFields) (c : CeilingFields AnyCmnd)
         (host target path : List ℕ) (args : List (List ℕ))
@@ -48,7 +50,8 @@ pub fn more_admits_more()
         IsWider c d → IsWithin r c → IsInTime r c → IsWithin r d × IsInTime r d }
     ensures roster { (f g : RosterFields AnyCmnd) (m : AnyMessage)
         → GivesMore f g → Admits f m → Admits g m }
-    // A ceiling is wider that lists more and has a longer window.
+    // A ceiling for the same askers is wider if it lists at least as much and its longest window is
+    // at least as long.
     ensures listed { (c d : CeilingFields AnyCmnd) →
         d.ask ≡ c.ask → c.longest ≤ d.longest →
         ((host : List ℕ) → Contains c.hosts host → Contains d.hosts host) →

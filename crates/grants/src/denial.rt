@@ -5,18 +5,18 @@ use std::fmt;
 
 /// Why the roster does not admit a message. It is shown as its code and name.
 ///
-/// Where several apply, the one with the least number is answered.
+/// If several apply, the one with the lowest number is answered.
 #[derive(Clone, Copy, Debug, PartialEq, Eq)]
 pub enum Denial {
-    /// Who sends it is no person of the roster; or of a verdict, who asked is none.
+    /// The roster does not list the person who sends it or, for a verdict, the person who asked.
     UnknownPerson,
-    /// The roster has no ceiling of the label.
+    /// The roster has no ceiling with the label.
     UnknownCeiling,
-    /// Who asks does not hold the duty that the ceiling wants of whoever asks.
+    /// The asker does not hold the duty that the ceiling requires for asking.
     NotAsker,
-    /// A host is not among the ceiling's.
+    /// A host is not among the ceiling's hosts.
     HostOutside,
-    /// The target is not among the ceiling's.
+    /// The target is not among the ceiling's targets.
     RunasOutside,
     /// A command lies inside no command of the ceiling.
     CommandOutside,

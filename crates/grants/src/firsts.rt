@@ -1,4 +1,4 @@
-//! Who gave a verdict first that counts, and by which moment enough people have.
+//! Who first gave a verdict that counts, and by which moment enough people have.
 
 ghost use Rattle.std.specs.Prelude.{◌≡◌, ◌≤◌, map, option_map};
 ghost use Rattle.std.specs.List.{list_any};
@@ -36,8 +36,8 @@ fn is_of_another(voters: &Voters, others: &[&Name], mark: &Mark) -> bool
     !is_of(others, mark) && voters.count(mark)
 }
 
-/// The first mark that counts and that none of the others gave. Whose count is asked only of those
-/// that are sooner than the first so far.
+/// The first mark that counts and that none of the others gave. Whether a mark counts is asked only
+/// if it is earlier than the first so far.
 fn earliest<'m>(voters: &Voters, others: &[&Name], marks: &'m BTreeSet<Mark>) -> Option<&'m Mark>
     ensures { option_map (λ m. m.now) result ≡ spec.earliest_of
         (spec.is_of_another (counting voters.now) (map (λ p. p.now) others.now)) marks.now.keys }
@@ -51,8 +51,8 @@ fn earliest<'m>(voters: &Voters, others: &[&Name], marks: &'m BTreeSet<Mark>) ->
     first
 }
 
-/// The moment by which n different people have given a verdict that counts, n being 1 to 3. It goes
-/// through the marks n times.
+/// The moment by which n different people have given a verdict that counts, for n from 1 to 3. It
+/// goes through the marks at most n times.
 pub(crate) fn nth(voters: &Voters, n: u64, marks: &BTreeSet<Mark>) -> Option<Moment>
     requires some { 1 ≤ n }
     requires few { n ≤ 3 }

@@ -8,7 +8,7 @@ use std::error::Error;
 use std::fmt;
 use sudo_words::NoMemory;
 
-/// Why a base and rules of grants are no host's policy. It is shown as its code and name.
+/// Why a base and rules of grants give no policy for a host. It is shown as its code and name.
 #[derive(Clone, Copy, Debug, PartialEq, Eq)]
 pub enum HostFault {
     /// There are more than 8,192 rules beside the base's.

@@ -26,7 +26,8 @@ fn reason(kind: FaultKind) -> HostFault
     }
 }
 
-/// The base's entries, then the rules of grants: `TooManyRules` where these are more than 8,192.
+/// The base's entries, then the rules of grants: `TooManyRules` if there are more than 8,192 of
+/// these.
 pub fn host_policy(alloc: Global, base: &Policy, rules: Vec<Rule>) -> Result<Policy, HostFault>
     requires fits { FitsBase base.now }
     requires grants { AllByRecursion IsGrantRule rules.items }

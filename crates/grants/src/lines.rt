@@ -1,4 +1,4 @@
-//! The lines of a grant, written after a text: those of its rules, which it does not build.
+//! The lines of a grant, written after a text: the lines of its rules, without building the rules.
 
 ghost use Rattle.std.specs.Prelude.{◌≡◌, ◌++◌, IfOk, List, OnErr, OnOk, map, string_bytes, true};
 ghost use Rattle.sudo_words.specs.Command.{IsLawful};
@@ -23,10 +23,10 @@ use std::alloc::{AllocError, Global};
 use sudo_policy::{push_command, push_moment};
 use sudo_words::{Cmnd, HostName, Moment, NoMemory};
 
-/// What most lines are shorter than: with so much room a request of one command takes memory once.
+/// Most lines are shorter than this: the buffer for a request of one command seldom has to grow.
 const COMMON_LENGTH: usize = 128;
 
-/// Who may run a command, on which host and as whom.
+/// Adds who may run a command, on which host and as whom.
 fn push_who(text: &mut String, host: &HostName, request: &Request) -> Result<(), AllocError>
     ensures { OnOk result
         (string_bytes text.new ≡ string_bytes text.old ++ lines.who host.now request.now) }
@@ -38,7 +38,7 @@ fn push_who(text: &mut String, host: &HostName, request: &Request) -> Result<(),
     text.push_str(request.runas().as_str())
 }
 
-/// And when, up to the space before the command.
+/// Adds when they may run it, up to and including the space before the command.
 fn push_when(text: &mut String, window: &Window) -> Result<(), AllocError>
     ensures { OnOk result (string_bytes text.new
         ≡ string_bytes text.old ++ lines.when window.now.start window.now.end) }
@@ -50,7 +50,7 @@ fn push_when(text: &mut String, window: &Window) -> Result<(), AllocError>
     text.push_str(" ")
 }
 
-/// The line of one command.
+/// Adds the line of one command.
 fn push_line(
     alloc: Global,
     text: &mut String,
@@ -70,7 +70,7 @@ fn push_line(
     Ok(())
 }
 
-/// The lines of all commands, in their order.
+/// Adds the lines of all commands, in their order, and answers how many they are.
 fn push_commands(
     alloc: Global,
     text: &mut String,
@@ -87,7 +87,7 @@ fn push_commands(
     Ok(request.cmnds().len())
 }
 
-/// The same, all or none: where memory runs out, the text is as it was.
+/// The same, all or none: if memory runs out, the text is as it was.
 fn push_whole(
     alloc: Global,
     text: &mut String,
@@ -106,7 +106,7 @@ fn push_whole(
     Ok(count)
 }
 
-/// Whether what has this last moment is left.
+/// Whether a line with this last moment is left.
 fn is_left(after: &Option<Moment>, last: Moment) -> bool
     ensures { result ≡ lines.is_left after.now last }
 {
@@ -116,8 +116,8 @@ fn is_left(after: &Option<Moment>, last: Moment) -> bool
     }
 }
 
-/// Whether the request can have lines for the host that are left, whatever it has come to: its
-/// window ends by its own last moment.
+/// Whether the request can have lines for the host that are left, whatever its status: its window
+/// never ends later than it asks for.
 fn may_have(request: &Request, host: &HostName, after: &Option<Moment>) -> bool
     ensures value { result ≡ lines.may_have after.now host.now request.now }
     ensures request { IsRequest request.now }
@@ -125,7 +125,8 @@ fn may_have(request: &Request, host: &HostName, after: &Option<Moment>) -> bool
     is_left(after, request.until()) && request.hosts().contains(host)
 }
 
-/// The lines that are left, of a request that names the host and has come to this.
+/// Adds the lines that are left of a request that names the host and has this status, and answers
+/// how many they are.
 fn push_left(
     alloc: Global,
     text: &mut String,
@@ -147,7 +148,7 @@ fn push_left(
     }
 }
 
-/// The request has come to something, whether it is looked up or not.
+/// States that the request has a status, whether it is looked up or not.
 fn has_status(roster: &Roster, s: &Summary)
     ensures { (set : List AnyMessage) → StandsFor set s.now
         → (status : AnyStatus) × IsStatus roster.now.says set (name_of s.now.request) status }
@@ -156,8 +157,8 @@ fn has_status(roster: &Roster, s: &Summary)
     let _hosts = s.request.hosts();
 }
 
-/// Adds the lines that the request gives the host under this roster to the text, and tells how many
-/// they are: one for each of its commands, in its order, where it names the host and is granted.
+/// Adds to the text the lines that the request gives the host under this roster, and answers how
+/// many they are: one for each of its commands, in its order, if it names the host and is granted.
 /// With a moment, lines that end before it are left out.
 pub fn push_lines(
     alloc: Global,
@@ -167,12 +168,12 @@ pub fn push_lines(
     host: &HostName,
     after: Option<Moment>,
 ) -> Result<usize, NoMemory>
-    // They come from what the messages come to of each set that the summary stands for, and are
+    // They follow from what the messages of each set that the summary stands for come to, and are
     // lines of rules of grants.
     ensures ok { (set : List AnyMessage) → StandsFor set s.now
         → IfOk result (AreWritten roster.now.says set s.now.request host.now after
         (string_bytes text.old) (string_bytes text.new)) }
-    // Where memory runs out, the text is as it was.
+    // If memory runs out, the text is as it was.
     ensures err { OnErr result (string_bytes text.new ≡ string_bytes text.old) }
 {
     if may_have(&s.request, host, &after) {

@@ -26,14 +26,14 @@ impl Clone for Mark {
     }
 }
 
-/// The same marks.
+/// A copy of the marks.
 pub(crate) fn copied(marks: &BTreeSet<Mark>) -> Result<BTreeSet<Mark>, AllocError>
     ensures { IfOk result (λ copy. copy.keys ≡ marks.now.keys) }
 {
     marks.clone()
 }
 
-/// Adds a verdict of the person's. A refusal of memory changes nothing.
+/// Adds the mark of a verdict by the person. If memory runs out, nothing changes.
 pub(crate) fn note(marks: &mut BTreeSet<Mark>, person: &Name, at: Moment) -> Result<(), NoMemory>
     ensures ok { OnOk result (marks.new.keys ≡ spec.noted person.now at marks.old.keys) }
     ensures err { OnErr result (marks.new.keys ≡ marks.old.keys) }
@@ -46,7 +46,7 @@ pub(crate) fn note(marks: &mut BTreeSet<Mark>, person: &Name, at: Moment) -> Res
     Ok(())
 }
 
-/// Each person with the moment, in the order of the marks.
+/// Each mark as its person and its moment, in the order of the marks.
 pub(crate) fn shown(alloc: Global, marks: &BTreeSet<Mark>) -> Result<Vec<(Name, Moment)>, NoMemory>
     ensures { IfOk result (λ list. list.items ≡ map spec.shown marks.now.keys) }
 {

@@ -1,4 +1,4 @@
-//! Laws of windows and of what rosters say of past moments, each the contract of a function that
+//! Laws of windows and of what rosters say about past moments, each the contract of a function that
 //! does nothing.
 
 ghost use Rattle.std.specs.Prelude.{◌≡◌, ◌↔◌, ◌≤◌, ℕ, List};
@@ -24,10 +24,10 @@ pub fn window_is_unbroken()
         → InWindow f set q late → early ≤ moment → moment ≤ late → InWindow f set q moment }
 {}
 
-/// The past is not rewritten. Two rosters that agree until a moment admit and deny the same of what
-/// was asked and answered up to it, and the same verdicts count; so a set of such messages gives
-/// each name the same status and each request the same window, before that moment and after it,
-/// whatever duties people hold later.
+/// The past is not rewritten. Two rosters that agree until a moment admit the same messages among
+/// those made up to it, deny the others alike, and count the same verdicts; so a set of such
+/// messages gives each name the same status and each request the same window, before that moment
+/// and after it, whatever duties people hold later.
 pub fn past_is_not_rewritten()
     ensures admits { (f g : RosterFields Cmnd) (moment : ℕ) (m : Message) →
         AgreeUntil moment f g → made_at m ≤ moment → Admits f m ↔ Admits g m }

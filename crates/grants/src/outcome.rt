@@ -25,14 +25,14 @@ pub enum Status {
     Refused,
     /// It is not complete.
     Waiting,
-    /// It is complete, and is in force at no moment.
+    /// It is complete, but in force at no moment.
     Void,
     /// It is in force within this window.
     Granted(Window),
 }
 
 impl Status {
-    /// The window of what is granted, where it holds the moment.
+    /// The window of a grant, if it contains the moment.
     pub fn window_at(self, at: Moment) -> Option<Window>
         ensures { result ≡ statuses.window_at at self }
     {

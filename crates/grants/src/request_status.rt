@@ -105,7 +105,7 @@ fn completion(roster: &Roster, ceiling: &Ceiling, s: &Summary) -> Option<Moment>
     nth(&approvers, ceiling.needs(), &s.approvals)
 }
 
-/// When it is revoked first.
+/// When it is first revoked.
 fn revocation(roster: &Roster, ceiling: &Ceiling, s: &Summary) -> Option<Moment>
     ensures { result ≡ of_status.revocation roster.now.says ceiling.now s.now }
 {
@@ -136,7 +136,7 @@ fn unless_refused(refused: bool, status: Status) -> Status
     if refused { Status::Refused } else { status }
 }
 
-/// What a request has come to that the roster admits under the ceiling.
+/// The status of a request that the roster admits under the ceiling.
 fn admitted_status(roster: &Roster, ceiling: &Ceiling, s: &Summary) -> Status
     requires some { 1 ≤ ceiling.now.needs }
     requires few { ceiling.now.needs ≤ 3 }
@@ -151,7 +151,7 @@ fn admitted_status(roster: &Roster, ceiling: &Ceiling, s: &Summary) -> Status
     }
 }
 
-/// The ceiling under which the roster admits the request.
+/// The ceiling under which the roster admits the request, if it does.
 fn ceiling_of<'r>(roster: &'r Roster, request: &Request) -> Option<&'r Ceiling>
     ensures admitted { IfSome result (λ c. IsAdmittedUnder roster.now.says request.now c.now) }
     ensures denied { IfNone result (¬ AdmitsRequest roster.now.says request.now) }
@@ -162,7 +162,7 @@ fn ceiling_of<'r>(roster: &'r Roster, request: &Request) -> Option<&'r Ceiling>
     }
 }
 
-/// What the messages come to that the summary stands for, under this roster. It takes no memory.
+/// What the messages that the summary stands for come to, under this roster. It takes no memory.
 pub fn status(roster: &Roster, s: &Summary) -> Status
     ensures { (set : List AnyMessage) → StandsFor set s.now
         → IsStatus roster.now.says set (name_of s.now.request) result }

@@ -90,7 +90,7 @@ pub fn grant_rules(
     Ok(rules)
 }
 
-/// The same, where the request names the host and is granted.
+/// The same if the request names the host and is granted, and none otherwise.
 fn rules_for(
     alloc: Global,
     host: &HostName,
@@ -110,17 +110,17 @@ fn rules_for(
 }
 
 /// The rules that the request gives the host under this roster: one for each of its commands, in
-/// its order, where it names the host and is granted, and none elsewhere.
+/// its order, if it names the host and is granted, and none otherwise.
 pub fn rules_of(
     alloc: Global,
     roster: &Roster,
     s: &Summary,
     host: &HostName,
 ) -> Result<Vec<Rule>, NoMemory>
-    // They are those of each set that the summary stands for.
+    // They are the rules of each set that the summary stands for.
     ensures rules { (set : List AnyMessage) → StandsFor set s.now
         → IfOk result (λ v. AreRules roster.now.says set s.now.request host.now v.items) }
-    // They come from what its messages come to.
+    // They follow from what the messages of each such set come to.
     ensures given { (set : List AnyMessage) → StandsFor set s.now
         → IfOk result (λ v. AreGiven roster.now.says set s.now.request host.now v.items) }
     // And they may stand after a base.

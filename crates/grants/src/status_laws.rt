@@ -29,8 +29,7 @@ pub fn one_status()
         IsStatus f set name a → IsStatus f set name b → a ≡ b }
 {}
 
-/// Two lists of the same messages give a name the same status: neither order nor repeats mean
-/// anything.
+/// Two lists of the same messages give a name the same status: neither order nor repeats matter.
 pub fn order_is_free()
     ensures { (f : RosterFields Cmnd) (s t : List Message) (name : RequestName) (status : Status) →
         SameMessages s t → IsStatus f s name status → IsStatus f t name status }
@@ -44,7 +43,7 @@ pub fn completion_is_nth_smallest()
         → IsComplete f set q moment ↔ IsNthSmallest c.needs (IsFirstApproval f set q) moment }
 {}
 
-/// A window begins where the request is complete, but not before it asks to; it ends where the
+/// A window begins when the request is complete, but not before it asks to; it ends when the
 /// request asks to, or a moment before the first revocation.
 pub fn bounds_of_window()
     ensures begins { (f : RosterFields Cmnd) (set : List Message)
@@ -57,7 +56,7 @@ pub fn bounds_of_window()
         → IsFirstRevocation f set q revoked → revoked ≤ q.until → end + 1 ≡ revoked }
 {}
 
-/// A verdict that never counts may be added or taken away: no name's status changes.
+/// Adding or removing a verdict that never counts changes no name's status.
 pub fn uncounted_changes_nothing()
     ensures { (f : RosterFields Cmnd) (set : List Message)
         (v : VerdictFields) (name : RequestName) (status : Status) → NeverCounts f set v
@@ -65,8 +64,9 @@ pub fn uncounted_changes_nothing()
 {}
 
 /// Separation of duties (NIST SP 800-53 AC-5): the asker's own approval or refusal never counts,
-/// nor that of somebody who holds a duty at its moment that conflicts with the approving duty; and
-/// whoever lacks the approving duty at that moment is not heard at all, but for the asker.
+/// and neither does that of somebody who at its moment holds a duty that conflicts with the
+/// approving duty; and apart from the asker's, no verdict counts whose author lacks the approving
+/// duty at its moment.
 pub fn who_does_not_count()
     ensures asker { (f : RosterFields Cmnd) (c : CeilingFields Cmnd) (v : VerdictFields) →
         v.kind ≢ kinds.Revoke → v.by ≡ v.of → counts f c v ≡ false }
@@ -77,9 +77,9 @@ pub fn who_does_not_count()
         v.by ≢ v.of → holds f v.by c.approve v.at ≡ false → counts f c v ≡ false }
 {}
 
-/// A verdict counts by its author's rights as it was given, whatever they are before or after. So
-/// whoever approved while eligible has a first such approval, no later, and that was given while
-/// eligible: one given before, without the right to, stands in nobody's way.
+/// A verdict counts by its author's rights when it was given, whatever they are before or after. So
+/// whoever approved while eligible has a first such approval, no later than that one and itself
+/// given while eligible: an earlier approval, given without the right to, does not get in the way.
 pub fn rights_of_the_moment()
     ensures alike { (f g : RosterFields Cmnd) (c : CeilingFields Cmnd) (v : VerdictFields)
         → eligible f v.by v.of c v.at ≡ eligible g v.by v.of c v.at → may_revoke f v.by v.of c v.at
@@ -92,11 +92,11 @@ pub fn rights_of_the_moment()
         × IsGiven f set q kinds.Approve v × (v.by ≡ person) × (v.at ≡ moment) }
 {}
 
-/// Worked statuses, of what ann asked from nine to eleven (32,400 to 39,600) where two have to
+/// Worked statuses of ann's request for nine to eleven (32,400 to 39,600), where two have to
 /// approve.
 pub fn worked_statuses()
-    // Neither the asker nor carol, who also audits, approves beside bob, and bob's second approval
-    // is no second approver's.
+    // Neither the asker nor carol, who also audits, counts as an approver beside bob, and bob's
+    // second approval does not make him a second approver.
     ensures asker { ComesTo
         (approves (codes "ann") 28_800 ∷ approves (codes "bob") 30_600 ∷ []) Waiting }
     ensures conflict { ComesTo
@@ -108,39 +108,40 @@ pub fn worked_statuses()
     ensures second { Gives (both_and (approves (codes "dave") 34_000 ∷ [])) 33_000 39_600 }
     ensures ahead { Gives
         (approves (codes "dave") 31_200 ∷ approves (codes "bob") 30_600 ∷ []) 32_400 39_600 }
-    // A refusal of the very moment of the completion refuses; a later one, and carol's, have no
+    // A refusal at the very moment of the completion refuses; a later one, and carol's, have no
     // effect.
     ensures refused { ComesTo (both_and (refuses (codes "bob") 33_000 ∷ [])) Refused }
     ensures late { Gives (both_and (refuses (codes "bob") 33_001
         ∷ refuses (codes "carol") 28_800 ∷ [])) 33_000 39_600 }
-    // A revocation ends it a moment before, carol's too; one of moment 0 leaves nothing, nor does
-    // an approval past the end.
+    // A revocation, even carol's, ends it a moment before; one at moment 0 leaves nothing, and
+    // neither does an approval after the end.
     ensures revoked { Gives (both_and (revokes (codes "carol") 36_000 ∷ [])) 33_000 35_999 }
     ensures void { ComesTo (both_and (revokes (codes "ann") 0 ∷ [])) Void }
     ensures too_late { ComesTo
         (approves (codes "bob") 30_600 ∷ approves (codes "dave") 39_601 ∷ []) Void }
-    // Another request of the name disputes it; and where the ceiling was lowered since, it is
+    // Another request of the name disputes it; and if the ceiling has been lowered since, it is
     // lapsed.
     ensures disputed { IsStatus team
         (Request asked ∷ Request (asked_from 32_400 36_000) ∷ []) (name_of asked) Disputed }
     ensures lapsed { IsStatus shorter (Request asked ∷ []) (name_of asked) Lapsed }
 {}
 
-/// Worked statuses where duties are held on some days: of what ann asks on 1 January for nine to
-/// eleven of the 2nd (118,800 to 126,000), where two have to approve and dave has.
+/// Worked statuses where duties are held on some days only: on 1 January ann asks for nine to
+/// eleven of the 2nd (118,800 to 126,000); two have to approve, and dave has.
 pub fn worked_days()
-    // Bob's approval of the day before his first has no effect, even once he may approve; his next
-    // has, from its moment on.
+    // Bob's approval on the day before his first day has no effect, even once he may approve; his
+    // next one has, from its moment on.
     ensures before { ComesToByDays (dave_and (approves (codes "bob") 86_399 ∷ [])) Waiting }
     ensures again { GivesByDays (dave_and (approves (codes "bob") 86_399
         ∷ approves (codes "bob") 120_000 ∷ [])) 120_000 126_000 }
     ensures turned { GivesByDays (dave_and (approves (codes "bob") 120_000
         ∷ approves (codes "bob") 86_399 ∷ [])) 120_000 126_000 }
-    // Carol's has none on the last day on which she audits, and has in the first second after it.
+    // Carol's approval has no effect on the last day on which she audits, and has one in the first
+    // second after it.
     ensures audits { ComesToByDays (dave_and (approves (codes "carol") 86_399 ∷ [])) Waiting }
     ensures audited { GivesByDays
         (dave_and (approves (codes "carol") 86_400 ∷ [])) 118_800 126_000 }
-    // A refusal counts by the same rights; carol revokes at any moment, bob on the 1st not yet.
+    // A refusal counts by the same rights; carol may revoke at any moment, bob not yet on the 1st.
     ensures refused_early { GivesByDays (dave_and (approves (codes "carol") 86_400
         ∷ refuses (codes "bob") 86_399 ∷ [])) 118_800 126_000 }
     ensures refused { ComesToByDays

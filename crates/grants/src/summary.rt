@@ -1,4 +1,4 @@
-//! What a set of messages says of one request.
+//! What a set of messages says about one request.
 
 ghost use Rattle.std.specs.Prelude.{◌≡◌, ◌≢◌, List, [], ◌∷◌, ◌++◌};
 ghost use Rattle.std.specs.Prelude.{IfOk, IfSome, IfNone, OnOk, OnErr};
@@ -17,7 +17,7 @@ use std::marker::Model;
 use sudo_words::{Moment, Name, NoMemory};
 
 /// What the messages about one request say: a request of its name, whether there is another of that
-/// name, and of each person and kind every moment at which the person has given such a verdict.
+/// name, and for each person and kind of verdict every moment at which the person has given one.
 #[derive(Debug, Drop)]
 pub struct Summary {
     pub(crate) alloc: Global,
@@ -43,10 +43,10 @@ impl Model for Summary {
 }
 
 impl Summary {
-    /// The request, where it is the only one of its name.
+    /// The request, if it is the only one of its name.
     pub fn request(&self) -> Option<&Request>
         ensures value { IfSome result (λ request. request.now ≡ self.now.request) }
-        // It is lent exactly where the set that the summary stands for has no other of its name.
+        // There is one exactly if the set that the summary stands for has no other of its name.
         ensures alone { (set : List AnyMessage) → StandsFor set self.now
             → IfSome result (λ request. StandsAlone set request.now) }
         ensures disputed { (set : List AnyMessage) → StandsFor set self.now
@@ -98,13 +98,13 @@ pub fn ask(alloc: Global, request: &Request) -> Result<Summary, NoMemory>
     })
 }
 
-/// Adds a request of the same name: another one disputes it. It takes no memory.
+/// Adds a request of the same name: a different one disputes it. It takes no memory.
 pub fn ask_again(s: &mut Summary, request: &Request)
     requires { SameName request.now s.old.request }
     // Where it stood for a set, it stands for the set with the request.
     ensures stands { (set : List AnyMessage) → StandsFor set s.old
         → StandsFor (set ++ message_of.Request request.now ∷ []) s.new }
-    // It stays that of the name.
+    // The request that it keeps stays the same.
     ensures same_request { s.new.request ≡ s.old.request }
 {
     if !s.request.is_same(request) {
@@ -117,7 +117,7 @@ pub fn dispute(s: &mut Summary)
     // Where it stood for a set, it stands for the set with any other request of the name.
     ensures stands { (set : List AnyMessage) (p : RequestFields) → SameName p s.old.request → p
         ≢ s.old.request → StandsFor set s.old → StandsFor (set ++ message_of.Request p ∷ []) s.new }
-    // It stays that of the name.
+    // The request that it keeps stays the same.
     ensures same_request { s.new.request ≡ s.old.request }
 {
     s.is_disputed = true;
@@ -129,9 +129,9 @@ pub fn apply(s: &mut Summary, verdict: &Verdict) -> Result<(), NoMemory>
     // Where it stood for a set, it stands for the set with the verdict.
     ensures ok { (set : List AnyMessage) → StandsFor set s.old
         → OnOk result (StandsFor (set ++ message_of.Verdict verdict.now ∷ []) s.new) }
-    // It stays that of the name.
+    // The request that it keeps stays the same.
     ensures same_request { s.new.request ≡ s.old.request }
-    // A refusal of memory changes nothing.
+    // If memory runs out, nothing changes.
     ensures err { OnErr result (s.new ≡ s.old) }
 {
     match verdict.kind() {

@@ -6,7 +6,7 @@ ghost use Rattle.messages.specs.declared.message.Message.{Message};
 ghost use Rattle.grants.specs.Summaries.{Kept, StandsFor};
 
 /// What a summary of a name keeps is determined by the set that it stands for, in whatever order
-/// the messages came and however often, but for which of two requests it keeps where the name is
+/// the messages came and however often, except for which of two requests it keeps if the name is
 /// disputed.
 pub fn one_summary()
     ensures disputed { (set : List Message) (a b : Kept) → StandsFor set a

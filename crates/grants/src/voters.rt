@@ -8,7 +8,7 @@ use messages::VerdictKind;
 use roster::{Ceiling, Roster};
 use sudo_words::Name;
 
-/// Those whose verdicts of one kind count on what someone asked for under a ceiling.
+/// The people whose verdicts of one kind count on what someone asked for under a ceiling.
 #[derive(Clone, Copy)]
 pub(crate) struct Voters<'a> {
     pub(crate) roster: &'a Roster,

@@ -9,7 +9,7 @@ ghost use Rattle.grants.specs.Reach.{LiesInside, ReachesBeyond};
 
 use sudo_words::{Arg, ArgRule, Cmnd};
 
-/// Whether these are the arguments that are wanted. The last are looked at first: commands of one
+/// Whether the arguments are the wanted ones. The last ones are compared first: commands of one
 /// file mostly differ there.
 fn same_args(args: &[Arg], wanted: &[Arg]) -> bool
     ensures { result ≡ pointwise bytes_eq args.now wanted.now }
@@ -33,7 +33,7 @@ fn rule_inside(inner: &ArgRule, outer: &ArgRule) -> bool
     }
 }
 
-/// Whether the one lies inside the other, by cases on their forms.
+/// Whether the inner command lies inside the outer, by cases on their forms.
 pub(crate) fn form_inside(inner: &Cmnd, outer: &Cmnd) -> bool
     ensures { result ≡ forms.is_inside inner.now outer.now }
 {
@@ -48,7 +48,7 @@ pub(crate) fn form_inside(inner: &Cmnd, outer: &Cmnd) -> bool
     }
 }
 
-/// The path up to its last slash, which it keeps.
+/// The path up to and including its last slash; empty if it has none.
 pub(crate) fn dir_of(path: &[u8]) -> &[u8]
     ensures { forms.IsDirOf path.now result.now }
 {
@@ -62,13 +62,13 @@ pub(crate) fn dir_of(path: &[u8]) -> &[u8]
     &path[..0]
 }
 
-/// Whether all that the one command reaches is reached by the other. It takes no memory.
+/// Whether the outer command reaches all that the inner one reaches. It takes no memory.
 #[tactic(auto, using(crate::proofs::Inclusion::exact, crate::proofs::Inclusion::beyond))]
 pub fn is_inside(inner: &Cmnd, outer: &Cmnd) -> bool
-    // For the commands that policies hold it is inclusion of what they reach.
+    // For the commands that policies hold, this is inclusion of what they reach.
     ensures exact { IsLawful inner.now → IsLawful outer.now
         → (IsTrue result ↔ LiesInside inner.now outer.now) }
-    // Where it is not inside, there is something that the one reaches and the other does not match.
+    // If it is not inside, the inner command reaches something that the outer does not match.
     ensures beyond { IsLawful inner.now → IsLawful outer.now
         → result ≡ false → ReachesBeyond inner.now outer.now }
 {

@@ -1,4 +1,4 @@
-//! Laws of what commands reach, each the contract of a function that does nothing.
+//! Laws about what commands reach, each the contract of a function that does nothing.
 
 ghost use Rattle.std.specs.Prelude.{◌≡◌, ◌↔◌, ℕ, List, [], ◌∷◌, true, codes};
 ghost use Rattle.sudo_words.specs.Command.{IsLawful, is_directly_in};
@@ -8,8 +8,9 @@ ghost use Rattle.sudo_words.specs.declared.cmnd.Cmnd.TheVariants.{All, Dir, Path
 ghost use Rattle.grants.specs.Reach.{LiesInside, ReachesSomething};
 ghost use Rattle.grants.specs.WorkedAdmission.{file, file_alone, file_with};
 
-/// What lies inside what, of the commands that policies hold: `ALL` inside `ALL` alone, a directory
-/// inside itself and `ALL` alone, and inside a directory each file that is directly in it.
+/// Which of the commands that policies hold lie inside which: everything inside `ALL`, `ALL` inside
+/// nothing else, a directory inside no other directory and no file, a file inside a directory
+/// exactly if it is directly in it, and inside no other file.
 pub fn forms_of_inclusion()
     ensures everything { (k : AnyCmnd) → LiesInside k All }
     ensures only_all { (c : AnyCmnd) → IsLawful c → LiesInside All c → c ≡ All }
@@ -23,8 +24,8 @@ pub fn forms_of_inclusion()
         → IsLawful (Path g s) → LiesInside (Path f r) (Path g s) → f ≡ g }
 {}
 
-/// Each command that policies hold reaches something that sudo runs as it stands there, and does
-/// not take for its own command `sudoedit`.
+/// Each command that policies hold reaches something, with at most 64 arguments, whose path sudo
+/// does not take for its own command `sudoedit`.
 pub fn each_reaches_something()
     ensures { (c : AnyCmnd) → IsLawful c → ReachesSomething c }
 {}

@@ -35,7 +35,7 @@ pub record IsAnswered (m : Message) : Type 0 where
 
 -- ---- names of kinds
 
--- a name that is another literal
+-- two literals that differ are not the same name
 unlike : (a b : List ℕ) → bytes_eq a b ≡ false → a ≡ b → ⊥
 unlike a b e same = true≢false (sym ((bytes_eq-Decides a b).1 same) ∙ e)
 
@@ -50,7 +50,7 @@ one_kind Revoke Approve e = absurd (unlike (codes "revoke") (codes "approve") re
 one_kind Revoke Refuse e = absurd (unlike (codes "revoke") (codes "refuse") refl e)
 one_kind Revoke Revoke e = refl
 
--- no kind of verdict is named as requests are
+-- no kind of verdict has the name of requests
 not_asked : (k : VerdictKind) → kind_text k ≡ codes "request" → ⊥
 not_asked Approve e = unlike (codes "approve") (codes "request") refl e
 not_asked Refuse e = unlike (codes "refuse") (codes "request") refl e

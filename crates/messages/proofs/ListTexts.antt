@@ -1,4 +1,4 @@
--- A list of values beside the list of texts that it is.
+-- A list of values that is a list of texts.
 use Rattle.std.proofs.Common.{◌≡◌, ℕ, zero, suc, ◌+◌, ◌-◌, ◌<◌, ◌≤◌, ◌∙◌, Bool, true, false, List, [], ◌∷◌, ◌++◌, Option, Some}
 use Rattle.std.proofs.Common.{None, option_map, Bor, Global, length, map, get_or, take, drop, refl, sym, ap, ap₂, arith, take_all}
 use Rattle.std.proofs.lemmas.List.{get_or-map, length-map, take_more}
@@ -18,7 +18,7 @@ length-strings [] (w ∷ ws) e = absurd cc
 length-strings (v ∷ vs) [] e = absurd cc
 length-strings (v ∷ vs) (w ∷ ws) e = let rest : items_view vs ≡ text_items ws = cc in ap suc (length-strings vs ws rest)
 
--- each value is the text at its place
+-- each value is the text at its index
 pub view-at : (vs : List (Value Global)) (ws : List (List ℕ)) (i : ℕ) (v : Value Global) → items_view vs ≡ text_items ws → i < length vs → v ≡ get_or vs i v
     → (i < length ws) × (value_view v ≡ string (get_or ws i []))
 view-at [] ws i v e less is = absurd (omega arith)

@@ -1,4 +1,4 @@
--- The orders of texts and of names: strict, and each two are in one order or the other.
+-- The orders of texts and of names: they are strict, and of any two different ones, one comes first.
 use Rattle.std.proofs.Common.{◌≡◌, ℕ, ◌<◌, ◌⊎◌, true, List, refl, sym, ap, ◌∙◌, subst, arith, inl, inr}
 use Rattle.std.specs.Cmp.Lexicographic.{slice_cmp}
 use Rattle.std.specs.Ordering.{MatchOrdering, nat_cmp, ordering_then, is_lt, ordering_reverse}

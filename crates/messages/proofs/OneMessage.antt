@@ -1,4 +1,4 @@
--- A message is one request's or one verdict's.
+-- A message has one request or one verdict in it.
 use Rattle.std.proofs.Common.{◌≡◌}
 use Rattle.messages.specs.Fields.{RequestFields, VerdictFields}
 use Rattle.messages.specs.declared.message.Message.{Message}

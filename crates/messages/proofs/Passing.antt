@@ -19,7 +19,7 @@ use Rattle.messages.specs.Wire.{escaped, kind_text, list_text, moment_text, quot
 use Rattle.messages.specs.private.Past.{IsPast, left_of}
 use Rattle.messages.proofs.PlainTexts.{ascii_escaped, escaped_plain, moment_plain, printed_plain}
 
--- ---- pieces one behind the other
+-- ---- pieces one after the other
 
 pub past_none : {old : Option (Bor (List ℕ))} → IsPast [] old old
 past_none = record { found = λ left e. e; only = λ left e. e }
@@ -40,7 +40,7 @@ past_same {p} {q} {a} {b} h same = rw (← same) h
 inside : (v w : List ℕ) → Some v ≡ Some w → v ≡ w
 inside v w e = cc
 
--- what cutting a front off answers
+-- the result of cutting off a prefix
 pub past_front : {p : List ℕ} (s : Bor (List ℕ)) (r : Option (Bor (List ℕ)))
     → MatchOption r ((rest : List ℕ) → s.now ≢ p ++ rest) (λ x. s.now ≡ p ++ x.now) → IsPast p (Some s) r
 past_front {p} s None differs = record { found = λ left e. absurd cc; only = λ left e. absurd (differs left (inside s.now (p ++ left) e)) }
@@ -173,7 +173,7 @@ all_text = refl
 pub path_text : (w file : List ℕ) (rule : ArgRule) → w ≡ file → escaped w ++ escaped (rule_text rule) ≡ escaped (cmnd_text (commands.Path file rule))
 path_text w file rule same = rw same (sym (escaped_append file (rule_text rule)))
 
--- ---- messages: what is compared one member after another is compared one behind the other
+-- ---- messages: comparing one member after another compares their texts appended
 
 three : (h a i b j c : List ℕ) → ((h ++ a) ++ (i ++ b)) ++ (j ++ c) ≡ h ++ a ++ i ++ b ++ j ++ c
 three h a i b j c = simp append_assoc
@@ -240,6 +240,6 @@ pub whole : {p : List ℕ} (body : Bor (List ℕ)) (left : Option (Bor (List ℕ
 whole {p} body left r past end =
     (λ e. inside body.now (p ++ []) (past.found [] (end.0 e)) ∙ append-nil p, λ same. end.1 (past.only [] (ap Some (same ∙ sym (append-nil p)))))
 
--- an argument's backslash, and the byte behind it
+-- an argument's backslash, and the byte after it
 pub arg_marked : (b : ℕ) → is_escaped b ≡ true → escaped (92 ∷ []) ++ escaped (b ∷ []) ≡ escaped (escaped_byte b)
 arg_marked b h = rw h (sym (escaped_append (92 ∷ []) (b ∷ [])))

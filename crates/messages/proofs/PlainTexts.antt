@@ -1,4 +1,4 @@
--- The texts of a message are ASCII. But for those of commands they need no escape.
+-- The texts of a message are ASCII. Only those of commands can need escapes.
 use Rattle.std.proofs.Common.{◌≡◌, ◌≢◌, ℕ, ◌<◌, ◌≤◌, Bool, true, false, eqb, leb, ltb, not, ◌&&◌, ◌||◌, List, [], ◌∷◌, ◌++◌, length}
 use Rattle.std.proofs.Common.{refl, ap, ◌∙◌, inl, inr, arith, lit<, append_assoc, rules, Result, Ok, Err, String, Global, string_bytes}
 use Rattle.std.specs.Prelude.{All, codes, decimal, map, IsAscii, OnOk, is_ok, if◌then◌else◌}
@@ -145,7 +145,7 @@ label_plain (b ∷ bs) h =
 pub host_plain : (w : List ℕ) → is_host_name w ≡ true → IsPlain w
 host_plain w h = label_plain w (host_shape w h)
 
--- ---- commands: paths, and arguments behind spaces
+-- ---- commands: paths, and arguments after spaces
 
 append_printed : (v w : List ℕ) → IsPrinted v → IsPrinted w → IsPrinted (v ++ w)
 append_printed [] w h k = k
@@ -225,7 +225,7 @@ pub moment_spelled : (t : ℕ) → IsMoment t → Spells (moment_text t) t
 unfolding moment_text
 moment_spelled t h = stamp_spells (stamp t) t (stamp_is t h)
 
--- the three parts of a request's text, one behind the other
+-- the three parts of a request's text, one after the other
 pub request_parts : (out asked lists : List ℕ) (r : RequestFields)
     → asked ≡ out ++ codes "{\"at\":" ++ quoted (moment_text r.at) ++ codes ",\"by\":" ++ quoted r.by ++ codes ",\"ceiling\":" ++ quoted r.ceiling
     → lists ≡ asked ++ codes ",\"cmnds\":" ++ list_text (map cmnd_text r.cmnds) ++ codes ",\"from\":" ++ quoted (moment_text r.from)

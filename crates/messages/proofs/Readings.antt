@@ -15,7 +15,7 @@ use Rattle.json.proofs.Printed.Decimals.{IsNumber-decimal}
 use Rattle.json.proofs.Printed.Tokens.{tokens-print}
 use Rattle.json.proofs.Printed.Trees.{ArePrintable-json_tokens, value-json_tokens}
 use Rattle.serde_json.specs.Data.{Data, number, unsigned, string, array, object, no_members, member}
-use Rattle.serde_json.specs.Read.{read, of_json, of_items, max_depth}
+use Rattle.serde_json.specs.Read.{of_json, of_items, max_depth}
 use Rattle.serde_json.specs.Written.{outline, items_outline, compact_text, items_text, has_float, items_have_float}
 use Rattle.serde_json.proofs.Numbers.{number_of-decimal}
 use Rattle.serde_json.proofs.Texts.{print-outline}
@@ -76,7 +76,7 @@ said_number n fits = record {
   utf8 = IsUtf8-from_ascii (decimal n) (IsAscii-decimal n fits);
 }
 
--- what stands behind the first text of a list
+-- what comes after the first text of a list
 record AreSaid (ws : List (List ℕ)) : Type 0 where
   text_is : items_text true (strings ws) ≡ rest_text ws
   reads : of_items (items_outline (strings ws)) ≡ Some (strings ws)
@@ -155,9 +155,9 @@ canonical_from_said value text said =
     let parsed = ap (json.value max_depth) (tokens_from_said value text said) ∙ value-json_tokens (outline value) max_depth [] deep in
     record { utf8 = said.utf8; reads = ap whole_value parsed ∙ said.reads; whole = said.whole; written = sym said.text_is }
 
--- ---- the members of an object, with the text before them and behind them
+-- ---- the members of an object, with the text before them and after them
 
--- a member behind others
+-- a member after others
 pub utf8_member : (front head value : List ℕ) → IsUtf8 front → list_all (λ b. ltb b 128) head ≡ true → IsUtf8 value → IsUtf8 (front ++ head ++ value)
 utf8_member front head value f h v = IsUtf8-append (front ++ head) value (IsUtf8-append front head f (utf8_literal head h)) v
 

@@ -1,4 +1,4 @@
--- What shows a set shows each set of the same messages.
+-- What shows a set also shows any other set of the same messages.
 use Rattle.std.proofs.Common.{Bool, true, false, List}
 use Rattle.messages.specs.Fields.{RequestFields, VerdictFields}
 use Rattle.messages.specs.NameRows.{IsMarked, ShowSet}

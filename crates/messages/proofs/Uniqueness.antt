@@ -1,4 +1,4 @@
--- No text is that of two messages.
+-- No text is the text of two messages.
 use Rattle.std.proofs.Common.{◌≡◌, ℕ, ◌∙◌, List, [], ◌∷◌, Some, None, map, refl, sym, ap, ap₂}
 use Rattle.std.specs.Prelude.{codes}
 use Rattle.serde_json.specs.Data.{string}
@@ -31,7 +31,7 @@ one_list (v ∷ vs) (w ∷ ws) e =
     let rest : strings vs ≡ strings ws = cc in
     ap₂ (λ (x : List ℕ) (xs : List (List ℕ)). x ∷ xs) first (one_list vs ws rest)
 
--- a value is one request's
+-- a value is the value of one request
 one_request : (r s : RequestFields) → IsRequest r → IsRequest s → request_value r ≡ request_value s → r ≡ s
 one_request r s a b e =
     let at_text : moment_text r.at ≡ moment_text s.at = cc in
@@ -50,7 +50,7 @@ one_request r s a b e =
     let until = one_moment r.until s.until a.until b.until until_text in
     λ i. record { at = at i; by = by i; ceiling = ceiling i; cmnds = cmnds i; from = from i; hosts = hosts i; no = number i; runas = runas i; until = until i }
 
--- a value is one verdict's
+-- a value is the value of one verdict
 one_verdict : (v w : VerdictFields) → IsVerdict v → IsVerdict w → verdict_value v ≡ verdict_value w → v ≡ w
 one_verdict v w a b e =
     let at_text : moment_text v.at ≡ moment_text w.at = cc in
@@ -62,7 +62,7 @@ one_verdict v w a b e =
     let kind = one_kind v.kind w.kind kind_name in
     λ i. record { at = at i; by = by i; kind = kind i; no = number i; of = asker i }
 
--- a value is one message's: only requests have a ceiling
+-- a value is the value of one message: only requests have a ceiling
 pub one_value : (m n : Message) → IsMessage m → IsMessage n → value_of m ≡ value_of n → m ≡ n
 one_value (Request r) (Request s) a b e = ap Request (one_request r s a b e)
 one_value (Request r) (Verdict w) a b e = let ceiling : Some (string r.ceiling) ≡ None = ap (get (codes "ceiling")) e in absurd cc

@@ -1,4 +1,4 @@
--- Literal texts that are canonical, and that are not.
+-- Literal texts, some canonical and some not.
 use Rattle.std.proofs.Common.{◌≡◌, ℕ, ◌∙◌, Bool, true, false, List, Option, Some, None, option_map, refl, sym, ap, arith, get_or, ltb, if◌then◌else◌}
 use Rattle.std.specs.List.{list_all}
 use Rattle.std.specs.Prelude.{codes, IsUtf8, Float}

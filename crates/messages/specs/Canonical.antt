@@ -1,4 +1,4 @@
--- Canonical JSON: what the writer of JSON gives for a value whose numbers are whole.
+-- Canonical JSON: what a JSON writer writes for a value whose numbers are whole.
 use Rattle.std.specs.Prelude.{◌≡◌, ℕ, false, List, Some, IsUtf8}
 use Rattle.serde_json.specs.Data.{Data}
 use Rattle.serde_json.specs.Read.{read}

@@ -1,5 +1,5 @@
--- What a request and a verdict say, and which of them the desk knows. Names are seen as their
--- bytes, and moments as seconds.
+-- What a request and a verdict say, and which of them are valid. Names are seen as their bytes, and
+-- moments as seconds.
 use Rattle.std.specs.Prelude.{◌≡◌, ℕ, ◌≤◌, true, List, All, map, length}
 use Rattle.sudo_words.specs.Moment.{IsMoment}
 use Rattle.sudo_words.specs.Word.{is_name, is_host_name, is_label}
@@ -21,7 +21,7 @@ pub record RequestFields : Type 0 where
   pub runas : List ℕ
   pub until : ℕ
 
--- Someone answers, at a moment, the request with that number of the asker `of`.
+-- Someone answers, at a moment, the request that the asker `of` made under the number `no`.
 pub record VerdictFields : Type 0 where
   pub at : ℕ
   pub by : List ℕ
@@ -45,7 +45,7 @@ AreHosts hs = IsShort hs × All (λ h. is_host_name h ≡ true) hs × IsRising h
 abbrev pub IsNumbered : ℕ → Type 0
 IsNumbered n = n ≤ 999_999_999
 
--- What holds of every request. The window's first moment may lie after its last.
+-- What holds for every request. The window's first moment may lie after its last.
 pub record IsRequest (r : RequestFields) : Type 0 where
   pub at : IsMoment r.at
   pub by : is_name r.by ≡ true
@@ -57,7 +57,7 @@ pub record IsRequest (r : RequestFields) : Type 0 where
   pub runas : is_name r.runas ≡ true
   pub until : IsMoment r.until
 
--- What holds of every verdict.
+-- What holds for every verdict.
 pub record IsVerdict (v : VerdictFields) : Type 0 where
   pub at : IsMoment v.at
   pub by : is_name v.by ≡ true

@@ -1,5 +1,5 @@
--- What is kept of a set of messages beside their texts: a row for each name with a request, and the
--- verdicts. A set is seen as what says of a message whether it is in the set.
+-- What is kept for a set of messages beside their texts: a row for each name with a request, and
+-- the verdicts. A set is seen as the predicate that says whether a message is in it.
 use Rattle.std.specs.Prelude.{◌≡◌, ◌≢◌, ◌↔◌, Bool, true, false, List, Contains}
 use Rattle.messages.specs.Fields.{RequestFields, VerdictFields}
 use Rattle.messages.specs.Names.{SameName}
@@ -7,7 +7,7 @@ use Rattle.messages.specs.declared.name_row.NameRow.{NameRow}
 use Rattle.messages.specs.declared.message.Message.{Message}
 use Rattle.messages.specs.declared.message.Message.TheVariants.{Request, Verdict}
 
--- the set has another request of the request's name, or has none
+-- the set has another request with the request's name, or has none
 abbrev pub IsMarked : (Message → Type 0) → RequestFields → (disputed : Bool) → Type 0
 IsMarked S q true = (p : RequestFields) × S (Request p) × SameName p q × (p ≢ q)
 IsMarked S q false = (p : RequestFields) → S (Request p) → SameName p q → p ≡ q

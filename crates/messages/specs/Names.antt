@@ -1,5 +1,4 @@
--- What requests are called by, in which order names stand, and lists of messages that stand for one
--- set.
+-- The names of requests, the order of names, and lists of messages that stand for the same set.
 use Rattle.std.specs.Prelude.{◌≡◌, ◌<◌, ◌⊎◌, List, Contains}
 use Rattle.std.specs.Cmp.Lexicographic.{slice_cmp}
 use Rattle.std.specs.Ordering.{nat_cmp, ordering_then}
@@ -10,7 +9,7 @@ use Rattle.messages.specs.declared.message.Message.{Message}
 use Rattle.messages.specs.declared.message.Message.TheVariants.{Request}
 pub use Rattle.messages.specs.declared.request_name.RequestName.{RequestName}
 
--- ---- what a request is called by: who asked, and the number that the asker gave it
+-- ---- the name of a request: who asked, and the number that the asker gave it
 
 abbrev pub name_of : RequestFields → RequestName
 name_of q = record { by = q.by; no = q.no }
@@ -23,7 +22,7 @@ name_meant v = record { by = v.of; no = v.no }
 abbrev pub IsNamed : RequestFields → RequestName → Type 0
 IsNamed q name = (q.by ≡ name.by) × (q.no ≡ name.no)
 
--- both requests have one name
+-- both requests have the same name
 abbrev pub SameName : RequestFields → RequestFields → Type 0
 SameName p q = (p.by ≡ q.by) × (p.no ≡ q.no)
 
@@ -42,7 +41,7 @@ name_cmp a b = ordering_then (slice_cmp nat_cmp a.by b.by) (nat_cmp a.no b.no)
 
 -- ---- sets of messages
 
--- The set has no request of the name.
+-- The set has no request with the name.
 abbrev pub NobodyAsks : List Message → RequestName → Type 0
 NobodyAsks messages name = (q : RequestFields) → Contains messages (Request q) → ¬ IsNamed q name
 

@@ -5,7 +5,7 @@ use Rattle.std.specs.Cmp.Lexicographic.{slice_cmp}
 
 -- ---- lists in a strict order
 
--- the element precedes each of the list
+-- the element precedes each element of the list
 abbrev pub AllAfter : {X : Type 0} → (X → X → Type 0) → X → List X → Type 0
 AllAfter Precedes x [] = Unit {0}
 AllAfter Precedes x (y ∷ ys) = Precedes x y × AllAfter Precedes x ys
@@ -17,20 +17,20 @@ AreInOrder Precedes (x ∷ more) = AllAfter Precedes x more × AreInOrder Preced
 
 -- ---- texts in byte order
 
--- One text stands before another: at the first byte where they differ its byte is the lower, or it
--- is a front of the other.
+-- One text comes before another: where they first differ its byte is the lower one, or it is a
+-- proper prefix of the other.
 abbrev pub is_before : List ℕ → List ℕ → Bool
 is_before low high = is_lt (slice_cmp nat_cmp low high)
 
 abbrev pub TextPrecedes : (a b : List ℕ) → Type 0
 TextPrecedes a b = is_before a b ≡ true
 
--- `low` stands before the first text, and each text before the next
+-- `low` comes before the first text, and each text before the next
 abbrev pub rises_from : List ℕ → List (List ℕ) → Bool
 rises_from low [] = true
 rises_from low (w ∷ ws) = is_before low w && rises_from w ws
 
--- each text stands before the next, so none comes twice
+-- each text comes before the next, so none comes twice
 abbrev pub is_rising : List (List ℕ) → Bool
 is_rising [] = true
 is_rising (w ∷ ws) = rises_from w ws

@@ -1,4 +1,4 @@
--- The one text of a message: a JSON object (RFC 8259) without spaces, whose members stand in byte
+-- The one text of a message: a JSON object (RFC 8259) without spaces, whose members are in byte
 -- order.
 use Rattle.std.specs.Prelude.{ℕ, ◌||◌, ◌==◌, if◌then◌else◌, List}
 use Rattle.std.specs.Prelude.{[], ◌∷◌, ◌++◌, map, codes, decimal}
@@ -10,7 +10,7 @@ use Rattle.messages.specs.declared.kind.VerdictKind.TheVariants.{Approve, Refuse
 use Rattle.messages.specs.declared.message.Message.{Message}
 use Rattle.messages.specs.declared.message.Message.TheVariants.{Request, Verdict}
 
--- a backslash stands before each quote and each backslash
+-- with a backslash before each quote and each backslash
 unfoldable pub escaped : List ℕ → List ℕ
 escaped [] = []
 escaped (b ∷ bs) = if (b == 34) || (b == 92) then 92 ∷ b ∷ escaped bs else b ∷ escaped bs
@@ -23,7 +23,7 @@ moment_text t = stamp t
 unfoldable pub quoted : List ℕ → List ℕ
 quoted w = codes "\"" ++ escaped w ++ codes "\""
 
--- what stands after the first text of a list, with the closing bracket
+-- the texts of a list after the first one, and the closing bracket
 unfoldable pub rest_text : List (List ℕ) → List ℕ
 rest_text [] = codes "]"
 rest_text (w ∷ ws) = codes "," ++ quoted w ++ rest_text ws
@@ -66,7 +66,7 @@ abbrev pub wire : Message → List ℕ
 wire (Request r) = request_text r
 wire (Verdict v) = verdict_text v
 
--- the messages that the desk knows
+-- the message is valid
 abbrev pub IsMessage : Message → Type 0
 IsMessage (Request r) = IsRequest r
 IsMessage (Verdict v) = IsVerdict v

@@ -1,4 +1,4 @@
-//! Canonical texts of JSON.
+//! Canonical JSON texts.
 
 ghost use Rattle.std.specs.Prelude.{◌≡◌, ◌⊎◌, IfOk, IfErr};
 ghost use Rattle.serde_json.specs.View.{view, items_view, members_view};
@@ -63,7 +63,7 @@ pub(crate) fn value_of(alloc: Global, body: &[u8]) -> Result<Value, MessageFault
     }
 }
 
-/// Whether the bytes, which read as the value, are its canonical text: `NotCanonical` where they
+/// Checks that the bytes, which read as the value, are its canonical text: `NotCanonical` if they
 /// are not.
 pub(crate) fn canonical(alloc: Global, value: &Value, body: &[u8]) -> Result<(), MessageFault>
     ensures ok { IfOk result

@@ -1,4 +1,4 @@
-//! Why a body is no message.
+//! Why a body is not a message.
 
 ghost use Rattle.std.specs.Prelude.{◌≡◌};
 ghost use Rattle.messages.specs.declared.fault.MessageFault.TheVariants as fault;
@@ -8,14 +8,14 @@ use std::error::Error;
 use std::fmt;
 use sudo_words::NoMemory;
 
-/// Why a body is no message. It is shown as its code and name.
+/// Why a body is not a message. It is shown as its code and name.
 #[derive(Clone, Copy, Debug, PartialEq, Eq)]
 pub enum MessageFault {
     /// The body has more than 16,384 bytes.
     TooLong,
-    /// The bytes are not a canonical text of JSON whose numbers are whole.
+    /// The bytes are not canonical JSON with whole numbers.
     NotCanonical,
-    /// The text is canonical, but it is no message's: a member is wrong, missing or too many.
+    /// The bytes are canonical JSON, but not a message: a member is wrong, missing or one too many.
     BadField,
     /// Memory ran out.
     NoMemory,

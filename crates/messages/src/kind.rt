@@ -3,7 +3,7 @@
 /// What a verdict does to a request.
 #[derive(Clone, Copy, Debug, PartialEq, Eq)]
 pub enum VerdictKind {
-    /// It approves the request, which other approvals may have to join.
+    /// It approves the request, which may need further approvals.
     Approve,
     /// It turns the request down.
     Refuse,

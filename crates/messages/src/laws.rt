@@ -1,5 +1,5 @@
 //! The laws, each the contract of a function that does nothing. Those of messages and their
-//! texts stand here.
+//! texts are in this file.
 
 ghost use Rattle.std.specs.Prelude.{◌≡◌, ◌⊎◌, ◌↔◌};
 ghost use Rattle.std.specs.declared.cmp.Ordering.TheVariants.{Less};
@@ -15,7 +15,7 @@ pub use crate::wire_laws::worked_messages;
 // worked texts of JSON
 pub use crate::text_laws::{worked_canonical_json, worked_other_json};
 
-/// No text is that of two messages: messages are equal exactly where their texts are.
+/// No text is the text of two messages: messages are equal exactly if their texts are.
 pub fn one_message()
     ensures { (m n : AnyMessage) → IsMessage m → IsMessage n → wire m ≡ wire n → m ≡ n }
 {}
@@ -25,8 +25,8 @@ pub fn wire_is_canonical()
     ensures { (m : AnyMessage) → IsMessage m → IsCanonicalText (wire m) }
 {}
 
-/// Names are compared by the asker in byte order, then by the number. That is a strict order: of
-/// two names either one stands before the other, or they are the same.
+/// Names are compared by the asker in byte order, then by the number. That is a strict order:
+/// either one of two names comes before the other, or they are the same.
 pub fn names_in_order()
     ensures order { (a b : AnyName) → (⟦<RequestName as Ord>⟧.cmp a b ≡ Less) ↔ NamePrecedes a b }
     ensures one { (a b : AnyName) → NamePrecedes a b ⊎ ((a ≡ b) ⊎ NamePrecedes b a) }

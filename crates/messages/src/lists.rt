@@ -37,7 +37,8 @@ fn read_hosts(alloc: Global, items: &[Value<'_>]) -> Result<Vec<HostName>, Messa
         ≡ text_items hs → MatchResult result (λ v. v.items ≡ hs) (λ e. e ≡ NoMemory) }
     ensures err { IfErr result (λ e. (e ≡ BadField) ⊎ (e ≡ NoMemory)) }
 {
-    let mut hosts = Vec::new(alloc);
+    // Most requests name one, and a list that grows takes room for four at once.
+    let mut hosts = Vec::with_capacity(alloc, items.len().min(MOST))?;
     for item in items {
         let host = host_of(alloc, item)?;
         hosts.push(host)?;
@@ -81,7 +82,8 @@ fn read_cmnds(alloc: Global, items: &[Value<'_>]) -> Result<Vec<Cmnd>, MessageFa
         → MatchResult result (λ v. v.items ≡ cs) (λ e. e ≡ NoMemory) }
     ensures err { IfErr result (λ e. (e ≡ BadField) ⊎ (e ≡ NoMemory)) }
 {
-    let mut cmnds = Vec::new(alloc);
+    // Most requests name one, and a list that grows takes room for four at once.
+    let mut cmnds = Vec::with_capacity(alloc, items.len().min(MOST))?;
     for item in items {
         let cmnd = cmnd_of(alloc, item)?;
         cmnds.push(cmnd)?;

@@ -19,7 +19,7 @@ use sudo_words::{Form, Moment, Word, WordFault};
 /// The highest number of a request.
 const LAST_NUMBER: u64 = 999_999_999;
 
-/// The text that a value is.
+/// The text of a value that is a string; else `BadField`.
 pub(crate) fn text_of<'a>(value: &Value<'a>) -> Result<&'a str, MessageFault>
     ensures found { IfOk result (λ s. value_view value.now ≡ string s.now) }
     ensures only { (w : List ℕ) → value_view value.now ≡ string w
@@ -41,7 +41,7 @@ pub(crate) fn text_member<'a>(value: &Value<'a>, name: &str) -> Result<&'a str, 
     }
 }
 
-/// The word that a text is.
+/// The text, read as a word.
 pub(crate) fn word_of<F: Form>(alloc: Global, text: &str) -> Result<Word<F>, MessageFault>
     ensures found { IfOk result (λ v. (v ≡ text.now) × (F.has v ≡ true)) }
     ensures only { F.has text.now ≡ true
@@ -70,7 +70,7 @@ pub(crate) fn word_member<F: Form>(
     word_of(alloc, text_member(value, name)?)
 }
 
-/// The moment whose canonical text a member is.
+/// The moment of a member that is a moment's canonical text.
 #[tactic(auto, using(crate::proofs::PlainTexts::moment_stamped))]
 pub(crate) fn moment_member(value: &Value<'_>, name: &str) -> Result<Moment, MessageFault>
     ensures found { IfOk result IsMoment }
@@ -81,7 +81,7 @@ pub(crate) fn moment_member(value: &Value<'_>, name: &str) -> Result<Moment, Mes
     Moment::read_stamp(text_member(value, name)?).ok_or(MessageFault::BadField)
 }
 
-/// The number of a request that a value is.
+/// The value, read as the number of a request.
 fn number_of(value: &Value<'_>) -> Result<u32, MessageFault>
     ensures found { IfOk result IsNumbered }
     ensures only { (n : ℕ) → IsNumbered n → value_view value.now ≡ number (decimal n)
@@ -94,7 +94,7 @@ fn number_of(value: &Value<'_>) -> Result<u32, MessageFault>
     }
 }
 
-/// The number of a request.
+/// The number of the request: the member `no`.
 pub(crate) fn number_member(value: &Value<'_>) -> Result<u32, MessageFault>
     ensures found { IfOk result IsNumbered }
     ensures only { (n : ℕ) → IsNumbered n

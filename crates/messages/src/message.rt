@@ -6,7 +6,7 @@ use crate::request::Request;
 use crate::verdict::Verdict;
 use std::alloc::AllocError;
 
-/// A message of the desk. Two messages are equal exactly where their texts are.
+/// A message of the desk. Two messages are equal exactly if their texts are.
 #[derive(Debug, Drop)]
 pub enum Message {
     /// Someone asks for rights.

@@ -1,11 +1,11 @@
-//! What is kept of a name that somebody asks under.
+//! What is kept for a name under which somebody asks.
 
 use crate::request::Request;
 
-/// A row of a name: a request of the name, and whether there is another.
+/// The row of a name: a request with this name, and whether there is another.
 #[derive(Debug, Drop)]
 pub struct NameRow {
-    /// A request of the name.
+    /// A request with the name.
     pub request: Request,
     /// Whether another request has the name.
     pub is_disputed: bool,

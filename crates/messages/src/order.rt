@@ -7,7 +7,7 @@ ghost use Rattle.messages.specs.Order as order;
 
 use json::Value;
 
-/// Whether the texts stand after `low`, each before the next.
+/// Whether the texts come after `low`, each before the next.
 fn rise_from(low: &str, items: &[Value<'_>]) -> bool
     ensures { (ws : List (List ℕ)) → items_view items.now ≡ text_items ws
         → result ≡ order.rises_from low.now ws }
@@ -21,7 +21,7 @@ fn rise_from(low: &str, items: &[Value<'_>]) -> bool
     }
 }
 
-/// Whether each text stands before the next.
+/// Whether each text comes before the next.
 pub(crate) fn texts_rise(items: &[Value<'_>]) -> bool
     ensures { (ws : List (List ℕ)) → items_view items.now ≡ text_items ws
         → result ≡ order.is_rising ws }

@@ -1,4 +1,4 @@
-//! Messages read from trees of JSON.
+//! Messages read from JSON trees.
 
 ghost use Rattle.std.specs.Prelude.{◌≡◌, ◌⊎◌, Some, IfOk, IfErr, IfSome, IsOkAnd, MatchResult};
 ghost use Rattle.json.specs.Value.{value_view};
@@ -26,7 +26,7 @@ fn request_of(alloc: Global, value: &Value<'_>) -> Result<Request, MessageFault>
         → MatchResult result (λ q. q ≡ r) (λ e. e ≡ NoMemory) }
     ensures err { IfErr result (λ e. (e ≡ BadField) ⊎ (e ≡ NoMemory)) }
 {
-    // What is copied or lent comes first: where it is missing there is nothing to drop.
+    // Members that are copied or lent are read first: if one is missing, there is nothing to drop.
     let at = moment_member(value, "at")?;
     let from = moment_member(value, "from")?;
     let until = moment_member(value, "until")?;
@@ -96,8 +96,8 @@ fn message_of(alloc: Global, value: &Value<'_>) -> Result<Message, MessageFault>
     Ok(Message::Verdict(verdict_of(alloc, value, kind)?))
 }
 
-/// The message that has the members of the value, where the bytes are its text: a text with other
-/// members is not.
+/// The message that has the members of the value, if the bytes are its text, and else `None`: a
+/// text with further members is not.
 pub(crate) fn message_said(
     alloc: Global,
     value: &Value<'_>,

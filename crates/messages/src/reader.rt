@@ -13,10 +13,10 @@ use crate::read::message_said;
 use json::{Error, Scratch, Value};
 use std::alloc::Global;
 
-/// The most bytes of a message.
+/// The most bytes that a message may have.
 pub const MOST_BYTES: usize = 16_384;
 
-/// The message that the bytes are the text of.
+/// The message whose text the bytes are, if they are the text of one.
 fn message_in(
     alloc: Global,
     body: &[u8],
@@ -30,12 +30,12 @@ fn message_in(
     match Value::from_slice(alloc, body, scratch) {
         Ok(value) => message_said(alloc, &value, body),
         Err(Error::Invalid) => Ok(None),
-        // No other fault comes than want of memory.
+        // The only other fault is want of memory.
         Err(_) => Err(MessageFault::NoMemory),
     }
 }
 
-/// Reads messages, one after another: what reading needs is made once.
+/// Reads messages, one after another. What reading needs is made once.
 #[derive(Drop)]
 pub struct MessageReader {
     /// What the parser writes into: its room is made and filled once, not for each message.
@@ -50,11 +50,11 @@ impl MessageReader {
         }
     }
 
-    /// The message that the bytes are the text of.
+    /// The message whose text the bytes are.
     ///
-    /// Faults, the first that applies: `TooLong` above 16,384 bytes; `NotCanonical` where the bytes
-    /// are no canonical text of JSON (RFC 8259) with whole numbers; `BadField` where they are no
-    /// message's; `NoMemory` where memory runs out.
+    /// Faults, the first that applies: `TooLong` above 16,384 bytes; `NotCanonical` if the bytes
+    /// are not canonical JSON (RFC 8259) with whole numbers; `BadField` if they are canonical JSON,
+    /// but not a message; `NoMemory` if memory runs out.
     pub fn read(&mut self, alloc: Global, body: &[u8]) -> Result<Message, MessageFault>
         ensures { IsReading body.now result }
     {
@@ -64,16 +64,16 @@ impl MessageReader {
         if let Some(message) = message_in(alloc, body, &mut self.scratch)? {
             return Ok(message);
         }
-        // Only what is no message's text is parsed a second time, and written, to tell the two
-        // faults apart.
+        // Only bytes that are not a message's text are parsed a second time, and the value written,
+        // to tell the two faults apart.
         let value = value_of(alloc, body)?;
         canonical(alloc, &value, body)?;
         Err(MessageFault::BadField)
     }
 }
 
-/// The message that the bytes are the text of, with the faults of `MessageReader::read`: for who
-/// reads one message.
+/// The message whose text the bytes are, with the faults of `MessageReader::read`: for a caller
+/// that reads one message.
 pub fn read_message(alloc: Global, body: &[u8]) -> Result<Message, MessageFault>
     ensures { IsReading body.now result }
 {

@@ -1,4 +1,4 @@
-//! What requests are called by.
+//! The names of requests.
 
 ghost use Rattle.std.specs.Prelude.{◌≡◌, IfOk};
 ghost use Rattle.messages.specs.Names as names;
@@ -8,8 +8,8 @@ use crate::verdict::Verdict;
 use std::alloc::AllocError;
 use sudo_words::Name;
 
-/// A request's name: who asked, and the number that the asker gave it. Names are in the byte order
-/// of their askers, and then by number.
+/// A request's name: who asked, and the number that the asker gave it. Names are ordered by their
+/// askers in byte order, and then by number.
 #[derive(Debug, Drop, PartialEq, Eq, PartialOrd, Ord)]
 pub struct RequestName {
     /// Who asked.

@@ -1,4 +1,4 @@
-//! Whether two requests are one.
+//! Whether two requests are the same.
 
 ghost use Rattle.std.specs.Prelude.{◌≡◌, ◌↔◌, IsTrue};
 

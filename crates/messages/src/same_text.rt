@@ -1,6 +1,6 @@
-//! Whether bytes are the text of a message. Nothing is written for that: the text's pieces are
-//! compared with the bytes one after another, each function here standing beside the one of `write`
-//! that writes the same piece. `None` stands for bytes that differed.
+//! Whether bytes are the text of a message. The text is not written for that: its pieces are
+//! compared with the bytes one after another. Each function here has its counterpart in `write`,
+//! which writes the same piece. `None` stands for bytes that differed.
 
 ghost use Rattle.std.specs.Prelude.{◌≡◌, ◌==◌, ◌||◌, ◌++◌, ◌∷◌, ◌↔◌, []};
 ghost use Rattle.std.specs.Prelude.{IsTrue, Some, codes, decimal, map};
@@ -22,14 +22,14 @@ use sudo_words::{Arg, ArgRule, Cmnd, HostName, Moment, is_escaped};
 /// The length of a moment's text.
 const STAMP_LENGTH: usize = 15;
 
-/// What is left behind these bytes.
+/// What is left after these bytes.
 fn past<'b>(rest: Option<&'b [u8]>, piece: &str) -> Option<&'b [u8]>
     ensures { IsPast piece.now rest.entry result }
 {
     rest?.strip_prefix(piece.as_bytes())
 }
 
-/// What is left behind one byte.
+/// What is left after one byte.
 fn past_plain<'b>(rest: Option<&'b [u8]>, byte: u8) -> Option<&'b [u8]>
     ensures { IsPast (byte ∷ []) rest.entry result }
 {
@@ -37,14 +37,14 @@ fn past_plain<'b>(rest: Option<&'b [u8]>, byte: u8) -> Option<&'b [u8]>
     if *first == byte { Some(left) } else { None }
 }
 
-/// Whether a backslash stands before the byte in a text between quotes.
+/// Whether the byte has a backslash before it in a text between quotes.
 fn is_marked(byte: u8) -> bool
     ensures { result ≡ (byte == 34) || (byte == 92) }
 {
     byte == b'"' || byte == b'\\'
 }
 
-/// What is left behind one byte of a text between quotes, with its escape.
+/// What is left after one byte of a text between quotes, with its escape.
 fn past_byte<'b>(rest: Option<&'b [u8]>, byte: u8) -> Option<&'b [u8]>
     ensures { IsPast (wires.escaped (byte ∷ [])) rest.entry result }
 {
@@ -55,7 +55,7 @@ fn past_byte<'b>(rest: Option<&'b [u8]>, byte: u8) -> Option<&'b [u8]>
     }
 }
 
-/// What is left behind a text, with its escapes.
+/// What is left after a text, with its escapes.
 fn past_escaped<'b>(rest: Option<&'b [u8]>, text: &[u8]) -> Option<&'b [u8]>
     ensures { IsPast (wires.escaped text.now) rest.entry result }
 {
@@ -66,7 +66,7 @@ fn past_escaped<'b>(rest: Option<&'b [u8]>, text: &[u8]) -> Option<&'b [u8]>
     left
 }
 
-/// What is left behind a text between quotes.
+/// What is left after a text between quotes.
 fn past_text<'b>(rest: Option<&'b [u8]>, text: &str) -> Option<&'b [u8]>
     ensures { IsPast (wires.quoted text.now) rest.entry result }
 {
@@ -75,14 +75,14 @@ fn past_text<'b>(rest: Option<&'b [u8]>, text: &str) -> Option<&'b [u8]>
     past(rest, "\"")
 }
 
-/// What is left behind a member that is a text, from what stands before its value on.
+/// What is left after a member that is a text: `head`, up to the value, and the value.
 fn past_member<'b>(rest: Option<&'b [u8]>, head: &str, text: &str) -> Option<&'b [u8]>
     ensures { IsPast (head.now ++ wires.quoted text.now) rest.entry result }
 {
     past_text(past(rest, head), text)
 }
 
-/// Whether a text is the moment's.
+/// Whether the text is that of the moment.
 fn is_stamp(text: &str, moment: Moment) -> bool
     ensures { IsMoment moment → IsTrue result ↔ (text.now ≡ wires.moment_text moment) }
 {
@@ -92,7 +92,7 @@ fn is_stamp(text: &str, moment: Moment) -> bool
     }
 }
 
-/// What is left behind the text of a moment.
+/// What is left after the text of a moment.
 fn past_stamp<'b>(rest: Option<&'b [u8]>, moment: Moment) -> Option<&'b [u8]>
     ensures { IsMoment moment → IsPast (wires.moment_text moment) rest.entry result }
 {
@@ -109,7 +109,7 @@ fn past_stamp<'b>(rest: Option<&'b [u8]>, moment: Moment) -> Option<&'b [u8]>
     }
 }
 
-/// What is left behind a member that is a moment, from what stands before its value on.
+/// What is left after a member that is a moment: `head`, up to the value, and the value.
 fn past_moment<'b>(rest: Option<&'b [u8]>, head: &str, moment: Moment) -> Option<&'b [u8]>
     ensures { IsMoment moment
         → IsPast (head.now ++ wires.quoted (wires.moment_text moment)) rest.entry result }
@@ -127,7 +127,7 @@ fn past_number<'b>(rest: Option<&'b [u8]>, no: u32) -> Option<&'b [u8]>
     past(past(rest, ",\"no\":"), digits.format(no))
 }
 
-/// What is left behind all that stands after the first host of a list.
+/// What is left after the further hosts of a list (from the second on) and the closing bracket.
 fn past_more_hosts<'b>(rest: Option<&'b [u8]>, hosts: &[HostName]) -> Option<&'b [u8]>
     ensures { IsPast (wires.rest_text hosts.now) rest.entry result }
 {
@@ -146,8 +146,8 @@ fn past_hosts<'b>(rest: Option<&'b [u8]>, hosts: &[HostName]) -> Option<&'b [u8]
     }
 }
 
-/// What is left behind one byte of an argument: the backslash that an argument's text has is
-/// escaped as every backslash is.
+/// What is left after one byte of an argument. The argument's text may have a backslash before the
+/// byte, which is escaped like any other backslash.
 fn past_arg_byte<'b>(rest: Option<&'b [u8]>, byte: u8) -> Option<&'b [u8]>
     ensures { IsPast (wires.escaped (escaped_byte byte)) rest.entry result }
 {
@@ -168,7 +168,7 @@ fn past_arg<'b>(rest: Option<&'b [u8]>, arg: &[u8]) -> Option<&'b [u8]>
     left
 }
 
-/// What is left behind arguments, with a space before each.
+/// What is left after arguments, with a space before each.
 fn past_args<'b>(rest: Option<&'b [u8]>, args: &[Arg]) -> Option<&'b [u8]>
     ensures { IsPast (wires.escaped (flat_map spaced_arg args.now)) rest.entry result }
 {
@@ -188,7 +188,7 @@ fn past_rule<'b>(rest: Option<&'b [u8]>, rule: &ArgRule) -> Option<&'b [u8]>
     }
 }
 
-/// What is left behind a command's text, with its escapes.
+/// What is left after a command's text, with its escapes.
 fn past_cmnd_text<'b>(rest: Option<&'b [u8]>, cmnd: &Cmnd) -> Option<&'b [u8]>
     ensures { IsPast (wires.escaped (cmnd_text cmnd.now)) rest.entry result }
 {
@@ -199,7 +199,7 @@ fn past_cmnd_text<'b>(rest: Option<&'b [u8]>, cmnd: &Cmnd) -> Option<&'b [u8]>
     }
 }
 
-/// What is left behind a command between quotes, from what stands before it on.
+/// What is left after `head` and a command between quotes.
 fn past_cmnd<'b>(rest: Option<&'b [u8]>, head: &str, cmnd: &Cmnd) -> Option<&'b [u8]>
     ensures { IsPast (head.now ++ wires.quoted (cmnd_text cmnd.now)) rest.entry result }
 {
@@ -208,7 +208,7 @@ fn past_cmnd<'b>(rest: Option<&'b [u8]>, head: &str, cmnd: &Cmnd) -> Option<&'b 
     past(rest, "\"")
 }
 
-/// What is left behind all that stands after the first command of a list.
+/// What is left after the further commands of a list (from the second on) and the closing bracket.
 fn past_more_cmnds<'b>(rest: Option<&'b [u8]>, cmnds: &[Cmnd]) -> Option<&'b [u8]>
     ensures { IsPast (wires.rest_text (map cmnd_text cmnds.now)) rest.entry result }
 {
@@ -227,7 +227,7 @@ fn past_cmnds<'b>(rest: Option<&'b [u8]>, cmnds: &[Cmnd]) -> Option<&'b [u8]>
     }
 }
 
-/// What is left behind the members that say who asks for what, but for the commands.
+/// What is left after the members before the commands: when, who asks, and the ceiling.
 fn past_asked<'b>(rest: Option<&'b [u8]>, r: &Request) -> Option<&'b [u8]>
     ensures { IsPast (codes "{\"at\":" ++ wires.quoted (wires.moment_text r.now.at)
         ++ codes ",\"by\":" ++ wires.quoted r.now.by
@@ -238,7 +238,7 @@ fn past_asked<'b>(rest: Option<&'b [u8]>, r: &Request) -> Option<&'b [u8]>
     past_member(rest, ",\"ceiling\":", r.ceiling.as_str())
 }
 
-/// What is left behind the members that say what and where, with the window's first moment between.
+/// What is left after the commands, the window's first moment and the hosts.
 fn past_lists<'b>(rest: Option<&'b [u8]>, r: &Request) -> Option<&'b [u8]>
     ensures { IsPast (codes ",\"cmnds\":" ++ wires.list_text (map cmnd_text r.now.cmnds)
         ++ codes ",\"from\":" ++ wires.quoted (wires.moment_text r.now.from)
@@ -249,7 +249,7 @@ fn past_lists<'b>(rest: Option<&'b [u8]>, r: &Request) -> Option<&'b [u8]>
     past_hosts(past(rest, ",\"hosts\":"), &r.hosts)
 }
 
-/// What is left behind the members after the lists.
+/// What is left after the members that follow the lists.
 fn past_last<'b>(rest: Option<&'b [u8]>, r: &Request) -> Option<&'b [u8]>
     ensures { IsPast (codes ",\"kind\":" ++ wires.quoted (codes "request")
         ++ codes ",\"no\":" ++ decimal r.now.no

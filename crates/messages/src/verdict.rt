@@ -8,10 +8,10 @@ use std::alloc::AllocError;
 use std::marker::Model;
 use sudo_words::{Moment, Name};
 
-/// The last number of a request.
+/// The highest number of a request.
 const LAST_NUMBER: u32 = 999_999_999;
 
-/// A verdict on the request with a number of an asker, who is called `of`.
+/// A verdict on the request that the asker `of` made under the number `no`.
 ///
 /// The number is at most 999,999,999.
 #[derive(Debug, Drop)]
@@ -36,7 +36,7 @@ impl Model for Verdict {
 }
 
 impl Verdict {
-    /// The verdict that says this: none where the number is past 999,999,999.
+    /// The verdict that says this; `None` if the number is above 999,999,999.
     pub fn new(kind: VerdictKind, of: Name, no: u32, by: Name, at: Moment) -> Option<Verdict>
         ensures some { no ≤ 999_999_999
             → result ≡ Some (record { at = at; by = by; kind = kind; no = no; of = of }) }

@@ -5,8 +5,8 @@ ghost use Rattle.messages.specs.Wire.{wire};
 ghost use Rattle.messages.specs.WorkedTexts.{ann_asks_for, bob_approves, id, ls};
 ghost use Rattle.messages.specs.declared.message.Message.TheVariants.{Request, Verdict};
 
-/// Worked texts of messages: an approval, of 70 bytes, and requests for one command and for two, of
-/// 181 and of 195.
+/// Worked texts of messages: an approval, of 70 bytes; a request for one command, of 181 bytes; and
+/// a request for two commands.
 pub fn worked_messages()
     ensures approval { wire (Verdict bob_approves)
         ≡ codes "{\"at\":\"20260105083000Z\",\"by\":\"bob\",\"kind\":\"approve\",\"no\":7,\"of\":\"ann\"}" }

@@ -14,7 +14,7 @@ use std::alloc::{AllocError, Global};
 use std::fmt::Write;
 use sudo_words::{Cmnd, HostName, Moment, NoMemory, print_cmnd};
 
-/// Appends a text between quotes. It has no byte that needs an escape.
+/// Appends a text between quotes. The text has no byte that needs an escape.
 #[tactic(auto, unfolding(crate::specs::Wire::quoted))]
 fn push_text(out: &mut String, text: &str) -> Result<(), AllocError>
     requires { wires.escaped text.now ≡ text.now }
@@ -25,7 +25,7 @@ fn push_text(out: &mut String, text: &str) -> Result<(), AllocError>
     out.push_str("\"")
 }
 
-/// Appends a member that is a text, from what stands before its value on.
+/// Appends a member that is a text: `head`, up to the value, and the value.
 fn push_member(out: &mut String, head: &str, text: &str) -> Result<(), AllocError>
     requires { wires.escaped text.now ≡ text.now }
     ensures { OnOk result
@@ -43,7 +43,7 @@ fn push_stamp(out: &mut String, moment: Moment) -> Result<(), AllocError>
     write!(out, "{moment}")
 }
 
-/// Appends a member that is a moment, from what stands before its value on.
+/// Appends a member that is a moment: `head`, up to the value, and the value.
 fn push_moment(out: &mut String, head: &str, moment: Moment) -> Result<(), AllocError>
     requires { IsMoment moment }
     ensures { OnOk result (string_bytes out.new
@@ -63,7 +63,7 @@ fn push_number(out: &mut String, no: u32) -> Result<(), AllocError>
     write!(out, "{no}")
 }
 
-/// Appends what stands after the first host of a list.
+/// Appends the hosts of a list after the first one, and the closing bracket.
 #[tactic(auto, using(crate::proofs::PlainTexts::escaped_host), unfolding(crate::specs::Wire::rest_text, crate::specs::Wire::list_text))]
 fn push_more_hosts(out: &mut String, hosts: &[HostName]) -> Result<(), AllocError>
     ensures { OnOk result
@@ -105,7 +105,7 @@ fn push_cmnd(out: &mut String, alloc: Global, cmnd: &Cmnd) -> Result<(), NoMemor
     Ok(())
 }
 
-/// Appends what stands after the first command of a list.
+/// Appends the commands of a list after the first one, and the closing bracket.
 #[tactic(auto, unfolding(crate::specs::Wire::rest_text))]
 fn push_more_cmnds(out: &mut String, alloc: Global, cmnds: &[Cmnd]) -> Result<(), NoMemory>
     requires { All IsLawful cmnds.now }
@@ -138,7 +138,7 @@ fn push_cmnds(out: &mut String, alloc: Global, cmnds: &[Cmnd]) -> Result<(), NoM
     }
 }
 
-/// Appends the members that say who asks for what, but for the commands.
+/// Appends the members before the commands: when, who asks, and the ceiling.
 #[tactic(auto, using(crate::proofs::PlainTexts::escaped_name, crate::proofs::PlainTexts::escaped_label))]
 fn push_asked(out: &mut String, r: &Request) -> Result<(), AllocError>
     ensures { OnOk result (string_bytes out.new ≡ string_bytes out.old
@@ -151,7 +151,7 @@ fn push_asked(out: &mut String, r: &Request) -> Result<(), AllocError>
     push_member(out, ",\"ceiling\":", r.ceiling.as_str())
 }
 
-/// Appends the members that say what and where, with the window's first moment between.
+/// Appends the commands, the window's first moment and the hosts.
 fn push_lists(out: &mut String, alloc: Global, r: &Request) -> Result<(), NoMemory>
     ensures { OnOk result (string_bytes out.new ≡ string_bytes out.old
         ++ codes ",\"cmnds\":" ++ wires.list_text (map cmnd_text r.now.cmnds)

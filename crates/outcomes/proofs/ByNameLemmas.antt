@@ -34,7 +34,7 @@ none_by_name s w ordered empty w_ordered w_empty =
 
 -- ---- who asks
 
--- where a summary stands at a name, somebody asks under it
+-- if the map has a summary at a name, somebody asks under it
 somebody : (set : List Message) (s : Summaries) → Gathers set s → (name : RequestName) (k : Kept) → at_name s name ≡ Some k → NobodyAsks set name → ⊥
 somebody set s g name k there nobody =
     let is : IsSummaryOf set name k = subst (IsAt set name) there (g.each name) in nobody k.request is.stands.asked is.named
@@ -76,7 +76,7 @@ sets_nothing old new name before after found sets same other =
     ]
 
 module _ (set : List Message) (v : VerdictFields) where
-  -- whose request is there
+  -- a verdict whose request is there
   pub verdict_heard : {X E : Type 0} (r : Result X E) (old new : Summaries) (w : Waiting) (before after : Kept)
       → at_name old (name_meant v) ≡ Some before → SetsAt old new (name_meant v) after → IsOrdered name_cmp new → after.request ≡ before.request
       → ((s : List Message) → StandsFor s before → OnOk r (StandsFor (s ++ Verdict v ∷ []) after)) → OnErr r (after ≡ before)
@@ -91,7 +91,7 @@ module _ (set : List Message) (v : VerdictFields) where
         waiting = by.waiting;
       }
 
-  -- that has to wait
+  -- a verdict that has to wait
   pub verdict_waits : {X E : Type 0} (r : Result X E) (s : Summaries) (old new : Waiting) → at_name s (name_meant v) ≡ None
       → (IsOrdered name_cmp old → IsOrdered name_cmp new) → OnOk r (verdicts_at new (name_meant v) ≡ verdicts_at old (name_meant v) ++ v ∷ [])
       → ((other : RequestName) → (name_meant v ≡ other → ⊥) → verdicts_at new other ≡ verdicts_at old other)
@@ -138,7 +138,7 @@ turn_more [] l = append-nil l.items
 turn_more (k ∷ ls) l = ap (λ (vs : List VerdictFields). k.items ++ vs) (turn_more ls l) ∙ sym (append_assoc k.items (in_turn ls) l.items)
 
 module _ (w : Waiting) (ordered : IsOrdered name_cmp w) where
-  -- what waits stands at some name
+  -- what waits is kept at some name
   name_of_waiting : (v : VerdictFields) → Contains (in_turn (values w)) v → (name : RequestName) × Contains (verdicts_at w name) v
   name_of_waiting v m =
       let list = from_turn (values w) v m in
@@ -168,7 +168,7 @@ gathered_from set s w by = record {
   );
 }
 
--- A summary in the list stands at its request's name.
+-- The map has each summary in the list at its request's name.
 kept_at : (set : List Message) (s : Summaries) → Gathers set s → (k : Kept) → Contains (values s) k → at_name s (name_of k.request) ≡ Some k
 kept_at set s g k m =
     let entry = value_from_entry s.entries k m in
@@ -210,7 +210,7 @@ by_name_from set s w some are = record {
   waiting = waits_from set some.0 w some.1.waiting are.waiting;
 }
 
--- what is known of some set before is so of some set afterwards
+-- whether memory lasts or runs out, the maps are what is known of some set afterwards
 pub still_by_name : {X E : Type 0} (r : Result X E) (set longer : List Message) (s : Summaries) (w : Waiting)
     → MatchResult r (λ _. AreByName longer s w) (λ _. AreByName set s w) → IsByName s w
 still_by_name (Ok x) set longer s w by = (longer, by)
@@ -227,6 +227,6 @@ pub after_err : {X E : Type 0} (r : Result X E) (set longer : List Message) (s :
 after_err (Ok x) set longer s w by = tt
 after_err (Err e) set longer s w by = gathered_from set s w by
 
--- as it is opened
+-- what is known, as the two maps
 pub opened : (set : List Message) (s : Summaries) (w : Waiting) (value : Known) → known s w ≡ value → IsByName s w → AreGathered set value → AreByName set s w
 opened set s w value view_is some are = by_name_from set s w some (subst (AreGathered set) (sym view_is) are)

@@ -104,14 +104,14 @@ same_stays : (after : Option ℕ) (rule : Rule) → written.stays after rule ≡
 same_stays None rule = refl
 same_stays (Some moment) rule = lasts rule.not_after moment
 
--- what is written of a request is what is left
+-- what is written for a request is what is left of its rules
 pub same_left : (after : Option ℕ) (rules : List Rule) → filter (written.stays after) rules ≡ filter (stays after) rules
 same_left after [] = refl
 same_left after (r ∷ rules) =
     ap (λ (b : Bool). cond b (r ∷ filter (written.stays after) rules) (filter (written.stays after) rules)) (same_stays after r)
     ∙ ap (λ (rs : List Rule). cond (stays after r) (r ∷ rs) rs) (same_left after rules)
 
--- of one list of rules behind another
+-- the text of one list of rules after another
 pub canon_more : (xs ys : List Rule) → canon (map entries.Rule (xs ++ ys)) ≡ canon (map entries.Rule xs) ++ canon (map entries.Rule ys)
 canon_more xs ys =
     ap canon (map-append entries.Rule xs ys) ∙ canon_both (map entries.Rule xs) (map entries.Rule ys)
@@ -136,7 +136,7 @@ one_behind f set host after seen k first old new count more before w =
       rw (before.4, w.added.count_is) (sym (length-append rules here)),
     )
 
--- the base's text and the lines behind it are the file
+-- the base's text and the lines after it are the file
 pub is_file_left : (f : RosterFields Cmnd) (base : List Entry) (set : List Message) (host : List ℕ) (after : Option ℕ) (m : BTreeMap RequestName Kept)
     (text : List ℕ) → FitsBase base → Gathers set m → AreBehind f set host after (values m) (canon base) text → IsFileLeft f base set host after text
 is_file_left f base set host after m text fits g b =
@@ -145,14 +145,14 @@ is_file_left f base set host after m text fits g b =
     is_left f base set host after text b.rules (has_rules f set host after m b.rules g b.given) is
     (subst (λ (t : List ℕ). Spells t (with_rules base b.rules)) (sym is) spelled)
 
--- and then they are not too many
+-- and in that case they are not too many
 pub not_past :
     (f : RosterFields Cmnd) (set : List Message) (host : List ℕ) (after : Option ℕ) (m : BTreeMap RequestName Kept) (old new : List ℕ) (lines : List Line)
     → Gathers set m → AreBehind f set host after (values m) old new → AreLines f set host lines → 8_192 < length (lines_left after lines) → ⊥
 not_past f set host after m old new lines g b are past =
     omega (arith, past, b.few, same_count f set host after b.rules lines (has_rules f set host after m b.rules g b.given) are)
 
--- why there are no lines
+-- if the lines are few enough, only want of memory is a reason to have none
 pub memory_alone : (f : RosterFields Cmnd) (set : List Message) (host : List ℕ) (after : Option ℕ) (e : HostFault) (lines : List Line)
     → IsPast f set host after e → AreLines f set host lines → length (lines_left after lines) ≤ 8_192 → e ≡ NoMemory
 memory_alone f set host after e lines (inl memory) are few = memory
@@ -187,7 +187,7 @@ gives_rights_after f base set host moment text lines are spelled =
       bare = λ i d here later none by. bare_as_base f base set i left (there i here later) none d by;
     }
 
--- ---- what is left without a moment is the whole, and with one what ends then or later
+-- ---- without a moment the whole is left, and with one what ends then or later
 
 nothing_ends : (base : List Entry) (lines : List Line) → with_lines base (lines_left None lines) ≡ with_lines base lines
 nothing_ends base lines = ap (λ (ls : List Line). with_lines base ls) (all_left lines)

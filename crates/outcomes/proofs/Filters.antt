@@ -65,7 +65,7 @@ left_of_map p h [] = refl
 left_of_map {X} {Y} p h (x ∷ xs) =
     ap (λ (more : List Y). cond (p (h x)) (h x ∷ more) more) (left_of_map p h xs) ∙ map_cond h (p (h x)) x (filter (λ (z : X). p (h z)) xs)
 
--- ---- of what summaries give in turn
+-- ---- what is left of what summaries give in turn
 
 pub left_of_given : {X : Type 0} (f : RosterFields Cmnd) (set : List Message) (give : RequestFields → Status → List X) (p : X → Bool) (ks : List Kept)
     (xs : List X) → Give f set (λ q status. filter p (give q status)) ks xs → (all : List X) × Give f set give ks all × (xs ≡ filter p all)

@@ -16,11 +16,11 @@ use Rattle.outcomes.proofs.Membership.{no_member, Contains-head, Contains-behind
 use Rattle.outcomes.proofs.NameMaps.{SetsAt, at_none, at_same, same_cases}
 use Rattle.outcomes.proofs.Standing.{Mentions, name_from_named, named_from_name, stands_in, stands_still}
 
--- what stands at a name, of a set
+-- what the map has at a name, for a set
 abbrev pub IsAt : List Message → RequestName → Option Kept → Type 0
 IsAt set name o = MatchOption o (NobodyAsks set name) (IsSummaryOf set name)
 
--- a summary stands at its request's name
+-- the map has a summary at its request's name
 pub named_at : (set : List Message) (m : BTreeMap RequestName Kept) → Gathers set m
     → (name : RequestName) (k : Kept) → at_name m name ≡ Some k → name_of k.request ≡ name
 named_at set m g name k there =
@@ -177,7 +177,7 @@ heard set v old new before after found sets ordered same stands g =
       stands = stands set was.stands;
     }) g
 
--- without its request it changes nothing
+-- a verdict without its request changes nothing
 pub unheard : (set : List Message) (v : VerdictFields) (m : BTreeMap RequestName Kept)
     → at_name m (name_meant v) ≡ None → Gathers set m → Gathers (set ++ Verdict v ∷ []) m
 unheard set v m bare g = record { ordered = g.ordered; each = λ other. at other (same_cases (name_meant v) other) }
@@ -199,7 +199,7 @@ pub gathers_still : (set : List Message) (old new : BTreeMap RequestName Kept) �
 gathers_still set old new ordered same g =
     record { ordered = ordered; each = λ name. subst (IsAt set name) (sym (same name)) (g.each name) }
 
--- with the same entries
+-- a map with the same entries gathers the same
 pub gathers_same : (set : List Message) (old new : BTreeMap RequestName Kept)
     → new.entries ≡ old.entries → IsOrdered name_cmp new → Gathers set old → Gathers set new
 gathers_same set old new same ordered g = gathers_still set old new ordered (λ name. at_same old new name same) g

@@ -81,13 +81,13 @@ module _ (set : List Message) (m : BTreeMap RequestName Kept) (g : Gathers set m
       at None was nobody = absurd (nobody q asked (refl, refl))
       at (Some k) was is = (k, value_at m (name_of q) k was, is.named)
 
-  -- a request that stands alone is that of a summary
+  -- a request that stands alone is the request of a summary
   pub kept_alone : (q : RequestFields) → StandsAlone set q → (k : Kept) × Contains (values m) k × (k.request ≡ q)
   kept_alone q alone =
       let found = kept_asked q alone.asked in
       (found.0, found.1, alone.alone found.0.request (kept_stands found.0 found.1).asked found.2)
 
--- Summaries of the set, in the order of their names; a request that stands alone is that of one of them.
+-- Summaries of the set, in the order of their names; a request that stands alone is the request of one of them.
 pub record IsRoll (set : List Message) (ks : List Kept) : Type 0 where
   pub in_order : AreInOrder SummaryPrecedes ks
   pub stands : (k : Kept) → Contains ks k → StandsFor set k
@@ -156,7 +156,7 @@ module _ {X : Type 0} (f : RosterFields Cmnd) (set : List Message) (give : Reque
         | inr later ↦ Contains-append_right (give j.request g.1) g.0 x (gives ks g.0 g.2 k later status is x h)
       ])
 
-  -- in the order of their names, and of what each gives
+  -- in the order of their names, and then of what each gives
   module _ (P : X → X → Type 0) (name : X → RequestName) (own : (q : RequestFields) (status : Status) (x : X) → Contains (give q status) x → name x ≡ name_of q)
       (each : (q : RequestFields) (status : Status) → AreInOrder P (give q status)) (before : (x y : X) → NamePrecedes (name x) (name y) → P x y) where
     pub given_in_order : (ks : List Kept) (xs : List X) → AreInOrder SummaryPrecedes ks → Give f set give ks xs → AreInOrder P xs

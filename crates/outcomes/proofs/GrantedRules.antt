@@ -1,4 +1,4 @@
--- What the rule of a grant says of an invocation, whatever the aliases are: yes where each of its parts fits, and nothing elsewhere.
+-- What the rule of a grant says about an invocation, whatever the aliases are: yes if each of its parts fits, and nothing otherwise.
 use Rattle.std.proofs.Common.{◌≡◌, ℕ, ◌≤◌, ◌⊎◌, Bool, true, false, cond, ◌&&◌, leb, Option, Some, None, List, refl, inl, inr}
 use Rattle.std.specs.Str.{bytes_eq}
 use Rattle.std.proofs.lemmas.Bool.{leb-true, le-leb}

@@ -85,7 +85,7 @@ lines_given f set host (k ∷ ks) rules g =
           ∙ sym (map-append rule_in (lines_for host k.request g.1) more.0),
     )
 
--- and where only some are left, of what is left of these
+-- and if these are only the rules that are left, all the lines that they are left from
 pub left_given : (f : RosterFields Cmnd) (set : List Message) (host : List ℕ) (after : Option ℕ) (ks : List Kept) (rules : List Rule)
     → Give f set (rules_left after host) ks rules → (lines : List Line) × Give f set (lines_for host) ks lines × (rules ≡ map rule_in (lines_left after lines))
 left_given f set host after ks rules g =
@@ -190,7 +190,7 @@ each_ordered host q (Granted w) =
 
 -- ---- the set's
 
--- the request of a summary with a window is that which is granted
+-- if a name is granted, its summary's request is the granted one
 pub granted_moments : (f : RosterFields Cmnd) (set : List Message) (k : Kept) (w : Window) → StandsFor set k
     → IsStatus f set (name_of k.request) (Granted w) → IsFirstMoment f set k.request w.start × IsLastMoment f set k.request w.end
 granted_moments f set k w stands is =
@@ -271,7 +271,7 @@ module _ (f : RosterFields Cmnd) (set : List Message) (host : List ℕ) where
     are_lines lines given =
         record { in_order = lines_ordered ks lines roll.in_order given; each = each_line ks lines roll.stands given; all = all_lines lines given }
 
-    -- some first summaries leave no more lines than the set does
+    -- the first few summaries leave no more lines than the set does
     pub some_lines : (after : Option ℕ) (seen rest : List Kept) (rules : List Rule) (all : List Line) → seen ++ rest ≡ ks
         → Give f set (rules_left after host) seen rules → AreLines f set host all → length rules ≤ length (lines_left after all)
     some_lines after seen rest rules all split given are =

@@ -72,7 +72,7 @@ module _ (f : RosterFields Cmnd) (set : List Message) (v : VerdictFields) where
   one_verdict : (w : VerdictFields) → ◌≡◌ {A = Message} (Verdict v) (Verdict w) → v ≡ w
   one_verdict w e = cc
 
-  -- of another kind than the verdict's the same are given
+  -- the longer set gives no further verdict of a kind other than this verdict's
   given_of : (q : RequestFields) (kind : VerdictKind) (w : VerdictFields) → v.kind ≢ kind → IsGiven f longer q kind w → IsGiven f set q kind w
   given_of q kind w other g = record {
     given = elim (Contains-push_cases set (Verdict v) (Verdict w) g.given) as (λ _. Contains set (Verdict w)) [

@@ -67,7 +67,7 @@ pub at_none : {X : Type 0} (m : BTreeMap RequestName X) (name : RequestName) →
 at_none {X} m name empty =
     ap (λ (es : List (RequestName × X)). lookup (is_at (name_cmp name)) es) empty
 
--- with the same entries it has the same at each name
+-- a map with the same entries has the same at each name
 pub at_same : {X : Type 0} (m n : BTreeMap RequestName X) (name : RequestName) → n.entries ≡ m.entries → at_name n name ≡ at_name m name
 at_same {X} m n name same = ap (λ (es : List (RequestName × X)). lookup (is_at (name_cmp name)) es) same
 
@@ -90,7 +90,7 @@ entry_value {X} (f ∷ es) e m =
     ]
 
 module _ {X : Type 0} (m : BTreeMap RequestName X) where
-  -- an entry stands at its name
+  -- the map has an entry at its name
   pub at_entry : IsOrdered name_cmp m → (e : RequestName × X) → Contains m.entries e → at_name m e.0 ≡ Some e.1
   at_entry ordered e among =
       let place = get_from_Contains m.entries e among in

@@ -46,7 +46,7 @@ module _ {X : Type 0} (P : X → X → Type 0) (strict : (a b : X) → P a b →
   same_head a b xs ys o p (inr f) (inl same) = sym same
   same_head a b xs ys o p (inr f) (inr g) = absurd (strict a b (behind_each P a xs o b f) (behind_each P b ys p a g))
 
-  -- a member of the longer list is no head's double
+  -- what the first list's tail shares with the other list is in the other's tail: it is not the head, which comes before it
   same_tail : (a b : X) (xs ys : List X) → a ≡ b → AllAfter P a xs → (x : X) → Contains xs x → (b ≡ x) ⊎ Contains ys x → Contains ys x
   same_tail a b xs ys same o x m (inl double) =
       let before : P a a = subst (P a) (sym double ∙ sym same) (behind_each P a xs o x m) in
@@ -66,7 +66,7 @@ module _ {X : Type 0} (P : X → X → Type 0) (strict : (a b : X) → P a b →
       (λ x m. same_tail b a ys xs (sym head) p.0 x m (Contains-cases a xs x (g x (Contains-behind b ys x m)))) in
       cc
 
-  -- the head of the one comes later in the other
+  -- if the head of the second list precedes that of the first, what the lists share is in the second one's tail
   past_head : (a b : X) (xs ys : List X) → P b a → AllAfter P a xs → (x : X) → Contains (a ∷ xs) x → (b ≡ x) ⊎ Contains ys x → Contains ys x
   past_head a b xs ys before o x m (inl same) =
       absurd (elim (Contains-cases a xs x m) as (λ _. ⊥) [

@@ -46,7 +46,7 @@ module _ (S T : List Message) (k : Kept) (none : HasNoVerdict S) (bare : HasNoVe
     once = keep.once;
   }
 
-  -- where it stands for a set without verdicts, it stands for each in which its request is disputed or not as it says
+  -- a summary that stands for a set without verdicts stands for each such set in which its request is disputed or not as it says
   row_stands : Contains T (Request k.request) → IsMarked (In T) k.request k.is_disputed → StandsFor S k → StandsFor T k
   row_stands there marked stands = record {
     asked = there;
@@ -80,7 +80,7 @@ no_verdict_one q v m = elim (Contains-cases (Request q) [] (Verdict v) m) as (λ
 no_verdict_more : (set : List Message) (q : RequestFields) → HasNoVerdict set → HasNoVerdict (set ++ Request q ∷ [])
 no_verdict_more set q bare v m = elim (Contains-push_cases set (Request q) (Verdict v) m) as (λ _. ⊥) [ inl old ↦ bare v old | inr wrong ↦ absurd cc ]
 
--- the request is the row's
+-- a summary of the row's request
 module _ (set : List Message) (row : NameRow) (bare : HasNoVerdict set) (is : IsRowOf set row) where
   pub row_single : (k : Kept) → StandsFor (Request row.request ∷ []) k → row.is_disputed ≡ false → StandsFor set k
   row_single k stands one =
@@ -125,7 +125,7 @@ row_still set rows row name other None none = no_row_more rows row name other no
 row_still set rows row name other (Some k) is = is
 
 module _ (set : List Message) (rows : List NameRow) (row : NameRow) where
-  -- of a name that has one
+  -- a row of a name that has one already
   pub rows_again : (s : Summaries) (k : Kept) → at_name s (name_of row.request) ≡ Some k → GathersRows set rows s → GathersRows set (rows ++ row ∷ []) s
   rows_again s k there g = record { ordered = g.ordered; each = λ name. at name (same_cases (name_of row.request) name) }
     where
@@ -137,7 +137,7 @@ module _ (set : List Message) (rows : List NameRow) (row : NameRow) where
       at name (inl same) = subst (λ (n : RequestName). IsRowAt set (rows ++ row ∷ []) n (at_name s n)) same here
       at name (inr differ) = row_still set rows row name differ (at_name s name) (g.each name)
 
-  -- the first of its name
+  -- the first row of its name
   pub rows_first : (old new : Summaries) (k : Kept) → SetsAt old new (name_of row.request) k → IsOrdered name_cmp new
       → k.request ≡ row.request → StandsFor set k → GathersRows set rows old → GathersRows set (rows ++ row ∷ []) new
   rows_first old new k sets ordered same stands g = record { ordered = ordered; each = λ name. at name (same_cases (name_of row.request) name) }

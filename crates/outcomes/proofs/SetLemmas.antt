@@ -30,7 +30,7 @@ use Rattle.outcomes.proofs.Orders.{live_strict, same_lists}
 abbrev Both : Type 0 → Type 0 → Type 0
 Both A B = (A → B) × (B → A)
 
--- The same requests; and the same moments complete, the same refuses and the same revokes each.
+-- Both sets have the same requests, and each of these is complete at the same moments, refused in both or in neither, and revoked by the same moments.
 pub record Alike (f : RosterFields Cmnd) (s t : List Message) : Type 0 where
   pub requests : (q : RequestFields) → Both (Contains s (Request q)) (Contains t (Request q))
   pub complete : (q : RequestFields) → Contains s (Request q) → (moment : ℕ) → Both (IsComplete f s q moment) (IsComplete f t q moment)

@@ -113,7 +113,7 @@ waits_first set q old new ordered taken others waits = record { ordered = ordere
       λ both. subst (λ (vs : List VerdictFields). Contains vs v) (sym (others name differ)) ((waits.each name v).1 (both.0, parked_before set q v both.1)),
     )
 
--- where somebody asks under its name already
+-- if somebody already asks under its name
 pub waits_again : (set : List Message) (q : RequestFields) (m : Waiting) → (NobodyAsks set (name_of q) → ⊥) → Waits set m → Waits (set ++ Request q ∷ []) m
 waits_again set q m asked waits = record {
   ordered = waits.ordered;
@@ -127,7 +127,7 @@ waits_again set q m asked waits = record {
 
 -- ---- a verdict comes
 
--- whose request is there
+-- a verdict whose request is there
 pub waits_heard : (set : List Message) (v : VerdictFields) (m : Waiting) → (NobodyAsks set (name_meant v) → ⊥) → Waits set m → Waits (set ++ Verdict v ∷ []) m
 waits_heard set v m asked waits = record {
   ordered = waits.ordered;
@@ -141,7 +141,7 @@ waits_heard set v m asked waits = record {
   );
 }
 
--- that has to wait
+-- a verdict that has to wait
 pub waits_more : (set : List Message) (v : VerdictFields) (old new : Waiting) → NobodyAsks set (name_meant v)
     → IsOrdered name_cmp new → verdicts_at new (name_meant v) ≡ verdicts_at old (name_meant v) ++ v ∷ []
     → ((other : RequestName) → (name_meant v ≡ other → ⊥) → verdicts_at new other ≡ verdicts_at old other) → Waits set old → Waits (set ++ Verdict v ∷ []) new

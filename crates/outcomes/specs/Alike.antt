@@ -14,9 +14,10 @@ use Rattle.outcomes.specs.HostFile.{IsHostFile, IsHostFileAfter}
 use Rattle.outcomes.specs.Outcomes.{AreLive, ComesTo, LiveGrant}
 use Rattle.outcomes.specs.Rights.{GivesRights, GivesRightsAfter}
 
--- By either roster each name comes to the same, each request is in force at the same moments, the
--- same invocations are covered, the same grants are in force at each moment, and each host has the
--- same file after each base, the whole and that after each moment, which gives the same rights.
+-- Under either roster each name comes to the same, each request is in force at the same moments,
+-- the same invocations are covered, the same grants are in force at each moment, each host has the
+-- same file for each base, the whole and that after each moment, and each text gives the same
+-- rights.
 pub record GrantAlike (f g : RosterFields Cmnd) (messages : List Message) : Type 0 where
   pub statuses : (name : RequestName) (o : Option Status)
       → ComesTo f messages name o ↔ ComesTo g messages name o

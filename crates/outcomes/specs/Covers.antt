@@ -1,4 +1,4 @@
--- When a grant is in force for an invocation. The set of messages is given as a list, of which each
+-- When a grant is in force for an invocation. The set of messages is given as a list; each
 -- definition asks only which messages it contains.
 use Rattle.std.specs.Prelude.{◌≡◌, true, List, Contains}
 use Rattle.sudo_words.specs.Command.{matches}

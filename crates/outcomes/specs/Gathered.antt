@@ -12,7 +12,7 @@ pub record Known : Type 0 where
   pub waiting : List VerdictFields
 
 -- At each name that somebody asks under there is a summary that stands for the set, and at the
--- other names wait exactly the set's verdicts about them.
+-- other names exactly the set's verdicts about them wait.
 pub record AreGathered (messages : List Message) (known : Known) : Type 0 where
   pub summaries : AreSummaries messages known.summaries
   pub waiting : (v : VerdictFields) → Contains known.waiting v ↔ IsParked messages v

@@ -23,8 +23,8 @@ pub record Line : Type 0 where
   pub place : ℕ
   pub rule : Rule
 
--- The line of the command at a place of a request, on a host that it names, from the first moment
--- of its window to the last.
+-- The line of the command at a place in a request, on a host that the request names, from the first
+-- moment of its window to the last.
 pub record IsLine (f : RosterFields Cmnd) (messages : List Message)
     (host : List ℕ) (line : Line) : Type 0 where
   pub request : RequestFields

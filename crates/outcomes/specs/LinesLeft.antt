@@ -18,11 +18,11 @@ abbrev pub stays : Option ℕ → Rule → Bool
 stays None rule = true
 stays (Some moment) rule = is_not_after rule.not_after moment
 
--- of the host's lines
+-- those left of the host's lines
 abbrev pub lines_left : Option ℕ → List Line → List Line
 lines_left after lines = filter (λ line. stays after line.rule) lines
 
--- the text of the base with the lines that are left, which spells just that
+-- the canonical text of the base with the lines that are left, and it spells just these entries
 pub record IsFileLeft (f : RosterFields Cmnd) (base : List Entry) (messages : List Message)
     (host : List ℕ) (after : Option ℕ) (text : List ℕ) : Type 0 where
   pub lines : List Line

@@ -11,8 +11,8 @@ use Rattle.sudo_decide.specs.declared.invocation.Invocation.{Invocation}
 use Rattle.roster.specs.Fields.{RosterFields}
 use Rattle.outcomes.specs.Covers.{Covers}
 
--- The text spells one policy. Of the host's invocations it allows each that a grant of the set
--- covers, and decides every other one as the base does.
+-- The text spells one policy. It allows each invocation on the host that a grant of the set covers,
+-- and decides every other one on the host as the base does.
 pub record GivesRights (f : RosterFields Cmnd) (base : List Entry)
     (messages : List Message) (host text : List ℕ) : Type 0 where
   pub policy : List Entry
@@ -22,9 +22,9 @@ pub record GivesRights (f : RosterFields Cmnd) (base : List Entry)
   pub bare : (i : Invocation) (d : Decision) → i.host ≡ host
       → (¬ Covers f messages i) → Decides base i d → Decides policy i d
 
--- The text spells one policy. Of the host's invocations at the moment or later it allows each that
--- a grant of the set covers, and decides every other one as the base does. It says nothing of
--- earlier ones.
+-- The text spells one policy. It allows each invocation on the host at the moment or later that a
+-- grant of the set covers, and decides every other one on the host from then on as the base does.
+-- Nothing is said about earlier ones.
 pub record GivesRightsAfter (f : RosterFields Cmnd) (base : List Entry)
     (messages : List Message) (host : List ℕ) (moment : ℕ) (text : List ℕ) : Type 0 where
   pub policy : List Entry

@@ -15,7 +15,7 @@ use Rattle.outcomes.specs.Outcomes.{AreLive, ComesTo, LiveGrant}
 
 -- Each name comes to the same, each request is in force at the same moments, each invocation is
 -- covered by both or by neither, the same grants are in force at each moment, and each host has the
--- same file after each base, the whole and that after each moment.
+-- same file for each base, the whole and that after each moment.
 pub record GrantTheSame (f : RosterFields Cmnd) (s t : List Message) : Type 0 where
   pub statuses : (name : RequestName) (o : Option Status) → ComesTo f s name o ↔ ComesTo f t name o
   pub windows : (q : RequestFields) (moment : ℕ) → InWindow f s q moment ↔ InWindow f t q moment

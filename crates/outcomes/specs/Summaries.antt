@@ -10,15 +10,15 @@ use Rattle.messages.specs.Order.{AreInOrder}
 abbrev pub SummaryPrecedes : (a b : Kept) → Type 0
 SummaryPrecedes a b = NamePrecedes (name_of a.request) (name_of b.request)
 
--- One for each name that somebody asks under, in the order of the names, and each stands for the
--- set.
+-- One summary for each name that somebody asks under, in the order of the names, and each stands
+-- for the set.
 pub record AreSummaries (messages : List Message) (list : List Kept) : Type 0 where
   pub in_order : AreInOrder SummaryPrecedes list
   pub each : (k : Kept) → Contains list k → StandsFor messages k
   pub all : (q : RequestFields) → Contains messages (Request q)
       → (k : Kept) × Contains list k × IsNamed k.request (name_of q)
 
--- Both are of one name and keep the same; where it is disputed they may keep either request.
+-- Both are of one name and keep the same; if it is disputed, they may keep different requests.
 pub record KeepTheSame (a b : Kept) : Type 0 where
   pub named : SameName a.request b.request
   pub alone : a.is_disputed ≡ false → a.request ≡ b.request
@@ -27,7 +27,7 @@ pub record KeepTheSame (a b : Kept) : Type 0 where
   pub refusals : a.refusals ≡ b.refusals
   pub revocations : a.revocations ≡ b.revocations
 
--- so it is of each two in turn, and neither list is longer
+-- this holds for each pair in turn, and neither list is longer
 abbrev pub AllKeepTheSame : (a b : List Kept) → Type 0
 AllKeepTheSame [] [] = Unit {0}
 AllKeepTheSame [] (l ∷ ls) = ⊥

@@ -1,4 +1,4 @@
--- Whose verdicts on what do not count (separation of duties, NIST SP 800-53 AC-5).
+-- When somebody's verdict does not count (separation of duties, NIST SP 800-53 AC-5).
 use Rattle.std.specs.Prelude.{◌≡◌, ℕ, true, false, List, Contains, Some}
 use Rattle.sudo_words.specs.declared.cmnd.Cmnd.{Cmnd}
 use Rattle.messages.specs.Fields.{RequestFields, VerdictFields}
@@ -8,7 +8,7 @@ use Rattle.messages.specs.declared.message.Message.TheVariants.{Request}
 use Rattle.roster.specs.Fields.{CeilingFields, RosterFields}
 use Rattle.roster.specs.Relations.{ceiling_at, conflicting, holds, may_revoke}
 
--- this holds of the ceiling of each request of the set that the verdict is about
+-- P holds for the ceiling of each request of the set that the verdict is about
 abbrev pub UnderEachCeiling : RosterFields Cmnd → List Message
     → VerdictFields → (CeilingFields Cmnd → Type 0) → Type 0
 UnderEachCeiling f messages v P =

@@ -8,7 +8,7 @@ use std::marker::Model;
 use sudo_policy::{Policy, print_policy};
 use sudo_words::NoMemory;
 
-/// A base policy, and its canonical text once that is printed. Contracts see the policy.
+/// A base policy, and its canonical text once that has been printed. Contracts see the policy.
 #[derive(Drop)]
 pub struct Base {
     policy: Policy,

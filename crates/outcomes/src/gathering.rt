@@ -24,8 +24,8 @@ use std::marker::Model;
 use sudo_words::NoMemory;
 
 /// What is known of a set of messages: a summary for each name that somebody asks under, and the
-/// verdicts that wait for their request. Both stand by name: a verdict is kept as it is until its
-/// request comes, and is part of the summary from then on.
+/// verdicts that wait for their request. Both are kept by name: a verdict is kept as it is until
+/// its request comes, and is part of the summary from then on.
 #[derive(Drop)]
 pub struct Gathered {
     pub(crate) alloc: Global,
@@ -72,8 +72,8 @@ fn first_of(alloc: Global, request: &Request, verdicts: &[Verdict]) -> Result<Su
     Ok(summary)
 }
 
-/// Adds the first request of its name: what waited for it is part of its summary, and waits no
-/// longer.
+/// Adds the first request of its name: the verdicts that waited for it are part of its summary, and
+/// wait no longer.
 fn put_first(
     alloc: Global,
     summaries: &mut BTreeMap<RequestName, Summary>,
@@ -95,7 +95,7 @@ fn put_first(
     Ok(())
 }
 
-/// Adds a request: to the summary of its name, or as the first of it.
+/// Adds a request: to the summary of its name, or as the first of that name.
 fn put_request(
     alloc: Global,
     summaries: &mut BTreeMap<RequestName, Summary>,
@@ -212,7 +212,7 @@ fn summaries_of(alloc: Global, rows: &[NameRow]) -> Result<BTreeMap<RequestName,
 }
 
 impl Gathered {
-    /// What is known of no messages. It takes no memory.
+    /// What is known of the empty set of messages. It takes no memory.
     pub fn new(alloc: Global) -> Gathered
         ensures { AreGathered [] result }
     {
@@ -223,7 +223,7 @@ impl Gathered {
         }
     }
 
-    /// What is known of the requests of which these are the rows, before any verdict.
+    /// What is known of the requests that these rows show, before any verdict.
     fn of_names(alloc: Global, names: &[NameRow]) -> Result<Gathered, NoMemory>
         ensures { (set : List AnyMessage) → ShowSet (λ m. Contains set m) names.now []
             → IfOk result (AreGathered set) }
@@ -236,8 +236,8 @@ impl Gathered {
         })
     }
 
-    /// Adds a verdict: what is known is then that of the set with the verdict. Where memory runs
-    /// out, it is still that of the set.
+    /// Adds a verdict: what is known is then what is known of the set with the verdict. If memory
+    /// runs out, it is still what is known of the set.
     fn hear(&mut self, verdict: &Verdict) -> Result<(), NoMemory>
         ensures ok { (set : List AnyMessage) → AreGathered set self.old
             → OnOk result (AreGathered (set ++ message_of.Verdict verdict.now ∷ []) self.new) }
@@ -247,8 +247,8 @@ impl Gathered {
         put_verdict(self.alloc, &mut self.summaries, &mut self.waiting, verdict)
     }
 
-    /// Adds a message: what is known is then that of the set with the message. Where memory runs
-    /// out, it is still that of the set.
+    /// Adds a message: what is known is then what is known of the set with the message. If memory
+    /// runs out, it is still what is known of the set.
     pub fn take(&mut self, message: &Message) -> Result<(), NoMemory>
         ensures ok { (set : List AnyMessage) → AreGathered set self.old
             → OnOk result (AreGathered (set ++ message.now ∷ []) self.new) }
@@ -277,8 +277,8 @@ impl Gathered {
         Ok(gathered)
     }
 
-    /// What is known of the set that the rows of names and the verdicts show, the verdicts that
-    /// wait among them. No other message is read.
+    /// What is known of the set that the rows of names and the verdicts show, including the
+    /// verdicts that wait. No other message is read.
     pub fn of_rows(
         alloc: Global,
         names: &[NameRow],

@@ -29,8 +29,8 @@ ghost use Rattle.outcomes.specs.Same.{GrantTheSame};
 ghost use Rattle.outcomes.specs.Summaries.{AllKeepTheSame, AreSummaries};
 ghost use Rattle.outcomes.specs.Uncounted.{HoldsConflicting, MayNotRevoke};
 
-/// Two lists of the same messages grant the same, the same verdicts are parked, and the same
-/// summaries are theirs: neither order nor repeats mean anything.
+/// Two lists of the same messages grant the same, park the same verdicts and have the same
+/// summaries: neither order nor repeats matter.
 pub fn order_free()
     ensures grants { (f : RosterFields Cmnd) (s t : List Message)
         → SameMessages s t → GrantTheSame f s t }
@@ -40,9 +40,10 @@ pub fn order_free()
         → SameMessages s t → AreSummaries s list → AreSummaries t list }
 {}
 
-/// A set of messages gives a name one status, or none; a moment one list of grants; one list of
-/// parked texts; one list of summaries, but for which request a disputed one keeps; and a host one
-/// file after each base, and one after each moment.
+/// A set of messages has at most one of each: one status, or none, for a name; one list of grants
+/// in force at a moment; one list of parked texts; one list of summaries, except for which request
+/// a disputed one keeps; and for a host and a base one file, and one without the lines that end
+/// before a moment.
 pub fn one_of_each()
     ensures status { (f : RosterFields Cmnd) (set : List Message) (name : AnyName)
         (a b : Option Status) → ComesTo f set name a → ComesTo f set name b → a ≡ b }
@@ -59,9 +60,9 @@ pub fn one_of_each()
         → IsHostFileAfter f base set host moment b → a ≡ b }
 {}
 
-/// Each set of messages has them all, where a roster's text says who may do what: a name its status
-/// or none, a moment its grants, a host its lines and so its file after each base, the whole and
-/// that after each moment; and it has its parked texts and its summaries.
+/// Under a roster that was read from a text, each set of messages has them all: for each name its
+/// status, or none; for each moment its grants in force; for each host its lines, and so its file
+/// for each base, the whole and that after each moment; and its parked texts and its summaries.
 pub fn each_has_one()
     ensures status { (text : List ℕ) (f : RosterFields Cmnd) (set : List Message) (name : AnyName)
         → IsRosterText text f → ((m : Message) → Contains set m → IsMessage m)
@@ -81,9 +82,9 @@ pub fn each_has_one()
         → (list : List Kept) × AreSummaries set list }
 {}
 
-/// What is a host's file gives its rights: read by the rules of sudoers(5) it allows what a grant
-/// of the set covers, and decides all else as the base does. So it is for every base within the
-/// limits, every set of messages, and at most 8,192 lines.
+/// A host's file gives its rights: read by the rules of sudoers(5), it allows what a grant of the
+/// set covers, and decides all else as the base does. This holds for every base within the limits,
+/// every set of messages, and at most 8,192 lines.
 pub fn file_gives_rights()
     ensures { (f : RosterFields Cmnd) (base : List Entry) (set : List Message) (host text : List ℕ)
         → FitsBase base → ((m : Message) → Contains set m → IsMessage m)
@@ -91,10 +92,10 @@ pub fn file_gives_rights()
         → length file.lines ≤ 8_192 → GivesRights f base set host text }
 {}
 
-/// A line is left after a moment exactly where it is one of the host's and the last moment of its
-/// window is not before that one: one that ends at the moment stays, and after the first moment of
-/// all the file is the whole. What is the file after a moment gives the rights from then on,
-/// whatever lines were left out.
+/// A line is left after a moment exactly if it is one of the host's lines and the last moment of
+/// its window is not before that moment: a line that ends at the moment stays, and the file after
+/// moment 0 is the whole file. The file after a moment gives the rights from then on, whatever
+/// lines were left out, if at most 8,192 are left.
 pub fn ended_lines_give_nothing()
     ensures left { (f : RosterFields Cmnd) (set : List Message) (host : List ℕ)
         (moment : ℕ) (lines : List Line) (line : Line) → (is : IsLine f set host line)
@@ -123,9 +124,10 @@ pub fn disputed_gives_nothing()
         → p ≢ q → (¬ InWindow f set p moment) × (¬ InWindow f set q moment) }
 {}
 
-/// Separation of duties (NIST SP 800-53 AC-5): the asker's own approval or refusal may be added or
-/// taken away, or that of somebody who holds a duty at its moment that conflicts with the approving
-/// duty, or the revocation of somebody who may not revoke then: the same is granted.
+/// Separation of duties (NIST SP 800-53 AC-5): adding or removing one of these verdicts changes
+/// nothing that is granted: the asker's own approval or refusal; that of somebody who at its moment
+/// holds a duty that conflicts with the approving duty; and the revocation of somebody who may not
+/// revoke then.
 pub fn who_changes_nothing()
     ensures asker { (f : RosterFields Cmnd) (set : List Message) (v : VerdictFields) →
         v.kind ≢ kinds.Revoke → v.by ≡ v.of → GrantTheSame f set (set ++ Verdict v ∷ []) }
@@ -133,7 +135,7 @@ pub fn who_changes_nothing()
         ≢ kinds.Revoke → HoldsConflicting f set v → GrantTheSame f set (set ++ Verdict v ∷ []) }
     ensures revocation { (f : RosterFields Cmnd) (set : List Message) (v : VerdictFields) →
         v.kind ≡ kinds.Revoke → MayNotRevoke f set v → GrantTheSame f set (set ++ Verdict v ∷ []) }
-    // So it is of each verdict that never counts.
+    // The same holds for each verdict that never counts.
     ensures uncounted { (f : RosterFields Cmnd) (set : List Message) (v : VerdictFields) →
         NeverCounts f set v → GrantTheSame f set (set ++ Verdict v ∷ []) }
 {}
@@ -144,8 +146,8 @@ pub fn revocation_ends()
         (moment : ℕ) → IsGiven f set q kinds.Revoke v → InWindow f set q moment → moment < v.at }
 {}
 
-/// A refusal that counts, and is not later than the completion, refuses; a later one may be added
-/// or taken away, and the same is granted.
+/// A refusal that counts, and is not later than the completion, refuses; adding or removing a later
+/// one changes nothing that is granted.
 pub fn refusal_in_time()
     ensures status { (f : RosterFields Cmnd) (set : List Message) (q : RequestFields)
         (v : VerdictFields) → StandsAlone set q → AdmitsRequest f q → IsGiven f set q kinds.Refuse v
@@ -161,7 +163,7 @@ pub fn refusal_in_time()
         → complete < v.at → GrantTheSame f set (set ++ Verdict v ∷ []) }
 {}
 
-/// A verdict without its request is parked, and leaves the parked when the request comes.
+/// A verdict without its request is parked, and is parked no longer when the request comes.
 pub fn parked_until_asked()
     ensures parked { (set : List Message) (v : VerdictFields) (texts : List (List ℕ))
         → Contains set (Verdict v) → NobodyAsks set (name_meant v)

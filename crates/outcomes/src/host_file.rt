@@ -21,11 +21,11 @@ use std::alloc::Global;
 use std::collections::BTreeMap;
 use sudo_words::{HostName, Moment, NoMemory};
 
-/// The most lines of a host's file beside the base's.
+/// The most lines of a host's file after those of the base.
 const MOST_LINES: usize = 8_192;
 
 /// Adds the lines that the summaries' requests give the host and that are left, in the order of
-/// their names: `TooManyRules` past 8,192.
+/// their names: `TooManyRules` if they are more than 8,192.
 fn push_all(
     alloc: Global,
     text: &mut String,
@@ -55,8 +55,8 @@ fn push_all(
 /// command of each request that is granted on the host, with the first and the last moment of its
 /// window. With a moment, the lines that end before it are left out.
 ///
-/// `TooManyRules` comes exactly where the lines after the base are more than 8,192, and `NoMemory`
-/// where memory runs out.
+/// The error is `NoMemory` if memory runs out. Otherwise it is `TooManyRules`, exactly if more than
+/// 8,192 lines would come after the base.
 pub fn host_file_in(
     alloc: Global,
     roster: &Roster,
@@ -68,7 +68,7 @@ pub fn host_file_in(
     requires { FitsBase base.old }
     ensures file { (set : List AnyMessage) → AreGathered set gathered.now → IfOk result
         (λ s. left.IsFileLeft roster.now.says base.old set host.now after (string_bytes s)) }
-    // Where the lines are few it comes, and where they are too many it is refused.
+    // With at most 8,192 lines the only error is want of memory, and with more there is no file.
     ensures few { (set : List AnyMessage) (ls : List Line)
         → AreGathered set gathered.now → AreLines roster.now.says set host.now ls
         → length (left.lines_left after ls) ≤ 8_192 → IfErr result (λ e. e ≡ fault.NoMemory) }

@@ -10,7 +10,7 @@ use grants::{Status, status};
 use messages::RequestName;
 use roster::Roster;
 
-/// The name's status, none where the set has no request of it. It takes no memory.
+/// The name's status, or none if the set has no request of the name. It takes no memory.
 pub fn status_in(roster: &Roster, gathered: &Gathered, name: &RequestName) -> Option<Status>
     ensures { (set : List AnyMessage) → AreGathered set gathered.now
         → ComesTo roster.now.says set name.now result }

@@ -25,7 +25,7 @@ fn push_texts(alloc: Global, texts: &mut Vec<String>, verdicts: &[Verdict]) -> R
     Ok(())
 }
 
-/// The texts of the verdicts that wait, by the names that they are about.
+/// The texts of the verdicts that wait, in the order of the names that they are about.
 fn texts_of(
     alloc: Global,
     waiting: &BTreeMap<RequestName, Vec<Verdict>>,
@@ -40,7 +40,7 @@ fn texts_of(
     Ok(texts)
 }
 
-/// The texts of the set's verdicts without their request, each once, in byte order.
+/// The texts of the set's verdicts whose request has not come, each once, in byte order.
 pub fn parked_in(alloc: Global, gathered: &Gathered) -> Result<Vec<String>, NoMemory>
     ensures { (set : List AnyMessage) → AreGathered set gathered.now
         → IfOk result (λ texts. AreParked set (map string_bytes texts.items)) }

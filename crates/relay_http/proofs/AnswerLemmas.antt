@@ -31,7 +31,7 @@ wanting : (e : Refusal) → IsWant e → IsWanting (refusal e)
 wanting e (inl memory) = inl (ap refusal memory)
 wanting e (inr storage) = inr (ap refusal storage)
 
--- ---- of all replies one says that the storage failed
+-- ---- only one reply says that the storage failed
 
 abbrev says_storage : List ℕ → Bool
 says_storage [] = false

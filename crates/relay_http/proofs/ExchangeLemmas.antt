@@ -138,7 +138,7 @@ module _ (f : RosterFields Cmnd) (base : List Entry) (IsUp : Type 0) (old new : 
             )
       ]
 
-  -- the head of another method is none of a POST
+  -- a head with another method is not that of a POST
   pub queries : (bytes : List ℕ) (request : Request ℕ) → Asks bytes request → IsExchange f base IsUp old new Same Served Wrote request → IsUp
       → (head : RequestHead) → HasHead bytes head → head.method ≢ codes "POST" → Same
   queries bytes request asks x up head has differs =

@@ -1,4 +1,4 @@
--- What the definitions say of methods and of what is delivered.
+-- What the definitions say about methods and about what is delivered.
 use Rattle.std.proofs.Common.{◌≡◌, ◌≤◌, ℕ, List, [], ◌∷◌, ◌++◌, Bool, true, false, Option, Some, None, Result, Ok, Err}
 use Rattle.std.proofs.Common.{refl, sym, ap, subst, inl, take, length, arith, length-take, nat_lt, not, codes, cond}
 use Rattle.std.specs.Str.Parse.{digits_value}
@@ -44,7 +44,7 @@ head_asks target minor fields rest =
     ap (λ (a : Asked (List ℕ)). cond (is_bad_host minor (values (codes "host") fields)) (refused BadHead) (cond (not (is_plain target)) (refused BadTarget) a))
     (head_on (first routes target) target fields rest)
 
--- what is said of a delivery
+-- if it is a delivery, the method is POST, and the body is a beginning of the rest, of at most 16,384 bytes
 abbrev IsPosted : (method rest : List ℕ) → Asked (List ℕ) → Type 0
 IsPosted method rest (deliver relay body) = (method ≡ codes "POST") × (length body ≤ 16384) × (body ≡ take (length body) rest)
 IsPosted method rest all_messages = Unit {0}
@@ -125,7 +125,7 @@ pub only_post_delivers : (method target : List ℕ) (minor : ℕ) (fields : Fiel
 only_post_delivers method target minor fields rest relay body e =
     subst (λ (a : Asked (List ℕ)). IsPosted method rest a) e (posted_by rest method target minor fields)
 
--- what is said of the route of a delivery
+-- if it is a delivery, its route is that of a relay's messages
 abbrev IsOfMessages : Option (RouteOf Place) → Asked (List ℕ) → Type 0
 IsOfMessages found (deliver relay body) = (route : RouteOf Place) × (found ≡ Some route) × (route.value ≡ Messages)
 IsOfMessages found all_messages = Unit {0}

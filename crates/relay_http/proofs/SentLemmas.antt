@@ -1,4 +1,4 @@
--- Writes, one behind the other.
+-- Writes, one after the other.
 use Rattle.std.proofs.Common.{◌+◌, ℕ, List, [], ◌++◌, Option, Some, None, Result, Ok, Err, sym, ap, ◌∙◌, subst, take, drop, append_assoc, take-append-drop}
 use Rattle.std.proofs.lemmas.List.{append-nil}
 use Rattle.std.proofs.Math.Seq.{take-add}
@@ -16,7 +16,7 @@ pub appends_next : (a b c : Option (List ℕ)) (bytes : List ℕ) (sent taken : 
 appends_next a b c bytes sent taken before here =
     subst (λ (l : List ℕ). Appends a c l) (sym (take-add sent taken bytes)) (appends_both a b c (take sent bytes) (take taken (drop sent bytes)) before here)
 
--- a write behind a beginning takes nothing
+-- a write after a beginning takes nothing
 pub began_at : (a b c : Option (List ℕ)) (bytes : List ℕ) (sent : ℕ) → Appends a b (take sent bytes) → Appends b c [] → Began a c bytes
 began_at a b c bytes sent before none = (
   take sent bytes,
@@ -24,7 +24,7 @@ began_at a b c bytes sent before none = (
   subst (λ (l : List ℕ). Appends a c l) (append-nil (take sent bytes)) (appends_both a b c (take sent bytes) [] before none),
 )
 
--- of two parts the first was not sent whole
+-- the first of two parts was not sent whole
 pub began_first : (a b : Option (List ℕ)) (xs ys : List ℕ) → Began a b xs → Began a b (xs ++ ys)
 began_first a b xs ys h = (h.0, (h.1.0 ++ ys, ap (λ (l : List ℕ). l ++ ys) h.1.1 ∙ append_assoc h.0 h.1.0 ys), h.2)
 

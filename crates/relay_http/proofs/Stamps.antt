@@ -6,7 +6,7 @@ use Rattle.sudo_words.proofs.MomentLemmas.{stamp_is, stamp_only, stamp_length}
 pub length_stamped : (text : List ℕ) (t : ℕ) → IsStamp text t → length text ≡ 15
 length_stamped text t h = ap length (stamp_only text t h) ∙ stamp_length t
 
--- of its 15 bytes the last is `Z`, and no digit of an offset
+-- the last of its 15 bytes is `Z`, not a digit of an offset
 pub offset_not_stamped : (text : List ℕ) (t : ℕ) → get_or text 14 0 < 90 → IsStamp text t → ⊥
 offset_not_stamped text t below h =
     let last : get_or text 14 0 ≡ 90 = ap (λ (l : List ℕ). get_or l 14 0) (stamp_only text t h) in

@@ -59,7 +59,7 @@ asks_at buf found headers spans h result is_front len at is = (
       ∙ ap (λ (n : ℕ). request_by h.method h.target h.minor (map name_and_value h.fields) (drop n buf)) at.len) is,
 )
 
--- a text is of one moment
+-- a text is that of at most one moment
 one_dated_at : (question : ℕ → Asked ℕ) (at : List ℕ) (a b : Asked ℕ) → DatesAt question at a → DatesAt question at b → a ≡ b
 one_dated_at question at a b (inl x) (inl y) = x.2 ∙ ap question (one_spelled at x.0 y.0 (stamp_spells at x.0 x.1) (stamp_spells at y.0 y.1)) ∙ sym y.2
 one_dated_at question at a b (inl x) (inr y) = absurd (y.0 x.0 x.1)

@@ -7,8 +7,8 @@ use Rattle.relay_http.specs.declared.asked.Ask.TheVariants.{Parked, HostFile}
 use Rattle.relay_http.specs.declared.asked.Ask.TheVariants.{HostFileAfter, Report, Refused}
 use Rattle.relay_http.specs.declared.asked.Wanted.{Wanted}
 
--- A delivery by a relay, a query, or the first fault that applies. `At` is what stands for a
--- moment: its seconds, or a text that is still to be read.
+-- A delivery by a relay, a query, or the first fault that applies. `At` is the type of a moment:
+-- its seconds, or a text that is still to be read.
 pub data Asked (At : Type 0) : Type 0 where
   deliver : (relay body : List ℕ) → Asked At
   all_messages : Asked At
@@ -25,7 +25,7 @@ pub record Request (At : Type 0) : Type 0 where
   pub with_body : Bool
   pub asked : Asked At
 
--- the same of the program's values, without where they lie
+-- the same as asked by the program's value, whose texts are borrowed
 abbrev pub asked_of : Ask → Asked ℕ
 asked_of (Deliver relay body) = deliver relay.now body.now
 asked_of AllMessages = all_messages

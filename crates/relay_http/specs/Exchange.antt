@@ -23,8 +23,8 @@ use Rattle.relay_http.specs.declared.status.Status.TheVariants.{Done}
 
 -- The reply of a desk of this roster and base to what is asked. `IsUp` says that the storage was
 -- honest and no failure has shut it, `old` and `new` which messages it holds before and then,
--- `Same` that it keeps what it kept, and `Served` what storage did, as `desk_store` says it of an
--- answer that tells of a failed storage, and of one that tells of a want of memory or of storage.
+-- `Same` that it keeps what it kept, and `Served` what storage did, as `desk_store` defines it: by
+-- whether the answer tells of a failed storage, and whether of a want of memory or of storage.
 pub record IsAnswered (f : RosterFields Cmnd) (base : List Entry)
     (IsUp : Type 0) (old new : Message → Type 0) (Same : Type 0)
     (Served : (Failure Want : Type 0) → Type 0) (asked : Asked ℕ) (reply : Reply) : Type 0 where
@@ -33,8 +33,7 @@ pub record IsAnswered (f : RosterFields Cmnd) (base : List Entry)
   pub leaves : IsUp → Leaves Same old new asked reply
   pub served : Served (reply ≡ refusal Storage) (IsWanting reply)
 
--- An exchange over such a desk: one reply is its answer, and that reply's bytes were written, as
--- `Wrote` says of them.
+-- An exchange over such a desk: one reply is its answer, and `Wrote` holds of that reply's bytes.
 pub record IsExchange (f : RosterFields Cmnd) (base : List Entry) (IsUp : Type 0)
     (old new : Message → Type 0) (Same : Type 0) (Served : (Failure Want : Type 0) → Type 0)
     (Wrote : List ℕ → Type 0) (request : Request ℕ) : Type 0 where

@@ -1,4 +1,4 @@
--- The program's replies, as the replies that they are. Of the program alone.
+-- The program's replies, as replies of the definitions. For the program alone.
 use Rattle.std.specs.Prelude.{ℕ, List, Result, Ok, Err, String, string_bytes}
 use Rattle.std.specs.declared.alloc.Global.{Global}
 use Rattle.desk.specs.declared.refusal.Refusal.{Refusal}

@@ -73,8 +73,9 @@ live_line l = name_text l.name ++ space ∷ [] ++ l.ceiling ++ window_text l.win
 abbrev pub done : List ℕ → Reply
 done body = record { status = status.Done; body = body }
 
--- The status of a refusal of the desk (RFC 9110, section 15): of the message's form, of the
--- message, of what is not there, or for now.
+-- The status of a refusal of the desk (RFC 9110, section 15): 400 or 413 for the message's form,
+-- 403 for an unknown relay or a message that is not admitted, 404 for an unknown host, else 503,
+-- which is for now.
 abbrev pub refusal_status : Refusal → Status
 refusal_status UnknownRelay = status.Forbidden
 refusal_status UnknownHost = status.NotFound
@@ -107,8 +108,8 @@ delivery relay body = record { relay = relay; body = body }
 abbrev pub is_known_host : RosterFields Cmnd → List ℕ → Bool
 is_known_host f host = is_host_name host && is_among f.hosts host
 
--- The reply to who asks for a host's file, of which some lines are left: the roster lacks the host;
--- or few enough lines are left, and it is the base with these; or too many are.
+-- The reply to who asks for a host's file with the lines that `left` leaves: the roster lacks the
+-- host; or few enough lines are left, and it is the base with these; or too many are.
 abbrev pub IsFileReply : (left : List Line → List Line) → RosterFields Cmnd
     → (base : List Entry) → List Message → (host : List ℕ) → Reply → Type 0
 IsFileReply left f base set host reply =
@@ -140,7 +141,7 @@ IsReply f base set (refused fault) reply = reply ≡ record {
   body = fault_line fault;
 }
 
--- memory or the storage was wanting: no right reply to anything
+-- memory or the storage was wanting: never a right reply
 abbrev pub IsWanting : Reply → Type 0
 IsWanting reply = (reply ≡ refusal NoMemory) ⊎ (reply ≡ refusal Storage)
 
@@ -150,8 +151,8 @@ IsWanting reply = (reply ≡ refusal NoMemory) ⊎ (reply ≡ refusal Storage)
 abbrev pub Stores : (body : List ℕ) → Reply → Message → Type 0
 Stores body reply m = IsMessage m × (body ≡ wire m) × (reply.status ≡ status.Done)
 
--- What is held then: with a delivery exactly what was held, and the message that is acknowledged;
--- and all is kept the same but with the one reply 200 to a delivery.
+-- What is held then: after a delivery exactly what was held, and the message that is acknowledged.
+-- All is kept the same, except after a delivery with the reply 200.
 abbrev pub Leaves : (Same : Type 0) → (old new : Message → Type 0) → Asked ℕ → Reply → Type 0
 Leaves Same old new (deliver relay body) reply =
     SameSet (λ m. old m ⊎ Stores body reply m) new × (reply.status ≢ status.Done → Same)

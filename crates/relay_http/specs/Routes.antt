@@ -51,7 +51,7 @@ parameter HostFile = codes "host"
 parameter HostFileAfter = codes "host"
 parameter Report = codes "at"
 
--- the name of the moment behind it
+-- the name of the moment's parameter after it
 abbrev pub moment_parameter : Place → List ℕ
 moment_parameter Messages = []
 moment_parameter AllMessages = []

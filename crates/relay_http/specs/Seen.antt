@@ -1,4 +1,4 @@
--- How many fields a name has, as far as it matters: none, one or more. Of the program alone: no
+-- How many fields a name has, as far as it matters: none, one or more. For the program alone: no
 -- promise cites it.
 use Rattle.std.specs.Prelude.{◌≡◌, ℕ, List, [], ◌∷◌}
 use Rattle.relay_http.specs.declared.values.Values.{Values}

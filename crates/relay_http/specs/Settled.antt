@@ -1,5 +1,5 @@
--- When the content is not there yet, and how many bytes may count. Of the program alone: no promise
--- cites it.
+-- When the content is not there yet, and how many bytes may count. For the program alone: no
+-- promise cites it.
 use Rattle.std.specs.Prelude.{◌++◌, ℕ, List, Bool, true, false}
 use Rattle.relay_http.specs.Asked.{Asked, Request, deliver, all_messages, grants}
 use Rattle.relay_http.specs.Asked.{parked, host_file, host_file_after, report, refused}
@@ -34,7 +34,7 @@ lacks_content (refused fault) = is_short_body fault
 abbrev pub is_short : {At : Type 0} → Request At → Bool
 is_short request = lacks_content request.asked
 
--- a longest head and a longest content
+-- the longest head and the longest content
 abbrev pub most_read : ℕ
 most_read = 24_576
 

@@ -15,7 +15,7 @@ number_sign = 35
 abbrev pub percent_sign : ℕ
 percent_sign = 37
 
--- ASCII, and no mark that begins a query, a fragment or an encoded byte (RFC 3986, sections 2.1,
+-- ASCII, and not a mark that begins a query, a fragment or an encoded byte (RFC 3986, sections 2.1,
 -- 3.4 and 3.5)
 abbrev pub is_plain_byte : ℕ → Bool
 is_plain_byte b =

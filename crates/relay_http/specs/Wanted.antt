@@ -32,7 +32,7 @@ most_fields = 32
 abbrev pub is_head : (method : List ℕ) → Bool
 is_head method = bytes_eq method (codes "HEAD")
 
--- the methods that a place has; GET stands with HEAD
+-- the methods that a place has; where it has GET, it has HEAD too
 abbrev pub methods_of : Place → Methods
 methods_of Messages = Post
 methods_of AllMessages = GetOrHead
@@ -87,7 +87,7 @@ asked_by method target minor fields rest =
     else (if not (is_plain target) then refused BadTarget
     else on_route (first routes target) method target fields rest)
 
--- the reply to HEAD has no body, a refusal's neither (RFC 9110, section 9.3.2)
+-- the reply to HEAD has no body, not even where it is a refusal (RFC 9110, section 9.3.2)
 abbrev pub request_by : (method target : List ℕ) → (minor : ℕ)
     → Fields → (rest : List ℕ) → Request (List ℕ)
 request_by method target minor fields rest = record {
@@ -95,13 +95,13 @@ request_by method target minor fields rest = record {
   asked = asked_by method target minor fields rest;
 }
 
--- what the head asks for that these bytes begin with
+-- what the head at the beginning of these bytes asks for
 abbrev pub asks_by : RequestHead → List ℕ → Request (List ℕ)
 asks_by h bytes = request_by h.method h.target h.minor
     (map name_and_value h.fields) (drop (length (print_request h)) bytes)
 
--- a moment stands as its canonical text; of any other text in its place the request is refused,
--- last of all
+-- a moment is given by its canonical text; a request with any other text in its place is refused,
+-- which is the last fault that is looked for
 abbrev pub DatesAt : (question : ℕ → Asked ℕ) → (at : List ℕ) → Asked ℕ → Type 0
 DatesAt question at asked =
     ((t : ℕ) × IsStamp at t × (asked ≡ question t))
@@ -122,12 +122,12 @@ Dates (refused fault) asked = asked ≡ refused fault
 abbrev pub DatesRequest : Request (List ℕ) → Request ℕ → Type 0
 DatesRequest r request = (request.with_body ≡ r.with_body) × Dates r.asked request.asked
 
--- the front of the bytes in which the head must stand
+-- the first bytes, in which the whole head must lie
 unfoldable pub front : List ℕ → List ℕ
 front bytes = take most_head_bytes bytes
 
--- The front begins with this head, which has no more fields than may be. No head is the beginning
--- of another: it is the shortest.
+-- The front begins with this head, which does not have too many fields. No head is the beginning of
+-- another, so it is the shortest.
 abbrev pub HasHead : List ℕ → RequestHead → Type 0
 HasHead bytes h =
     ((rest : List ℕ) × ReadsRequest (front bytes) h rest) × (length h.fields ≤ most_fields)
@@ -137,7 +137,7 @@ abbrev pub AsksByHead : List ℕ → Request ℕ → Type 0
 AsksByHead bytes request =
     (h : RequestHead) × HasHead bytes h × DatesRequest (asks_by h bytes) request
 
--- What the bytes ask for: what their head does. With no head they are refused, with a body.
+-- The bytes ask for what their head does. Without a head they are refused, in a reply with a body.
 abbrev pub Asks : List ℕ → Request ℕ → Type 0
 Asks bytes request =
     AsksByHead bytes request ⊎ (((h : RequestHead) → ¬ (HasHead bytes h))

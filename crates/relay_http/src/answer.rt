@@ -47,7 +47,7 @@ pub fn to_fault(fault: RequestFault) -> Answer
     }
 }
 
-/// The reply that the desk refuses. It takes no memory.
+/// The reply to what the desk refuses. It takes no memory.
 fn to_refusal(reason: Refusal) -> Answer
     ensures { reply_of result ≡ refusal reason }
 {

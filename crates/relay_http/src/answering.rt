@@ -80,7 +80,7 @@ fn parked<K: Keeper>(alloc: Global, desk: &mut Desk<K>) -> Result<String, Refusa
     }
 }
 
-/// The host's file. A text that is no host's name is a host that the roster lacks.
+/// The host's file. A text that is not a host's name counts as a host that the roster lacks.
 fn host_file<K: Keeper>(alloc: Global, desk: &mut Desk<K>, host: &str) -> Result<String, Refusal>
     ensures answered { IsAnswered desk.old.roster.says desk.old.base
         (K.is_up desk.new.keeper) (K.holds desk.old.keeper) (K.holds desk.new.keeper)

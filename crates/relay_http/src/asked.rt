@@ -6,7 +6,7 @@ use sudo_words::Moment;
 /// What a request asks of the desk, by its bytes alone.
 #[derive(Clone, Copy, Debug)]
 pub enum Ask<'b> {
-    /// The delivery of a message by a relay, whatever the relay's name and the message's form.
+    /// The delivery of a message by a relay. The relay may have any name and the message any form.
     Deliver { relay: &'b str, body: &'b [u8] },
     /// Every message.
     AllMessages,
@@ -14,7 +14,7 @@ pub enum Ask<'b> {
     Grants(Moment),
     /// The verdicts whose request has not come.
     Parked,
-    /// The sudoers file of a host, whatever the form of its name.
+    /// The sudoers file of a host, whose name may have any form.
     HostFile(&'b str),
     /// The same without the lines that end before the moment.
     HostFileAfter(&'b str, Moment),
@@ -24,7 +24,7 @@ pub enum Ask<'b> {
     Refused(RequestFault),
 }
 
-/// What a request asks for, and whether the reply has its body: that to HEAD has none.
+/// What a request asks for, and whether the reply has its body: the reply to HEAD has none.
 #[derive(Clone, Copy, Debug)]
 pub struct Wanted<'b> {
     pub with_body: bool,

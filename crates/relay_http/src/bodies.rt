@@ -17,7 +17,7 @@ fn push_stamp(out: &mut String, moment: Moment) -> Result<(), AllocError>
     write!(out, "{moment}")
 }
 
-/// Appends what a grant's line says of its window.
+/// Appends the window of a grant's line: its first and its last moment.
 #[tactic(auto, unfolding(crate::specs::Replies::window_text))]
 fn push_window(out: &mut String, window: Window) -> Result<(), AllocError>
     ensures { OnOk result (string_bytes out.new ≡ string_bytes out.old ++ window_text window) }

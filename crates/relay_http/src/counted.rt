@@ -31,7 +31,7 @@ impl<T> Counted<T> {
         self.inner
     }
 
-    /// How many reads and writes failed; the greatest number stands for itself and all beyond.
+    /// How many reads and writes failed; the greatest number means that many or more.
     pub fn failures(&self) -> u64
         ensures { result ≡ self.now.failures }
     {

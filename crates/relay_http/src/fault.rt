@@ -9,8 +9,8 @@ use std::fmt;
 /// Why a request is refused by its bytes alone. It is shown as its code and name.
 #[derive(Clone, Copy, Debug, PartialEq, Eq)]
 pub enum RequestFault {
-    /// The first 8,192 bytes begin with no request head of at most 32 fields, or its Host field is
-    /// missing or there twice.
+    /// The first 8,192 bytes do not begin with a request head of at most 32 fields, or a head of
+    /// HTTP/1.1 has no Host field, or any head has more than one.
     BadHead,
     /// The target does not begin with `/`, or has a query, a fragment, an encoded byte or one past
     /// ASCII.
@@ -27,7 +27,7 @@ pub enum RequestFault {
     TooLong,
     /// The stream ends before the content does.
     ShortBody,
-    /// The text in a moment's place is no moment's canonical text.
+    /// The text in a moment's place is not the canonical text of a moment.
     BadMoment,
 }
 

@@ -1,5 +1,4 @@
-//! The laws, each the contract of a function that does nothing. Those of requests and replies
-//! stand here.
+//! The laws of requests and replies, each the contract of a function that does nothing.
 
 ghost use Rattle.std.specs.Prelude.{◌≡◌, ◌≤◌, ◌++◌, ℕ, List, [], Some};
 ghost use Rattle.std.specs.Prelude.{codes, false, length, take, true};
@@ -30,7 +29,7 @@ pub fn one_request()
     ensures { (bytes : List ℕ) (a b : Request ℕ) → Asks bytes a → Asks bytes b → a ≡ b }
 {}
 
-/// One beginning of the front is a head, so that it is the shortest.
+/// At most one beginning of the front is a head, so it is the shortest one.
 pub fn one_head()
     ensures { (bytes : List ℕ) (h k : RequestHead) (rest : List ℕ) (n : ℕ)
         → ReadsRequest (front bytes) h rest → ReadsRequest (take n (front bytes)) k [] → k ≡ h }
@@ -50,8 +49,8 @@ pub fn head_is_get()
         → written s body true ≡ written s body false ++ body }
 {}
 
-/// Nothing but a POST to the route of a relay's messages delivers; and what it delivers is a
-/// beginning of the bytes after the head, of at most 16,384 bytes.
+/// Only a POST to the route of a relay's messages delivers, and what it delivers is a beginning of
+/// the bytes after the head, of at most 16,384 bytes.
 pub fn only_post_delivers()
     ensures content { (method target : List ℕ) (minor : ℕ) (fields : Fields)
         (rest relay body : List ℕ) → asked_by method target minor fields rest ≡ deliver relay body
@@ -61,8 +60,8 @@ pub fn only_post_delivers()
         → (route : RouteOf Place) × (first routes target ≡ Some route) × (route.value ≡ Messages) }
 {}
 
-/// What is asked is decided by the first 24,576 bytes, which is a longest head and a longest
-/// content.
+/// The first 24,576 bytes, which are the longest head and the longest content, decide what is
+/// asked.
 pub fn first_bytes_decide()
     ensures { (bytes more : List ℕ) (request : Request ℕ) → 24576 ≤ length bytes
         → Asks bytes request → Asks (bytes ++ more) request }

@@ -1,6 +1,6 @@
 //! The desk's HTTP interface: what a request asks for, and the bytes of the reply.
 //!
-//! A request is read in pieces, and a reply written without memory.
+//! A request is read in pieces, and a reply is written without taking memory.
 #![tactic(auto)]
 
 mod answer;

@@ -1,6 +1,6 @@
 //! A scan for the line ends of a head.
 
-/// Where a scan for the empty line that ends a head stands.
+/// How far a scan for the empty line that ends a head has come.
 #[derive(Clone, Copy, Debug, PartialEq, Eq)]
 pub enum Line {
     /// Before the first line that is not empty.
@@ -14,7 +14,7 @@ pub enum Line {
 }
 
 impl Line {
-    /// Where the scan stands after one more byte.
+    /// How far the scan has come after one more byte.
     fn after(self, byte: u8) -> Line {
         match (self, byte) {
             (Line::Blank, b'\r' | b'\n') => Line::Blank,
@@ -32,8 +32,8 @@ impl Line {
     }
 }
 
-/// Where the scan stands after more bytes, and whether one of them ended the request line or the
-/// head.
+/// How far the scan has come after more bytes, and whether one of them ended the request line or
+/// the head.
 pub fn scan(line: Line, bytes: &[u8]) -> (Line, bool) {
     let mut line = line;
     let mut is_end = false;

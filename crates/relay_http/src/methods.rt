@@ -12,7 +12,7 @@ pub fn is_head(method: &[u8]) -> bool
     method == b"HEAD".as_slice()
 }
 
-/// Whether the methods have this one.
+/// Whether this is one of the methods.
 pub fn allow(methods: Methods, method: &[u8]) -> bool
     ensures { result ≡ allow methods method.now }
 {

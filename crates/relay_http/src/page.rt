@@ -10,10 +10,10 @@ use std::alloc::{AllocError, Global};
 /// The bytes of a page, in which each head has room.
 pub const PAGE: usize = 4_096;
 
-/// As many zeros.
+/// So many zeros.
 const ZEROS: [u8; PAGE] = [0; PAGE];
 
-/// A page on which nothing stands yet.
+/// A blank page.
 pub fn blank_page(alloc: Global) -> Result<Vec<u8>, AllocError>
     ensures { IfOk result (λ page. length page.items ≡ 4_096) }
 {

@@ -16,10 +16,10 @@ use crate::routes::Routes;
 use std::alloc::{AllocError, Global};
 use std::io::{self, Read};
 
-/// The most bytes that count: a longest head and a longest content.
+/// The most bytes that count: the longest head and the longest content.
 const MOST_READ: usize = 24_576;
 
-/// As many zeros.
+/// So many zeros.
 const ZEROS: [u8; MOST_READ] = [0; MOST_READ];
 
 /// What is waited for before the bytes are looked at again.
@@ -27,16 +27,15 @@ const ZEROS: [u8; MOST_READ] = [0; MOST_READ];
 enum Awaited {
     /// Any bytes.
     Start,
-    /// The end of the request line or of the head, where the scan stands.
+    /// The end of the request line or of the head; the scan for it has come so far.
     Head(Line),
     /// So many bytes in all.
     Content(usize),
-    /// Nothing: it is settled what the bytes ask for.
+    /// Nothing: what the bytes ask for is settled.
     Nothing,
 }
 
-/// A buffer for the bytes that count. Zeros that stand somewhere are copied, which costs less than
-/// to write one after the other.
+/// A buffer for the bytes that count. Copying a static array of zeros is cheaper than filling one.
 pub fn buffer(alloc: Global) -> Result<Vec<u8>, AllocError>
     ensures { IfOk result (λ buf. length buf.items ≡ most_read) }
 {
@@ -54,8 +53,8 @@ fn look(routes: &Routes, bytes: &[u8]) -> Awaited
     }
 }
 
-/// What is waited for after more bytes came, from this place on. The bytes are looked at where what
-/// was waited for is there.
+/// What is waited for after more bytes came, from this place on. The bytes are looked at again once
+/// what was waited for is there, or as many bytes as a head may have.
 fn look_where_due(awaited: Awaited, routes: &Routes, bytes: &[u8], from: usize) -> Awaited
     requires { from ≤ length bytes.now }
     ensures { result ≡ Nothing → IsSettled bytes.now }
@@ -95,8 +94,8 @@ fn read_on<R: Read>(reader: &mut Counted<R>, buf: &mut [u8], filled: usize) -> i
 
 /// Reads until what has come says what the whole stream asks, and answers how many bytes that is.
 ///
-/// What has come is not looked at for each read, but for the first, once the request line is there,
-/// once the head is, and once its content is.
+/// It does not look at what has come after each read, but after the first, once the request line is
+/// there, once the head is, and once its content is.
 pub fn read_request<R: Read>(
     routes: &Routes,
     reader: &mut Counted<R>,

@@ -1,4 +1,4 @@
-//! How the desk's refusals are replied.
+//! The replies that say that the desk refuses.
 
 ghost use Rattle.std.specs.Prelude.{◌≡◌};
 ghost use Rattle.relay_http.specs.Replies as replies;
@@ -25,7 +25,7 @@ pub fn refusal_status(refusal: Refusal) -> Status
     }
 }
 
-/// The body of a refusal: its code and name, and a newline. It stands ready, since it is needed
+/// The body of a refusal: its code and name, and a newline. It is a static text, since it is needed
 /// also where memory ran out.
 pub fn refusal_line(refusal: Refusal) -> &'static [u8]
     ensures { result.now ≡ (replies.refusal refusal).body }

@@ -32,7 +32,7 @@ impl Model for Routes {
 }
 
 impl Routes {
-    /// The routes. They are refused where memory runs out, and only there.
+    /// The routes. It fails only for want of memory.
     pub fn new(alloc: Global) -> Result<Routes, NoMemory> {
         Ok(Routes {
             router: router(alloc)?,
@@ -40,7 +40,7 @@ impl Routes {
     }
 
     /// The place that a target's route leads to, with what the route's parameters took: the first,
-    /// and the moment behind it.
+    /// and the moment after it.
     pub(crate) fn find<'b>(&self, target: &'b str) -> Option<(Place, &'b str, &'b str)>
         requires { IsTrue (is_plain target.now) }
         ensures { Takes (first routes target.now) target.now
@@ -101,7 +101,7 @@ fn parameter(place: Place) -> &'static str
     }
 }
 
-/// The name of the moment behind it.
+/// The name of the moment's parameter after it.
 fn moment_parameter(place: Place) -> &'static str
     ensures { result.now ≡ moment_parameter place }
 {
@@ -126,7 +126,7 @@ fn taken<'b>(place: Place, params: &Params<'_, 'b>) -> &'b str
     params.get(parameter(place)).unwrap_or("")
 }
 
-/// What the moment behind it took.
+/// What the moment's parameter after it took.
 fn moment_taken<'b>(place: Place, params: &Params<'_, 'b>) -> &'b str
     requires { AllText (walk params.now.pattern.now params.now.text.now
         params.now.path.now params.now.names.now 0 0) }

@@ -55,7 +55,7 @@ fn send<W: Write>(writer: &mut Counted<W>, bytes: &[u8]) -> Result<(), WriteFail
     Ok(())
 }
 
-/// Writes the one after the other.
+/// Writes the head, and then the body.
 fn send_both<W: Write>(writer: &mut Counted<W>, head: &[u8], body: &[u8]) -> Result<(), WriteFailed>
     ensures sent { Sends (W.contents writer.old.inner)
         (W.contents writer.new.inner) result (head.now ++ body.now) }
@@ -86,7 +86,7 @@ fn send_head<W: Write>(
     send(writer, &page[..end])
 }
 
-/// Writes the head and the body: at once where both have room on the page.
+/// Writes the head and the body: in one piece where both fit on the page.
 fn send_whole<W: Write>(
     writer: &mut Counted<W>,
     page: &mut [u8],
@@ -109,7 +109,7 @@ fn send_whole<W: Write>(
 }
 
 /// Writes the reply of a status with a body, or its head alone. It takes no memory. Where a write
-/// fails, a beginning of the reply went out. What stood on the page before is never looked at.
+/// fails, a beginning of the reply went out. What was on the page before is never looked at.
 pub fn send_reply<W: Write>(
     writer: &mut Counted<W>,
     page: &mut [u8],

@@ -26,7 +26,7 @@ use std::error::Error;
 use std::fmt;
 use std::io::{Read, Write};
 
-/// Why an exchange came to no end. It is shown as its code and name.
+/// Why an exchange was not completed. It is shown as its code and name.
 #[derive(Clone, Copy, Debug, PartialEq, Eq)]
 pub enum ServeFault {
     /// A read failed: nothing was written, and nothing was asked of the desk.
@@ -91,9 +91,9 @@ fn reply_to<K: Keeper, W: Write>(
 /// Does what `serve_one` does, in the workspace that one exchange leaves to the next.
 ///
 /// The buffer, the page and the routes are those of the workspace. Where an earlier exchange did
-/// not leave them there, they are made before anything is read: where memory is refused for them it
-/// is `NoMemory`, and nothing was read. Want of memory later is a reply of the desk. Once a message
-/// is acknowledged no memory is taken.
+/// not leave them there, they are made before anything is read: if memory runs out for them, the
+/// result is `NoMemory`, and nothing was read. If it runs out later, the desk's reply says so. Once
+/// a message is acknowledged no memory is taken.
 pub fn serve_in<K: Keeper, R: Read, W: Write>(
     alloc: Global,
     desk: &mut Desk<K>,
@@ -109,8 +109,8 @@ pub fn serve_in<K: Keeper, R: Read, W: Write>(
         (K.holds desk.old.keeper) (K.holds desk.new.keeper) (K.is_same desk.old.keeper
         desk.new.keeper) (Serves K.Keeper desk.old.keeper desk.new.keeper) (λ bytes.
         Sends (W.contents writer.old.inner) (W.contents writer.new.inner) result bytes) request) }
-    // A GET or HEAD leaves all as it was, and so does each exchange but that of a POST to a relay's
-    // messages with the status 200.
+    // A request that is not a POST changes nothing, and only the exchange of a POST to a relay's
+    // messages with the status 200 changes anything.
     ensures queries { HasReplied result → K.is_up desk.new.keeper
         → IfSome (R.remaining reader.old.inner) (λ all. (head : RequestHead) → HasHead all head
         → head.method ≢ codes "POST" → K.is_same desk.old.keeper desk.new.keeper) }
@@ -155,9 +155,9 @@ pub fn serve_in<K: Keeper, R: Read, W: Write>(
 
 /// Reads a request, has the desk answer it, and writes the reply.
 ///
-/// The buffer, the page and the routes are made before anything is read: where memory is refused
-/// for them it is `NoMemory`, and nothing was read. Want of memory later is a reply of the desk.
-/// Once a message is acknowledged no memory is taken.
+/// The buffer, the page and the routes are made before anything is read: if memory runs out for
+/// them, the result is `NoMemory`, and nothing was read. If it runs out later, the desk's reply
+/// says so. Once a message is acknowledged no memory is taken.
 pub fn serve_one<K: Keeper, R: Read, W: Write>(
     alloc: Global,
     desk: &mut Desk<K>,
@@ -172,8 +172,8 @@ pub fn serve_one<K: Keeper, R: Read, W: Write>(
         (K.holds desk.old.keeper) (K.holds desk.new.keeper) (K.is_same desk.old.keeper
         desk.new.keeper) (Serves K.Keeper desk.old.keeper desk.new.keeper) (λ bytes.
         Sends (W.contents writer.old.inner) (W.contents writer.new.inner) result bytes) request) }
-    // A GET or HEAD leaves all as it was, and so does each exchange but that of a POST to a relay's
-    // messages with the status 200.
+    // A request that is not a POST changes nothing, and only the exchange of a POST to a relay's
+    // messages with the status 200 changes anything.
     ensures queries { HasReplied result → K.is_up desk.new.keeper
         → IfSome (R.remaining reader.old.inner) (λ all. (head : RequestHead) → HasHead all head
         → head.method ≢ codes "POST" → K.is_same desk.old.keeper desk.new.keeper) }

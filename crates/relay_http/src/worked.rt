@@ -38,9 +38,9 @@ pub fn worked_requests()
         (record { with_body = true; asked = parked }) }
 {}
 
-/// Requests that are refused: without a Host or with two, of a target with a query or without a
-/// route, by another method, for another text than a moment's canonical one; and deliveries without
-/// a length, with a signed one, one byte short, and one byte too long, of which no byte is there.
+/// Requests that are refused: without a Host or with two, with a query in the target, without a
+/// route, with another method, with another text than a moment's canonical one; and deliveries
+/// without a length, with a signed one, with one byte too few, and with a length over the limit.
 pub fn worked_refusals()
     ensures no_host { Asks (lines (codes "GET /v1/parked HTTP/1.1" ∷ [] ∷ []))
         (record { with_body = true; asked = refused BadHead }) }
@@ -77,7 +77,8 @@ pub fn worked_refusals()
         (record { with_body = true; asked = refused TooLong }) }
 {}
 
-/// The replies to a delivery, to a method that a route has not, and to the same by HEAD.
+/// The replies to a delivery, to a method that a route does not have, and to HEAD where a route
+/// does not have it.
 pub fn worked_replies()
     ensures ack { written status.Done (codes "ack" ++ 10 ∷ []) true ≡ lines
         (codes "HTTP/1.1 200 OK" ∷ codes "Content-Type: text/plain" ∷ codes "Content-Length: 4"

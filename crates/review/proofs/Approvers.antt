@@ -1,4 +1,4 @@
--- Who has approved a request and stands under BARRED, from the approvals in order.
+-- Who has approved a request and is listed under BARRED, from the approvals in order.
 use Rattle.std.proofs.Common.{◌≡◌, ◌⊎◌, ℕ, ◌≤◌, ltb, false, List, [], ◌∷◌, map, Option, Some, None, refl, sym, ap, ◌∙◌, subst, inl, inr, arith}
 use Rattle.std.specs.Cmp.{nat_cmp_is}
 use Rattle.std.specs.Cmp.Lexicographic.{nat_list_cmp_total}
@@ -57,7 +57,7 @@ after a x others sorted there =
     All-contains (λ y. approval_cmp a y ≡ Less) others x
     (All-from_recursion (λ y. approval_cmp a y ≡ Less) others (sorted_head approval_cmp a others sorted)) there
 
--- and so, where it is the same person's, no later
+-- and so, if it is by the same person, it is no later
 no_later : (a : List ℕ × ℕ) (at : ℕ) (others : List (List ℕ × ℕ)) → IsStrictlySortedBy approval_cmp (a ∷ others) → Contains others (a.0, at) → a.1 ≤ at
 no_later a at others sorted there =
     elim (then_less (text_order a.0 a.0) (nat_cmp a.1 at) (after a (a.0, at) others sorted there)) as (λ _. a.1 ≤ at) [
@@ -82,12 +82,12 @@ module _ (f : RosterFields Cmnd) (c : CeilingFields Cmnd) (asker : List ℕ) whe
     never = λ at there. is.never at (back at there);
   }
 
-  -- whoever stands so has approved
+  -- whoever has a reason, or was eligible, has approved
   has_one : (person : List ℕ) (P : ℕ → Type 0) (why : Option Reason) → IsWhy f c asker person P why → (at : ℕ) × P at
   has_one person P None is = (is.moment, is.approved)
   has_one person P (Some why) is = (is.first, is.approved)
 
-  -- an approval beside none and beside later ones of the same person
+  -- the only approval of a person, and one with later ones of the same person
   alone : (a : List ℕ × ℕ) (others : List (List ℕ × ℕ)) (why : Option Reason) → reason f c asker a.0 a.1 ≡ why → ((at : ℕ) → Contains others (a.0, at) → ⊥)
       → IsWhy f c asker a.0 (λ at. Contains (a ∷ others) (a.0, at)) why
   alone a others None e none = record { moment = a.1; approved = Contains-head a others; eligible_then = unbarred_is_eligible f c asker a.0 a.1 e }
@@ -127,7 +127,7 @@ module _ (f : RosterFields Cmnd) (c : CeilingFields Cmnd) (asker : List ℕ) whe
     ];
   }
 
-  -- an approval changes nothing of other people
+  -- an approval changes nothing for other people
   of_another : (a : List ℕ × ℕ) (others : List (List ℕ × ℕ)) (person : List ℕ) (why : Option Reason) → (person ≡ a.0 → ⊥)
       → IsWhy f c asker person (λ at. Contains others (person, at)) why → IsWhy f c asker person (λ at. Contains (a ∷ others) (person, at)) why
   of_another a others person why other is =
@@ -152,7 +152,7 @@ module _ (f : RosterFields Cmnd) (c : CeilingFields Cmnd) (asker : List ℕ) whe
   above : (p person : List ℕ) (ps : List (List ℕ)) → AllByRecursion (λ y. text_order p y ≡ Less) ps → Contains ps person → text_order p person ≡ Less
   above p person ps all there = All-contains (λ y. text_order p y ≡ Less) ps person (All-from_recursion (λ y. text_order p y ≡ Less) ps all) there
 
-  -- no person above is that one
+  -- a person who comes later in byte order is somebody else
   differs : (p person : List ℕ) → text_order p person ≡ Less → person ≡ p → ⊥
   differs p person e same = not_below_itself p (subst (λ (x : List ℕ). text_order p x ≡ Less) same e)
 
@@ -243,7 +243,7 @@ module _ (f : RosterFields Cmnd) (c : CeilingFields Cmnd) (asker : List ℕ) whe
   }
   whys_are (a ∷ others) sorted = joined_are a others (whys (reason f c asker) others) sorted (whys_are others (sorted_tail approval_cmp a others sorted))
 
--- ---- a request's
+-- ---- the approvals of a request
 
 why_of : (ws : List (List ℕ × Option Reason)) (person : List ℕ) → Contains (keys ws) person → (why : Option Reason) × Contains ws (person, why)
 why_of [] person there = absurd (nothing_there person there)

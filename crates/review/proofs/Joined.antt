@@ -1,4 +1,4 @@
--- Approvals that are gone through one by one: what they add to the people so far.
+-- Going through approvals one by one: what each adds to the people so far.
 use Rattle.std.proofs.Common.{◌≡◌, ℕ, ◌+◌, true, false, List, [], ◌∷◌, ◌++◌, Option, refl, sym, ap, ◌∙◌, inl, inr, append_assoc}
 use Rattle.std.specs.List.{flat_map}
 use Rattle.std.specs.Str.{bytes_eq}
@@ -11,7 +11,7 @@ use Rattle.review.specs.Columns.{lines_text}
 use Rattle.review.specs.private.Whys.{both, joined, with_lines}
 use Rattle.review.proofs.ReportLists.{lines_both}
 
--- the person stands first
+-- the person comes first
 first_is : (p : List ℕ) (x : Option Reason) (ws : List (List ℕ × Option Reason))
     → (y : Option Reason) × (rest : List (List ℕ × Option Reason)) × (joined p x ws ≡ (p, y) ∷ rest)
 first_is p x [] = (x, [], refl)

@@ -1,4 +1,4 @@
--- What a grant is, over hosts in turn.
+-- The need of a grant, host by host.
 use Rattle.std.proofs.Common.{◌≡◌, ℕ, ◌<◌, ◌≤◌, List, [], ◌∷◌, ◌++◌, ◌+◌, length, get_or, take, refl, sym, subst, inl, inr, arith}
 use Rattle.std.specs.List.{Contains}
 use Rattle.sudo_policy.specs.declared.entry.Entry.{Entry}
@@ -45,7 +45,7 @@ needed_is_not_needless e = cc
 needed_is_not_unknown : ◌≡◌ {A = Need} Needed Unknown → ⊥
 needed_is_not_unknown e = cc
 
--- where a host is one thing at most
+-- if a host has one need at most
 module _ (On : List ℕ → Need → Type 0) (one : (host : List ℕ) (m n : Need) → On host m → On host n → m ≡ n) where
   before : (hosts : List (List ℕ)) (last x : List ℕ) → Contains hosts x → Contains (hosts ++ last ∷ []) x
   before hosts last x among = Contains-append_left hosts (last ∷ []) x among
@@ -81,7 +81,7 @@ module _ (On : List ℕ → Need → Type 0) (one : (host : List ℕ) (m n : Nee
     each_of hosts last (λ x. ¬ On x Needed) there.1 (none_needed last Unknown here (λ e. needed_is_not_unknown (sym e))),
   )
 
-  -- one more host in turn
+  -- one more host
   pub need_next : (hosts : List (List ℕ)) (k : ℕ) (host : List ℕ) (m n both : Need) → k < length hosts → host ≡ get_or hosts k host
       → IsNeedOver On (take k hosts) m → On host n → both ≡ over_both m n → IsNeedOver On (take (k + 1) hosts) both
   need_next hosts k host m n both below is there here e =

@@ -1,4 +1,4 @@
--- What a desk lends is what a report is made from.
+-- What a desk holds is what a report is made from.
 use Rattle.std.specs.Prelude.{◌≡◌, ℕ, List, [], ◌∷◌, Contains, map, true, refl}
 use Rattle.std.specs.List.{AllByRecursion}
 use Rattle.std.specs.List.Sorted.{IsStrictlySortedBy}

@@ -35,7 +35,7 @@ flat_same : {X Y : Type 0} (h k : X → List Y) → ((x : X) → h x ≡ k x) �
 flat_same h k same [] = refl
 flat_same h k same (x ∷ xs) = ap₂ (λ a b. a ++ b) (same x) (flat_same h k same xs)
 
--- who holds conflicting duties is told name by name
+-- the lines under CONFLICTS of one name
 abbrev told_of : RosterFields Cmnd → (at : ℕ) → (pairs : List (List ℕ × List ℕ)) → (name : List ℕ) → List (List ℕ)
 told_of f at pairs name = flat_map (conflict_for f at name) pairs
 

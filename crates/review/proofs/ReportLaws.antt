@@ -1,4 +1,4 @@
--- What a report says of needless grants, and of those whose approvals do not count.
+-- What a report says about needless grants, and about people whose approvals do not count.
 use Rattle.std.proofs.Common.{◌≡◌, ℕ, Bool, true, false, not, ◌&&◌, if◌then◌else◌, List, [], ◌∷◌}
 use Rattle.std.proofs.Common.{◌++◌, reverse, Some, None, refl, sym, ap, ap₂, ◌∙◌, subst, inl, inr}
 use Rattle.std.specs.List.{Contains}

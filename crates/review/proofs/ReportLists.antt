@@ -13,13 +13,13 @@ use Rattle.sorting.proofs.Lists.{parts_more, take_next}
 pub lines_both : (xs ys : List (List ℕ)) → lines_text (xs ++ ys) ≡ lines_text xs ++ lines_text ys
 lines_both xs ys = flat_map-append (λ (line : List ℕ). line ++ codes "\n") xs ys
 
--- an element of which all are
+-- an element of a list has what all its elements have
 pub at_place : {X : Type 0} (P : X → Type 0) (xs : List X) (k : ℕ) (x : X) → k < length xs → x ≡ get_or xs k x → AllByRecursion P xs → P x
 at_place P [] k x below is all = absurd (omega (arith, below))
 at_place P (y ∷ ys) zero x below is all = subst P (sym is) all.0
 at_place P (y ∷ ys) (suc k) x below is all = at_place P ys k x (omega (arith, below)) is all.1
 
--- what a loop has come to at its end
+-- what a loop has shown at its end
 pub whole_list : {X : Type 0} (P : List X → Type 0) (xs : List X) (k : ℕ) → length xs ≤ k → P (take k xs) → P xs
 whole_list P xs k past is = subst P (take_all k xs past) is
 
@@ -88,7 +88,7 @@ texts_more {X} text xs k x old mid new below is before adds =
     ∙ ap (λ (t : List ℕ). old ++ t) (sym (lines_both (map text (take k xs)) (text x ∷ [])))
     ∙ ap (λ (l : List (List ℕ)). old ++ lines_text l) (sym texts)
 
--- a line that stands where something holds, and none elsewhere
+-- a line if something holds, and none if it does not
 pub line_where : (b : Bool) (line old new : List ℕ) → b ≡ true → new ≡ old ++ line ++ codes "\n" → new ≡ old ++ lines_text (if b then line ∷ [] else [])
 line_where b line old new is adds = rw is (one_line old line new adds)
 

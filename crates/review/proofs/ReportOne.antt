@@ -36,13 +36,13 @@ names_total = then_total (on_total (λ (n : RequestName). n.by) nat_list_cmp_tot
 pairs_total : IsTotalOrder pair_order
 pairs_total = then_total (on_total (λ (p : List ℕ × List ℕ). p.0) nat_list_cmp_total) (on_total (λ (p : List ℕ × List ℕ). p.1) nat_list_cmp_total)
 
--- two whole lists of what is so are one
+-- two whole lists of the same things are the same
 one_all : {X : Type 0} (R : X → X → Ordering) (total : IsTotalOrder R) (Is Also : X → Type 0) → ((x : X) → Is x → Also x)
     → ((x : X) → Also x → Is x) → (xs ys : List X) → AreAll R Is xs → AreAll R Also ys → xs ≡ ys
 one_all R total Is Also to back xs ys a b =
     one_sorted R total xs ys a.in_order b.in_order (λ z there. b.all z (to z (a.each z there))) (λ z there. a.all z (back z (b.each z there)))
 
--- parts by two relations that give an element the same
+-- parts by two relations that give each element the same lines
 one_parts_of_two : {X : Type 0} (IsPart Also : X → List (List ℕ) → Type 0) → ((x : X) (ys zs : List (List ℕ)) → IsPart x ys → Also x zs → ys ≡ zs)
     → (xs : List X) (ys zs : List (List ℕ)) → AreParts IsPart xs ys → AreParts Also xs zs → ys ≡ zs
 one_parts_of_two IsPart Also one [] ys zs are also = are ∙ sym also
@@ -73,7 +73,7 @@ module _ (f : RosterFields Cmnd) (s t : List Message) (same : SameMessages s t) 
   one_name_status : (name : RequestName) (a b : Status) → IsStatus f s name a → IsStatus f t name b → a ≡ b
   one_name_status name a b is also = one_status f t name a b (order_free f s t name a same is) also
 
-  -- the only request of a name is one
+  -- a name has one only request, by either list
   one_request : (name : RequestName) (p q : RequestFields) → IsOnlyRequest s name p → IsOnlyRequest t name q → p ≡ q
   one_request name p q is also =
       also.alone.alone p ((same (Request p)).0 is.alone.asked) (is.named.0 ∙ sym also.named.0, is.named.1 ∙ sym also.named.1)
@@ -90,7 +90,7 @@ module _ (f : RosterFields Cmnd) (s t : List Message) (same : SameMessages s t) 
         one_lines name (window_at at b.status) xs ys (subst (λ (x : Status). LinesInForce Of s name (window_at at x) xs)
         (one_name_status name a.status b.status a.status_is b.status_is) a.lines_are) b.lines_are
 
-  -- a person stands under BARRED for one reason, or does not
+  -- a person is listed under BARRED for one reason, or is not
   one_why : (c : CeilingFields Cmnd) (q : RequestFields) (person : List ℕ) (x y : Option Reason)
       → IsWhy f c q.by person (HasApprovedAt s q person) x → IsWhy f c q.by person (HasApprovedAt t q person) y → x ≡ y
   one_why c q person None None a b = refl

@@ -1,4 +1,4 @@
--- The lines of one name, from what the summary of it has come to.
+-- The lines of one name, from its summary and its status.
 use Rattle.std.proofs.Common.{◌≡◌, ℕ, Bool, true, false, List, [], ◌++◌, Option, Some, None, refl, sym, ap, ◌∙◌, subst}
 use Rattle.std.proofs.lemmas.List.{append-nil}
 use Rattle.sudo_words.specs.declared.cmnd.Cmnd.{Cmnd}
@@ -51,7 +51,7 @@ module _ (f : RosterFields Cmnd) (set : List Message) (name : RequestName) (old 
     record { status = status; status_is = is; lines_are = subst (λ (b : Bool). BarredLines f set name b lines) (sym opened) (q, only, under) },
   )
 
--- what is open has a ceiling
+-- a request that is open has a ceiling
 admitted_ceiling : (f : RosterFields Cmnd) (q : RequestFields) → AdmitsRequest f q → ceiling_at f q.ceiling ≡ None → ⊥
 admitted_ceiling f q admits none =
     let both : Some admits.ceiling ≡ None = sym admits.may_ask.ceiling_is ∙ none in cc

@@ -22,7 +22,7 @@ approval q person at = record { at = at; by = person; kind = Approve; no = q.no;
 abbrev pub HasApprovedAt : List Message → RequestFields → (person : List ℕ) → (at : ℕ) → Type 0
 HasApprovedAt messages q person at = Contains messages (Verdict (approval q person at))
 
--- at some moment
+-- the person approved the request at some moment
 abbrev pub HasApproved : List Message → RequestFields → (person : List ℕ) → Type 0
 HasApproved messages q person = (at : ℕ) × HasApprovedAt messages q person at
 
@@ -36,8 +36,8 @@ reason f c asker person at =
     else if holds_against f person c.approve at then Some Conflict
     else None
 
--- Of the moments at which the person approved, the person was eligible at none, and at the earliest
--- not for this reason.
+-- The person approved at one moment or more and was eligible at none of them; at the earliest, this
+-- is the reason why not.
 pub record IsBarred (f : RosterFields Cmnd) (c : CeilingFields Cmnd)
     (asker person : List ℕ) (Approved : ℕ → Type 0) (why : Reason) : Type 0 where
   pub first : ℕ
@@ -46,14 +46,14 @@ pub record IsBarred (f : RosterFields Cmnd) (c : CeilingFields Cmnd)
   pub why_is : reason f c asker person first ≡ Some why
   pub never : (at : ℕ) → Approved at → eligible f person asker c at ≡ false
 
--- at one of them the person was eligible
+-- the person was eligible at one of the moments of the approvals
 pub record WasEligible (f : RosterFields Cmnd) (c : CeilingFields Cmnd)
     (asker person : List ℕ) (Approved : ℕ → Type 0) : Type 0 where
   pub moment : ℕ
   pub approved : Approved moment
   pub eligible_then : eligible f person asker c moment ≡ true
 
--- why the person stands under BARRED, or that the person does not
+-- why the person is listed under BARRED, or that the person is not
 abbrev pub IsWhy : RosterFields Cmnd → CeilingFields Cmnd
     → (asker person : List ℕ) → (Approved : ℕ → Type 0) → Option Reason → Type 0
 IsWhy f c asker person Approved None = WasEligible f c asker person Approved
@@ -65,7 +65,7 @@ reason_text Asker = codes "asker"
 reason_text Duty = codes "duty"
 reason_text Conflict = codes "conflict"
 
--- the line of who is barred, and none of who is not
+-- the line of a person who is barred, and none for one who is not
 abbrev pub barred_for : RequestFields → (person : List ℕ) → Option Reason → List (List ℕ)
 barred_for q person None = []
 barred_for q person (Some why) =

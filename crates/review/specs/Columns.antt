@@ -6,11 +6,11 @@ use Rattle.messages.specs.declared.request_name.RequestName.{RequestName}
 abbrev pub spaces : ℕ → List ℕ
 spaces count = replicate count 32
 
--- a word, left in 32 places
+-- a word, left-aligned in 32 places
 abbrev pub left : List ℕ → List ℕ
 left word = word ++ spaces (32 - length word)
 
--- a number, right in 9 places
+-- a number, right-aligned in 9 places
 abbrev pub right : ℕ → List ℕ
 right number = spaces (9 - length (decimal number)) ++ decimal number
 

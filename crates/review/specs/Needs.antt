@@ -20,18 +20,19 @@ own_policy q w host = map entries.Rule (map (grant_rule host q w.start w.end) q.
 abbrev pub grant_scope : RequestFields → (host : List ℕ) → Scope
 grant_scope q host = record { user = Some q.by; host = Some host; runas = Some q.runas }
 
--- What the first policy is beyond the second: needed where it allows something more, needless where
--- it allows nothing more, and unknown where there are too many cases to tell.
+-- Whether the first policy is needed beside the second: needed if it allows something more,
+-- needless if it allows nothing more, and unknown if there are too many cases to tell.
 abbrev pub IsNeedBeyond : Scope → (a b : List Entry) → Need → Type 0
 IsNeedBeyond s a b Needed = AreFew s a b × SomethingBeyond s a b
 IsNeedBeyond s a b Needless = AreFew s a b × ¬ SomethingBeyond s a b
 IsNeedBeyond s a b Unknown = AreTooMany s a b
 
--- so it is of the grant on one host, against the base
+-- the same for the grant on one host, beside the base
 abbrev pub IsNeedOn : (base : List Entry) → RequestFields → Window → (host : List ℕ) → Need → Type 0
 IsNeedOn base q w host need = IsNeedBeyond (grant_scope q host) (own_policy q w host) base need
 
--- Needed where it is so on some host, needless where it is so on each; and else unknown on some.
+-- Needed if it is needed on some host; needless if it is needless on each; unknown if it is unknown
+-- on some host and needed on none.
 abbrev pub IsNeedOver : (On : List ℕ → Need → Type 0) → (hosts : List (List ℕ)) → Need → Type 0
 IsNeedOver On hosts Needed = (host : List ℕ) × Contains hosts host × On host Needed
 IsNeedOver On hosts Needless = (host : List ℕ) → Contains hosts host → On host Needless

@@ -35,7 +35,7 @@ use Rattle.review.specs.Needs.{IsNeed, need_text}
 
 -- ---- whole lists
 
--- everything that is so, each once, in order, and nothing else
+-- everything for which `Is` holds, each once, in order, and nothing else
 pub record AreAll {X : Type 0} (order : X → X → Ordering)
     (Is : X → Type 0) (list : List X) : Type 0 where
   pub in_order : IsStrictlySortedBy order list
@@ -52,15 +52,15 @@ pub record IsAsked (messages : List Message) (name : RequestName) : Type 0 where
   pub asked : Contains messages (Request request)
   pub named : IsNamed request name
 
--- ---- what a name comes to has lines or none
+-- ---- the lines of a name, by its status
 
--- this is the only request of the name
+-- this is the only request with the name
 pub record IsOnlyRequest (messages : List Message)
     (name : RequestName) (q : RequestFields) : Type 0 where
   pub named : IsNamed q name
   pub alone : StandsAlone messages q
 
--- the lines of a grant that is in force, and none elsewhere
+-- the lines of a grant that is in force, and none if it is not
 abbrev pub LinesInForce : (RequestFields → Window → List (List ℕ) → Type 0)
     → List Message → RequestName → Option Window → List (List ℕ) → Type 0
 LinesInForce Of messages name None lines = lines ≡ []
@@ -102,9 +102,8 @@ broad_for q (Dir dir) = broad_line q (Dir dir) ∷ []
 abbrev pub AreBroadLines : RequestFields → Window → List (List ℕ) → Type 0
 AreBroadLines q w lines = lines ≡ flat_map (broad_for q) q.cmnds
 
--- ---- BARRED: of a name that is neither disputed nor lapsed, each person who approved and was
--- eligible at none of the approvals, and why not at
--- the earliest
+-- ---- BARRED: for a name that is neither disputed nor lapsed, each person who approved and was
+-- eligible at none of the approvals, and why not at the earliest
 
 abbrev pub is_open : Status → Bool
 is_open Disputed = false
@@ -176,7 +175,8 @@ report_lines at live barred conflicts broad parked =
     ++ codes "BROAD" ∷ broad
     ++ codes "PARKED" ∷ parked
 
--- The report's text. Each part goes over the names that somebody asks under, in their order.
+-- The report's text. LIVE, BARRED and BROAD go over the names that somebody asks under, in their
+-- order.
 pub record IsReport (f : RosterFields Cmnd) (base : List PolicyEntry)
     (messages : List Message) (at : ℕ) (text : List ℕ) : Type 0 where
   pub names : List RequestName

@@ -1,4 +1,4 @@
--- Worked lines of a report: of what ann asked of the small team, which is in force from ten past
+-- Worked lines of a report, for what ann asked in the small team, which is in force from ten past
 -- nine to eleven.
 use Rattle.std.specs.Prelude.{ℕ, List, [], ◌∷◌, codes}
 use Rattle.std.specs.List.{flat_map}
@@ -19,7 +19,7 @@ held = record { start = 33_000; end = 39_600 }
 abbrev pub lesser_first_pairs : List (List ℕ × List ℕ)
 lesser_first_pairs = (codes "approve", codes "audit") ∷ []
 
--- the grant's line, carol's approval of eight, when she may not approve, and her duties
+-- the grant's line, carol's for her approval at eight, when she may not approve, and her duties'
 abbrev pub team_text : List ℕ
 team_text =
     lines_text (report_lines 34_200 (live_line asked held Needed ∷ [])

@@ -1,4 +1,4 @@
--- What only private clauses and proofs cite: no public contract speaks of it.
+-- What only private clauses and proofs cite: no public contract uses it.
 -- the parts of the report
 pub mod Reporting
 pub mod Names

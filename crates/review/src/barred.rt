@@ -24,14 +24,14 @@ pub(crate) struct OpenRequest<'s> {
     ceiling: &'s Ceiling,
 }
 
-/// Neither disputed nor lapsed.
+/// Whether the status is neither disputed nor lapsed.
 fn is_open(status: &Status) -> bool
     ensures { result ≡ report.is_open status.now }
 {
     !matches!(status, Status::Disputed | Status::Lapsed)
 }
 
-/// The summary's request and its ceiling, where its status is neither disputed nor lapsed.
+/// The summary's request and its ceiling, if its status is neither disputed nor lapsed.
 fn open_request<'s>(
     roster: &'s Roster,
     summary: &'s Summary,
@@ -55,8 +55,8 @@ pub(crate) struct Approver<'s> {
     why: Option<Reason>,
 }
 
-/// Of an approval and later ones of the same person: why the first does not count, unless one of
-/// them does.
+/// Why the first of a person's approvals does not count; `None` if it or one of the later ones
+/// counts.
 fn both(first: Option<Reason>, later: Option<Reason>) -> Option<Reason>
     ensures { result ≡ spec.both first later }
 {
@@ -66,7 +66,7 @@ fn both(first: Option<Reason>, later: Option<Reason>) -> Option<Reason>
     }
 }
 
-/// Adds the line of a person who approved, where none of the approvals counts.
+/// Adds the line of a person who approved, if none of the approvals counts.
 fn push_barred_line(
     alloc: Global,
     out: &mut String,
@@ -87,8 +87,8 @@ fn push_barred_line(
     Ok(())
 }
 
-/// The approver so far with one more approval, or that of the approval alone, once the line of
-/// another one so far is added.
+/// The approver so far with one more approval, if that is by the same person; else the approver of
+/// the new approval alone, after adding the line of the approver so far, if there is one.
 fn next<'s>(
     alloc: Global,
     out: &mut String,
@@ -115,7 +115,8 @@ fn next<'s>(
     Ok(approver)
 }
 
-/// Adds the lines of the people of a list of approvals, by person and then by moment.
+/// Adds the lines of the people in a list of approvals, which is ordered by person and then by
+/// moment.
 fn push_barred_people(
     alloc: Global,
     out: &mut String,
@@ -138,7 +139,7 @@ fn push_barred_people(
     }
 }
 
-/// Adds the lines under BARRED of a summary's request, where it is open by its status.
+/// Adds the lines under BARRED of a summary's request, if its status is open.
 pub(crate) fn push_barred(
     alloc: Global,
     out: &mut String,

@@ -17,7 +17,7 @@ use messages::Request;
 use std::alloc::Global;
 use sudo_words::{Cmnd, Moment, NoMemory};
 
-/// Adds the line of a command of this text.
+/// Adds the line of a command with this text.
 fn push_broad_text(
     alloc: Global,
     out: &mut String,
@@ -33,7 +33,7 @@ fn push_broad_text(
     Ok(())
 }
 
-/// Adds the line of a command, where it is ALL or a directory.
+/// Adds the line of a command, if it is ALL or a directory.
 fn push_broad_line(
     alloc: Global,
     out: &mut String,
@@ -50,7 +50,7 @@ fn push_broad_line(
     }
 }
 
-/// Adds those of a request's commands.
+/// Adds the lines of those of a request's commands that are ALL or a directory.
 fn push_broad_lines(alloc: Global, out: &mut String, request: &Request) -> Result<(), NoMemory>
     ensures { OnOk result (string_bytes out.new ≡ string_bytes out.old
         ++ lines_text (flat_map (report.broad_for request.now) request.now.cmnds)) }
@@ -61,7 +61,8 @@ fn push_broad_lines(alloc: Global, out: &mut String, request: &Request) -> Resul
     Ok(())
 }
 
-/// Adds the lines under BROAD of a summary's request, where it is in force by its status.
+/// Adds the lines under BROAD of a summary's request, if by its status it is in force at the
+/// moment.
 pub(crate) fn push_broad(
     alloc: Global,
     out: &mut String,

@@ -23,7 +23,7 @@ fn push_spaces(out: &mut String, count: usize) -> Result<(), NoMemory>
     Ok(())
 }
 
-/// Adds a word, left in its column.
+/// Adds a word, left-aligned in its column.
 pub(crate) fn push_left(out: &mut String, word: &str) -> Result<(), NoMemory>
     ensures { OnOk result (string_bytes out.new ≡ string_bytes out.old ++ columns.left word.now) }
 {
@@ -31,7 +31,7 @@ pub(crate) fn push_left(out: &mut String, word: &str) -> Result<(), NoMemory>
     push_spaces(out, WORD_WIDTH.saturating_sub(word.len()))
 }
 
-/// Adds a number, right in its column.
+/// Adds a number, right-aligned in its column.
 fn push_right(alloc: Global, out: &mut String, number: u32) -> Result<(), NoMemory>
     ensures { OnOk result (string_bytes out.new ≡ string_bytes out.old ++ columns.right number) }
 {

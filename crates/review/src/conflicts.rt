@@ -55,7 +55,7 @@ fn push_pair(out: &mut String, person: &Name, pair: &(Label, Label)) -> Result<(
     Ok(())
 }
 
-/// The same, where the person holds both at the moment.
+/// Adds the line of a pair, if the person holds both duties at the moment.
 fn push_conflict(
     out: &mut String,
     roster: &Roster,
@@ -72,7 +72,7 @@ fn push_conflict(
     push_pair(out, person, pair)
 }
 
-/// Adds the lines of a person.
+/// Adds the lines of a person: one for each of the pairs that the person holds at the moment.
 fn push_conflicts(
     out: &mut String,
     roster: &Roster,

@@ -1,5 +1,5 @@
-//! Reviews: the report of what a set of messages has granted. What one policy allows beyond another
-//! stands in `sudo_beyond`, whose `beyond` is re-exported.
+//! Reviews: the report of what a set of messages has granted. It re-exports `beyond` of
+//! `sudo_beyond`, which says what one policy allows beyond another.
 #![tactic(auto)]
 
 mod barred;

@@ -25,8 +25,8 @@ pub(crate) struct InForce<'s> {
     pub(crate) window: Window,
 }
 
-/// The summary's request and its window, where its status is that it is granted, and the window
-/// holds the moment.
+/// The summary's request and its window, if its status is granted and the window holds the
+/// moment.
 pub(crate) fn in_force<'s>(summary: &'s Summary, status: &Status, at: Moment) -> Option<InForce<'s>>
     ensures given { (f : RosterFields Cmnd) (set : List AnyMessage)
         → IsOutcome f set summary.now status.now → IsInForceOf f set at summary.now result }
@@ -75,7 +75,7 @@ fn push_live_line(
     Ok(())
 }
 
-/// Adds the line under LIVE of a summary's request, where it is in force by its status.
+/// Adds the line under LIVE of a summary's request, if by its status it is in force at the moment.
 pub(crate) fn push_live(
     alloc: Global,
     out: &mut String,

@@ -1,4 +1,4 @@
-//! What a report has of the names that somebody asks under: its lines under LIVE, BARRED and BROAD.
+//! A report's lines for the names under which somebody asks: those under LIVE, BARRED and BROAD.
 
 ghost use Rattle.std.specs.Prelude.{◌≡◌, List, [], IfOk, OnOk};
 ghost use Rattle.std.specs.List.{AllByRecursion};
@@ -25,8 +25,8 @@ pub(crate) struct Parts {
     pub(crate) broad: String,
 }
 
-/// Adds the lines of a summary's name to each part. What the name has come to is worked out once,
-/// for all of them.
+/// Adds the lines of a summary's name to each part. The name's status is worked out once, for all
+/// of them.
 fn push_parts(
     alloc: Global,
     parts: &mut Parts,

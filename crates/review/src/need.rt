@@ -14,12 +14,12 @@ use sudo_decide::Scope;
 use sudo_policy::{Draft, Policy};
 use sudo_words::{HostName, NoMemory};
 
-/// What a grant is beside a base.
+/// Whether a grant is needed beside a base.
 #[derive(Clone, Copy, Debug, PartialEq, Eq)]
 pub(crate) enum Need {
-    /// On some host it gives more than the base.
+    /// On some host the grant gives more than the base.
     Needed,
-    /// On each host the base gives all that it gives.
+    /// On each host the base gives all that the grant gives.
     Needless,
     /// On some host there are too many cases to tell, and on none is it known to give more.
     Unknown,
@@ -37,7 +37,7 @@ impl Need {
         }
     }
 
-    /// What it is where it is this on some hosts and the other on further ones.
+    /// The combined need over two groups of hosts.
     fn and(self, other: Need) -> Need
         ensures { result ≡ over_both self other }
     {
@@ -88,7 +88,7 @@ fn own_policy(
     }
 }
 
-/// What the first policy is beyond the second, in the scope.
+/// Whether the first policy is needed beside the second, in the scope.
 fn need_beyond(alloc: Global, scope: &Scope, a: &Policy, b: &Baseline<'_>) -> Result<Need, NoMemory>
     ensures { IfOk result (needs.IsNeedBeyond scope.now a.now b.now) }
 {
@@ -100,7 +100,7 @@ fn need_beyond(alloc: Global, scope: &Scope, a: &Policy, b: &Baseline<'_>) -> Re
     }
 }
 
-/// What the grant is on the host.
+/// Whether the grant is needed on the host.
 fn need_on(
     alloc: Global,
     base: &Baseline<'_>,
@@ -120,7 +120,7 @@ fn need_on(
     need_beyond(alloc, &scope, &own, base)
 }
 
-/// What it is on these hosts. Where it is needed on one, no other is looked at.
+/// Whether the grant is needed on these hosts. Once it is needed on one, the rest are passed over.
 fn need_over(
     alloc: Global,
     base: &Baseline<'_>,
@@ -147,7 +147,7 @@ fn need_over(
     Ok(need)
 }
 
-/// Whether the grant is needed beside the base: whether on one of its hosts it gives more.
+/// Whether the grant is needed beside the base: whether it gives more on one of its hosts.
 pub(crate) fn need_of(
     alloc: Global,
     base: &Baseline<'_>,

@@ -16,7 +16,7 @@ use sudo_words::Moment;
 /// which grants are of ALL or of a directory, and which verdicts wait for their request (NIST SP
 /// 800-53 AC-5, AC-6(7)).
 ///
-/// `Storage` and `NoMemory` come as of every question to a desk.
+/// Errors: `Storage` and `NoMemory`, as for every question to a desk.
 pub fn report<K: Keeper>(desk: &mut Desk<K>, at: Moment) -> Result<String, Refusal>
     ensures report { (set : List AnyMessage) → K.is_up desk.new.keeper
         → Lists (K.holds desk.old.keeper) set

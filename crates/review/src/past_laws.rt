@@ -12,10 +12,10 @@ ghost use Rattle.grants.specs.Past.{AreMadeBy};
 ghost use Rattle.review.specs.Columns.{lines_text};
 ghost use Rattle.review.specs.Report.{IsReport, conflicts_of, report_lines};
 
-/// The past is not rewritten. By rosters that agree until a moment the reports of what was asked
-/// and answered up to it have the same lines under LIVE, BARRED, BROAD and PARKED, at whatever
-/// moment they are made; under CONFLICTS each tells who holds which duties at its own moment. So a
-/// report of that moment or an earlier one is the same.
+/// The past is not rewritten. If two rosters agree until a moment, the reports by either of what
+/// was asked and answered up to it have the same lines under LIVE, BARRED, BROAD and PARKED,
+/// whenever they are made; under CONFLICTS each says who holds conflicting duties by its own roster
+/// when it is made. So reports made at that moment or before it are the same.
 pub fn past_reports_stay()
     ensures lines { (f g : RosterFields Cmnd) (moment : ℕ) (base : List Entry)
         (set : List Message) (at : ℕ) (text : List ℕ) → AgreeUntil moment f g

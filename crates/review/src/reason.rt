@@ -30,8 +30,8 @@ impl Reason {
     }
 }
 
-/// Why the person may not approve at the moment what the asker asked for under the ceiling (NIST SP
-/// 800-53 AC-5).
+/// Why the person may not approve at the moment what the asker asked for under the ceiling; `None`
+/// if the person may (NIST SP 800-53 AC-5).
 pub(crate) fn why_barred(
     roster: &Roster,
     ceiling: &Ceiling,

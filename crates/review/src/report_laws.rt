@@ -38,8 +38,8 @@ pub fn one_report()
         → IsReport f base s at x → IsReport f base t at y → x ≡ y }
 {}
 
-/// A grant is called one thing, and needless only where the base gives all that it gives, on each
-/// of its hosts: taking it away takes nothing away.
+/// A grant is at most one of needed, needless and unknown, and needless only if the base gives all
+/// that it gives on each of its hosts: taking it away takes nothing away.
 pub fn needless_gives_nothing()
     ensures one { (base : List Entry) (q : RequestFields) (w : Window) (m n : Need)
         → IsNeed base q w m → IsNeed base q w n → m ≡ n }
@@ -48,9 +48,9 @@ pub fn needless_gives_nothing()
         → i.runas ≡ q.runas → Allows (own_policy q w i.host) i → Allows base i }
 {}
 
-/// There is a reason against an approval exactly where its author is not eligible at its moment
-/// (NIST SP 800-53 AC-5). An approval of somebody who stands under BARRED may be taken away or
-/// added again: no name's status changes.
+/// There is a reason against an approval exactly if its author is not eligible at its moment (NIST
+/// SP 800-53 AC-5). An approval by somebody who is listed under BARRED may be taken away or added
+/// again: no name's status changes.
 pub fn barred_changes_nothing()
     ensures barred { (f : RosterFields Cmnd) (c : CeilingFields Cmnd)
         (asker person : List ℕ) (at : ℕ) (why : Reason)
@@ -66,8 +66,8 @@ pub fn barred_changes_nothing()
 {}
 
 /// Worked lines: the text of a report with a grant, an approval that does not count and a holder of
-/// two conflicting duties; why four people's approvals do not count, or nothing, and two people's
-/// by days; and which of three commands are broad.
+/// two conflicting duties; why the approvals of four people do not count, if they do not, and those
+/// of two people on two days; and which of three commands are broad.
 pub fn worked_lines()
     ensures text { team_text
         ≡ codes "REVIEW 19700101093000Z\nLIVE\nann                                      7 db-root                          19700101091000Z 19700101110000Z needed\nBARRED\nann                                      7 carol                            conflict\nCONFLICTS\ncarol                            approve                          audit\nBROAD\nPARKED\n" }

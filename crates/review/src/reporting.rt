@@ -42,7 +42,7 @@ fn push_texts(out: &mut String, texts: &[String]) -> Result<(), NoMemory>
 /// which grants are of ALL or of a directory, and which verdicts wait for their request (NIST SP
 /// 800-53 AC-5, AC-6(7)).
 ///
-/// It is given the summaries of the set in the order of their names, and the parked texts in byte
+/// It takes the summaries of the set in the order of their names, and the parked texts in byte
 /// order.
 pub fn report_of(
     alloc: Global,

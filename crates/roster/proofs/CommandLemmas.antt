@@ -1,4 +1,4 @@
--- Commands in their order: where a search by halving ends, and what stands where.
+-- Commands in order: where a binary search ends, and which command has which place.
 use Rattle.std.proofs.Common.{◌≡◌, ◌<◌, ◌≤◌, ◌+◌, ℕ, ◌∙◌, Bool, true, false, ◌&&◌, List, length, get_or}
 use Rattle.std.proofs.Common.{Ordering, Less, Equal, Greater, refl, sym, ap, subst, arith, ⊎_elim}
 use Rattle.std.specs.Cmp.{IsTotalOrder, nat_cmp_total, on_total, then_total}
@@ -36,11 +36,11 @@ place_total =
     then_total (on_total (λ (p : Place). rank p.kind) nat_cmp_total)
     (then_total (on_total (λ (p : Place). p.path) nat_list_cmp_total) (on_total (λ (p : Place). p.args) (lists_total nat_list_cmp_total)))
 
--- beside a place they are first less, then equal, then greater
+-- compared with a place they are first less, then equal, then greater
 climbs : (cs : List Cmnd) → AreCmndsInOrder cs → (p : Place) → IsNonDecreasingBy (λ c. ordering_index (place_order (place c) p)) cs
 climbs cs rising p = searchable_from_sorted place_total place cs p rising
 
--- the commands of a part compare so with the place
+-- each command between two indexes compares like this with the place
 abbrev pub Rank : List Cmnd → Place → Ordering → (from to : ℕ) → Type 0
 Rank cs p r from to = (k : ℕ) (d : Cmnd) → from ≤ k → k < to → k < length cs → place_order (place (get_or cs k d)) p ≡ r
 
@@ -75,7 +75,7 @@ pub sorted_by_place : {F : Type 0} {g : Mut F (Bor Cmnd × (Bor Cmnd × Unit {0}
 sorted_by_place {g = g} {f = f} cs up h = up (λ c d. is_lt (cmnd_order c d)) (ranks_by place_total place)
     (always_returns_same g (λ a r. is_lt r ≡ is_lt (cmnd_order a.0.now a.1.0.now)) f (λ a r f' k. (ap is_lt (h a r f' k).0, (h a r f' k).1)))
 
--- ---- what stands where
+-- ---- which command has which place
 
 then_equal : (r : Ordering) → is_eq (ordering_then r Equal) ≡ is_eq r
 then_equal Less = refl
@@ -124,7 +124,7 @@ at_file file (Exactly wanted) (Path f (Exactly args)) =
     ∙ ap (λ b. b && is_eq (args_order args wanted)) (sym (texts_ties f file))
     ∙ ap (λ b. bytes_eq f file && b) (sym (lists_ties text_order texts_ties args wanted))
 
--- a command stands at a place in the order where one of those that were read passes the same test
+-- a sorted command has a place exactly if one of the commands that were read passes the same test
 pub found_in_order : (cmnds ordered : List Cmnd) → IsInOrder cmnd_order cmnds ordered → (p : Place) (test : Cmnd → Bool) → ((c : Cmnd) → is_at p c ≡ test c)
     → list_any (is_at p) ordered ≡ list_any test cmnds
 found_in_order cmnds ordered o p test alike = sym (list_any-IsPermutation (is_at p) cmnds ordered o.same) ∙ any_same (is_at p) test alike cmnds

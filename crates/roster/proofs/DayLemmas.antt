@@ -1,4 +1,4 @@
--- A day that a text spells is the one of which it is the date.
+-- The day that a text spells is the one whose date it is.
 use Rattle.std.proofs.Common.{◌≡◌, ◌<◌, ◌≤◌, ◌+◌, ℕ, zero, suc, pos, ◌∙◌, List, true, sym, subst, arith, inl, inr}
 use Rattle.std.specs.Str.{bytes_eq}
 use Rattle.std.proofs.lemmas.Bool.{cases_Bool, cases_lt, cond-true, cond-false, true≢false}
@@ -8,7 +8,7 @@ use Rattle.sudo_words.proofs.MomentLemmas.{date_text_is, date_text_only}
 use Rattle.sudo_words.proofs.MomentTexts.{one_day}
 use Rattle.roster.specs.Document.{day_from, day_spelled}
 
--- the one that is found is none of those behind them
+-- the day that is found is not later than the day after them
 within : (later day : ℕ) (text : List ℕ) → day_from later day text ≤ day + later
 unfolding day_from
 within zero day text = omega arith
@@ -17,7 +17,7 @@ within (suc later) day text = elim (cases_Bool (bytes_eq (date_text day) text)) 
   | inr other ↦ rw (cond-false _ day (day_from later (day + 1) text) other) (omega (arith, within later (day + 1) text))
 ]
 
--- one of them has the text as its date
+-- the text is the date of one of them
 has_date : (later day : ℕ) (text : List ℕ) → day_from later day text < day + later → bytes_eq (date_text (day_from later day text)) text ≡ true
 unfolding day_from
 has_date zero day text l = absurd (omega arith)
@@ -28,7 +28,7 @@ has_date (suc later) day text l = elim (cases_Bool (bytes_eq (date_text day) tex
       subst (λ (x : ℕ). bytes_eq (date_text x) text ≡ true) (sym same) (has_date later (day + 1) text (omega (arith, l, same)))
 ]
 
--- where one of them has it, one is found
+-- if the text is the date of one of them, one is found
 is_found : (later day d : ℕ) (text : List ℕ) → day ≤ d → d < day + later → bytes_eq (date_text d) text ≡ true → day_from later day text < day + later
 unfolding day_from
 is_found zero day d text low high e = absurd (omega arith)

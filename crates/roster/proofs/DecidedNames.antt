@@ -1,4 +1,4 @@
--- Whether a text is a lawful command's, and whether what a draft names are names and commands.
+-- Whether a text is the text of a lawful command, and whether a draft's names and commands are names and commands.
 use Rattle.std.proofs.Common.{◌≡◌, ◌≤◌, ◌⊎◌, ℕ, ◌∙◌, Bool, true, false, not, ◌==◌, if◌then◌else◌, nat_le, List, []}
 use Rattle.std.proofs.Common.{◌∷◌, ◌++◌, length, map, filter, All, eqb, refl, sym, ap, ap₂, subst, arith, inl, inr}
 use Rattle.std.specs.Prelude.{codes}
@@ -63,7 +63,7 @@ all_or_not P one (x ∷ xs) = of (one x) (all_or_not P one xs)
 
 -- ---- which command a text would be
 
--- a byte that is no backslash
+-- a byte that is not a backslash
 abbrev kept : ℕ → Bool
 kept b = not (b == 92)
 
@@ -85,7 +85,7 @@ abbrev command_of : List (List ℕ) → Cmnd
 command_of [] = cmnds.All
 command_of (head ∷ words) = command_from head (rule_from words)
 
--- ---- it is that of a command's own text
+-- ---- for a command's own text, it is that command
 
 is_kept : (b : ℕ) → is_arg_byte b ≡ true → kept b ≡ true
 is_kept b h =
@@ -168,7 +168,7 @@ lawful_or_not c = of (head_or_not c) (rule_or_not (rule_of c)) (at_most_or_not (
     of (inl h) (inr lacks) s = inr (λ l. lacks l.args)
     of (inr lacks) a s = inr (λ l. lacks l.head)
 
--- the only command that the text may be
+-- the only command whose text this may be
 abbrev candidate : List ℕ → Cmnd
 candidate text = command_of (slice_split (λ b. eqb b 32) text)
 

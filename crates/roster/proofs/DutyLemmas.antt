@@ -136,7 +136,7 @@ more_conflicts f g person asker c at people more e =
           ∙ a.none_against));
     })
 
--- a duty of an entry that passes a test on a day is held then
+-- if a list gives every duty that another gives on a day, a test passed by a duty of the other then is passed by one of its own
 pub any_held : (day : ℕ) (p : List ℕ → Bool) (ds es : List Entry)
     → ((d : List ℕ) → list_any (gives d day) ds ≡ true → list_any (gives d day) es ≡ true)
     → list_any (λ x. hold x.1 day && p x.0) ds ≡ true → list_any (λ x. hold x.1 day && p x.0) es ≡ true

@@ -1,4 +1,4 @@
--- A roster's text has no fault, and any other text at most one least fault.
+-- The text of a roster has no fault, and any other text has at most one least fault.
 use Rattle.std.proofs.Common.{◌≡◌, ◌≢◌, ◌<◌, ℕ, ◌∙◌, ◌==◌, cond, List, Some, None, true, false, refl, sym, ap, subst, arith}
 use Rattle.std.proofs.lemmas.Bool.{true≢false}
 use Rattle.std.proofs.lemmas.Option.{same_Some, none-some}
@@ -39,7 +39,7 @@ no_fault text f OutOfRange r h =
     true≢false (sym r.range ∙ sym (range_in_texts text f) ∙ ap (in_range text) (sym (says_in_texts text f h.0 r h.1)) ∙ h.2)
 no_fault text f NoMemory r h = h
 
--- so it is only want of memory that refuses it
+-- so it is refused only if memory runs out
 pub only_memory : (text : List ℕ) (f : RosterFields Cmnd) (e : RosterFault) → IsRosterText text f → (e ≢ NoMemory → IsLeastFault text e) → e ≡ NoMemory
 only_memory text f NotToml r h = absurd (no_fault text f NotToml r (h (λ e. absurd cc)).0)
 only_memory text f UnknownKey r h = absurd (no_fault text f UnknownKey r (h (λ e. absurd cc)).0)
@@ -85,11 +85,11 @@ only_from_three text d toml keys UnknownKey l h =
 only_from_three text d toml keys NoMemory l h = h
 only_from_three text d toml keys _ l h = omega arith
 
--- a text with a roster's keys alone, of which a value is missing or has not its type, has that fault and no lower one
+-- a text with known keys only, in which a key is missing or a value does not have its type, has that fault and no lower one
 pub of_wrong_type : (text : List ℕ) (d : Members) → parse_document text ≡ Some d → has_known_keys d ≡ true → fields_of d ≡ None → IsLeastFault text WrongType
 of_wrong_type text d toml keys wrong = ((d, toml, wrong), only_from_three text d toml keys)
 
--- a text with a roster's keys alone, whose values have their types, has only greater faults than that
+-- a text with known keys only, whose values have their types, has only greater faults than that
 only_from_four : (text : List ℕ) (t : RosterFields (List ℕ)) → IsDraftOf text t → (lower : RosterFault) → number lower < 4 → ¬ Has text lower
 only_from_four text t d NotToml l h = none-some d.document (sym h ∙ d.toml)
 only_from_four text t d UnknownKey l h =
@@ -102,7 +102,7 @@ only_from_four text t d _ l h = omega arith
 pub of_bad_name : (text : List ℕ) (t : RosterFields (List ℕ)) → IsDraftOf text t → ¬ GoodNames IsCmndText t → IsLeastFault text BadName
 of_bad_name text t d bad = ((t, (d.document, d.toml, d.types), bad), only_from_four text t d)
 
--- nor has it that one where its names are good
+-- if its names are good, only greater faults than a bad name
 only_from_five : (text : List ℕ) (t : RosterFields (List ℕ)) → IsDraftOf text t
     → GoodNames IsCmndText t → (lower : RosterFault) → number lower < 5 → ¬ Has text lower
 only_from_five text t d good NotToml l h = only_from_four text t d NotToml (omega arith) h
@@ -116,7 +116,7 @@ pub of_unknown_name : (text : List ℕ) (t : RosterFields (List ℕ)) → IsDraf
     → GoodNames IsCmndText t → are_known t ≡ false → IsLeastFault text UnknownName
 of_unknown_name text t d good unknown = ((t, (d.document, d.toml, d.types), unknown), only_from_five text t d good)
 
--- nor that one where they are listed
+-- if they are also listed, only greater faults than an unknown name
 only_from_six : (text : List ℕ) (t : RosterFields (List ℕ)) → IsDraftOf text t → GoodNames IsCmndText t
     → are_known t ≡ true → (lower : RosterFault) → number lower < 6 → ¬ Has text lower
 only_from_six text t d good known NotToml l h = only_from_five text t d good NotToml (omega arith) h
@@ -132,7 +132,7 @@ pub of_self_conflict : (text : List ℕ) (t : RosterFields (List ℕ)) → IsDra
     → are_known t ≡ true → has_self_conflict t ≡ true → IsLeastFault text SelfConflict
 of_self_conflict text t d good known itself = ((t, (d.document, d.toml, d.types), itself), only_from_six text t d good known)
 
--- nor that one where no duty conflicts with itself
+-- if also no duty conflicts with itself, only greater faults than that
 only_from_seven : (text : List ℕ) (t : RosterFields (List ℕ)) → IsDraftOf text t → GoodNames IsCmndText t → are_known t ≡ true → has_self_conflict t ≡ false
     → (lower : RosterFault) → number lower < 7 → ¬ Has text lower
 only_from_seven text t d good known apart NotToml l h = only_from_six text t d good known NotToml (omega arith) h

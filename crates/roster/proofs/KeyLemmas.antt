@@ -1,4 +1,4 @@
--- Keys that are looked up among those that a roster or a ceiling has.
+-- Keys that are looked up among those that a roster, a ceiling or an entry may have.
 use Rattle.std.proofs.Common.{◌≡◌, ℕ, ◌∙◌, Bool, true, false, ◌&&◌, ◌||◌, List, [], ◌∷◌, refl, sym, ap, ap₂}
 use Rattle.std.specs.List.{list_all}
 use Rattle.std.specs.Prelude.{codes}

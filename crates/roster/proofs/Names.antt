@@ -1,4 +1,4 @@
--- The names of a roster, place by place.
+-- The names of a roster, list by list.
 use Rattle.std.proofs.Common.{◌≡◌, Bool, true, ◌&&◌, ap₂}
 use Rattle.std.specs.List.{list_all}
 use Rattle.std.proofs.lemmas.Bool.{and_parts}
@@ -6,7 +6,7 @@ use Rattle.sudo_words.specs.Word.{is_host_name, is_label}
 use Rattle.roster.specs.Fields.{RosterFields}
 use Rattle.roster.specs.Rules.{good_names, is_named_pair, is_named_person}
 
--- each place outside the ceilings has names alone
+-- each list outside the ceilings has only names of its form
 pub record AreNames {C : Type 0} (f : RosterFields C) : Type 0 where
   pub relays : list_all is_label f.relays ≡ true
   pub hosts : list_all is_host_name f.hosts ≡ true

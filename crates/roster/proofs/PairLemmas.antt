@@ -1,4 +1,4 @@
--- Pairs in their order: where a search by halving ends.
+-- Pairs in order: where a binary search ends.
 use Rattle.std.proofs.Common.{◌≡◌, ◌<◌, ◌≤◌, ◌+◌, ℕ, ◌∙◌, Bool, true, false, ◌||◌, List, [], ◌∷◌, length}
 use Rattle.std.proofs.Common.{get_or, Ordering, Less, Equal, Greater, refl, sym, ap, subst, arith, ⊎_elim}
 use Rattle.std.specs.Cmp.{IsTotalOrder, both_tied, on_total, then_total}
@@ -20,7 +20,7 @@ Pair = List ℕ × List ℕ
 pair_total : IsTotalOrder pair_order
 pair_total = then_total (on_total (λ (p : Pair). p.0) nat_list_cmp_total) (on_total (λ (p : Pair). p.1) nat_list_cmp_total)
 
--- beside a pair they are first less, then equal, then greater
+-- compared with a pair they are first less, then equal, then greater
 climbs : (ps : List Pair) → AreInOrder ps → (p : Pair) → IsNonDecreasingBy (λ q. ordering_index (pair_order q p)) ps
 climbs ps rising p = searchable_from_sorted pair_total (λ q. q) ps p rising
 
@@ -34,7 +34,7 @@ greater Less l = absurd (omega arith)
 greater Equal l = absurd (omega arith)
 greater Greater l = refl
 
--- the pairs of a part compare so with this one
+-- each pair between two indexes compares like this with this one
 abbrev pub Rank : List Pair → Pair → Ordering → (from to : ℕ) → Type 0
 Rank ps p r from to = (k : ℕ) (d : Pair) → from ≤ k → k < to → k < length ps → pair_order (get_or ps k d) p ≡ r
 

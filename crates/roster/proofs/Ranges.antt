@@ -11,7 +11,7 @@ use Rattle.roster.specs.Fields.{CeilingFields, RosterFields}
 use Rattle.roster.specs.Relations.{entry_of, ceiling_at}
 use Rattle.roster.specs.Rules.{is_within, is_ranged, has_ceiling_counts, in_range}
 
--- what holds of each entry holds of the one that is found
+-- what holds for each entry holds for the one that is found
 found_holds : {X : Type 0} (test : List ℕ × X → Bool) (entries : List (List ℕ × X)) (name : List ℕ) (x : X)
     → list_all test entries ≡ true → entry_of entries name ≡ Some x → (e : List ℕ × X) × (test e ≡ true) × (e.1 ≡ x)
 found_holds {X = X} test [] name x all found = absurd (none-some x found)

@@ -1,4 +1,4 @@
--- The rights of a moment rest on the duties that are held then, and duties on the set of days and entries.
+-- The rights at a moment depend on the duties that are held then, and duties on the set of days and entries.
 use Rattle.std.proofs.Common.{◌≡◌, ◌≤◌, ◌<◌, ◌+◌, ℕ, ◌∙◌, Bool, true, false, not, ◌&&◌, ◌||◌, if◌then◌else◌, List, []}
 use Rattle.std.proofs.Common.{◌∷◌, ◌++◌, Option, Some, is_some, nat_le, refl, sym, ap, ap₂, arith, inl, inr, ⊎_elim}
 use Rattle.std.specs.Prelude.{Contains, ◌↔◌}
@@ -119,7 +119,7 @@ cut_day from middle until day low high = same_bool _ _ to back
 
 -- ---- entries
 
--- what stands in the middle of a list may be exchanged for what a test answers alike
+-- the end of a list may be replaced by one for which a test has the same answer
 exchanged : {X : Type 0} (p : X → Bool) (before xs ys : List X) → list_any p xs ≡ list_any p ys → list_any p (before ++ xs) ≡ list_any p (before ++ ys)
 exchanged p before xs ys same =
     list_any-append p before xs ∙ ap (λ b. list_any p before || b) same ∙ sym (list_any-append p before ys)
@@ -179,7 +179,7 @@ chosen : (p : Entry → Bool) (b : Bool) (x y u v : Option (List Entry)) → lis
 chosen p true x y u v here there = here
 chosen p false x y u v here there = there
 
--- one person's entries are exchanged for others that a test answers alike
+-- one person's entries are replaced by others for which a test has the same answer
 entries_exchanged : (p : Entry → Bool) (people more : List (List ℕ × List Entry)) (name : List ℕ) (es fs : List Entry) (person : List ℕ)
     → list_any p es ≡ list_any p fs
     → list_any p (or_none (entry_of (people ++ (name, es) ∷ more) person)) ≡ list_any p (or_none (entry_of (people ++ (name, fs) ∷ more) person))

@@ -1,4 +1,4 @@
--- Names that rise: where a search by halving ends; and a table's keys rise.
+-- Names that rise: where a binary search ends; and a table's keys rise.
 use Rattle.std.proofs.Common.{◌≡◌, ◌<◌, ◌≤◌, ◌+◌, ℕ, zero, suc, ◌∙◌, false, List, [], ◌∷◌, length, get_or, map, Option, Some}
 use Rattle.std.proofs.Common.{None, String, Ordering, Less, Equal, Greater, string_bytes, refl, sym, ap, subst, arith, ⊎_elim}
 use Rattle.std.specs.Prelude.{if◌then◌else◌}
@@ -28,11 +28,11 @@ order = slice_cmp nat_cmp
 turned : (a b : List ℕ) → order a b ≡ Less → order b a ≡ Greater
 turned a b e = nat_list_cmp_total.antisymm b a ∙ ap ordering_reverse e
 
--- what is before a text is before its equal
+-- what is before a text is before any text equal to it
 less_equal : (a b n : List ℕ) → order a b ≡ Less → order b n ≡ Equal → order a n ≡ Less
 less_equal a b n lt eq = nat_list_cmp_total.antisymm a n ∙ ap ordering_reverse (sym (nat_list_cmp_total.congr b n a eq) ∙ turned a b lt)
 
--- what is behind a text is before what that text is before
+-- if a text is before another and after a third, the other is after the third as well
 greater_then : (a b n : List ℕ) → order a b ≡ Less → order a n ≡ Greater → order b n ≡ Greater
 greater_then a b n lt gt =
     let before : order n a ≡ Less = nat_list_cmp_total.antisymm n a ∙ ap ordering_reverse gt in
@@ -83,11 +83,11 @@ same_place [] i d e l = absurd (omega arith)
 same_place (x ∷ xs) zero d e l = refl
 same_place (x ∷ xs) (suc i) d e l = same_place xs i d e (omega arith)
 
--- the entries of a part compare so with the name
+-- the name of each entry between two indexes compares like this with the name
 abbrev pub Compare : {X : Type 0} → List (List ℕ × X) → List ℕ → Ordering → (from to : ℕ) → Type 0
 Compare {X} es name r from to = (k : ℕ) (d : List ℕ × X) → from ≤ k → k < to → k < length es → order (get_or es k d).0 name ≡ r
 
--- one that is before the name has only such before it
+-- if an entry is before the name, so are all before it
 pub all_below : {X : Type 0} (es : List (List ℕ × X)) → AreRising es → (name : List ℕ) (m : ℕ) (x : List ℕ × X) → m < length es
     → x ≡ get_or es m x → order x.0 name ≡ Less → Compare es name Less 0 (m + 1)
 all_below es rising name m x l is lt k d from to in_range =
@@ -97,7 +97,7 @@ all_below es rising name m x l is lt k d from to in_range =
     (λ above. let same : m ≡ k = omega (arith, above, to) in subst (λ q. order (get_or es q d).0 name ≡ Less) same here)
     (cases_lt k m)
 
--- one that is behind the name has only such behind it
+-- if an entry is after the name, so are all after it
 pub all_above : {X : Type 0} (es : List (List ℕ × X)) → AreRising es → (name : List ℕ) (m : ℕ) (x : List ℕ × X) → m < length es
     → x ≡ get_or es m x → order x.0 name ≡ Greater → Compare es name Greater m (length es)
 all_above es rising name m x l is gt k d from to in_range =
@@ -107,13 +107,13 @@ all_above es rising name m x l is gt k d from to in_range =
     (λ above. let same : m ≡ k = omega (arith, above, from) in subst (λ q. order (get_or es q d).0 name ≡ Greater) same here)
     (cases_lt m k)
 
--- one that is the name is found
+-- an entry that has the name is found
 pub found : {X : Type 0} (es : List (List ℕ × X)) → AreRising es → (name : List ℕ) (m : ℕ) (x : List ℕ × X) → m < length es
     → x ≡ get_or es m x → order x.0 name ≡ Equal → entry_of es name ≡ Some x.1
 found es rising name m x l is eq =
     found_at es rising m name x l (ap (λ e. order e.0 name) (sym is) ∙ eq) ∙ ap (λ e. Some e.1) (sym is)
 
--- where the entries before a place are before the name, and those from there on behind it, it is absent
+-- if the entries before an index are before the name, and those from there on after it, the name is absent
 pub not_found : {X : Type 0} (es : List (List ℕ × X)) (name : List ℕ) (m : ℕ) → Compare es name Less 0 m → Compare es name Greater m (length es)
     → entry_of es name ≡ None
 not_found es name m below above = absent es name (λ k d in_range. ⊎_elim

@@ -1,4 +1,4 @@
--- Each text is a roster's, or has a least fault.
+-- Each text is the text of a roster, or has a least fault.
 use Rattle.std.proofs.Common.{◌≡◌, ◌⊎◌, ℕ, true, List, [], ◌∷◌, map, All, Option, Some, None, refl, sym, ap, ap₂, inl, inr}
 use Rattle.std.proofs.lemmas.Bool.{cases_Bool}
 use Rattle.std.proofs.lemmas.List.Elements.{All-cons, All-head, All-nil, All-tail}
@@ -17,7 +17,7 @@ use Rattle.roster.proofs.DecidedNames.{names_or_not}
 use Rattle.roster.proofs.FaultLemmas.{none_below_one, of_bad_name, of_out_of_range, of_self_conflict, of_unknown_name, of_wrong_type, read_at_all}
 use Rattle.roster.proofs.Texts.{roster_text}
 
--- ---- what a draft of good names is the draft of
+-- ---- the roster of a draft with good names
 
 commands_for : (texts : List (List ℕ)) → All IsCmndText texts → (cs : List Cmnd) × All IsLawful cs × (map cmnd_text cs ≡ texts)
 commands_for [] a = ([], All-nil IsLawful, refl)

@@ -1,4 +1,4 @@
--- Tests of which a further one is made only where those before it pass.
+-- Tests made one after another, each only if those before it pass.
 use Rattle.std.proofs.Common.{◌≡◌, ◌∙◌, Bool, true, false, ◌&&◌, sym, ap}
 
 pub passed : (first a b : Bool) (both : Bool) → first ≡ true → first ≡ a → both ≡ b → both ≡ (a && b)

@@ -1,4 +1,4 @@
--- No text is that of two rosters.
+-- No text is the text of two rosters.
 use Rattle.std.proofs.Common.{◌≡◌, ℕ, ◌∙◌, List, [], ◌∷◌, map, refl, sym, ap, ap₂}
 use Rattle.std.specs.Prelude.{All}
 use Rattle.std.proofs.lemmas.List.Elements.{All-head, All-tail}
@@ -54,7 +54,7 @@ one_in_texts f g a b e =
     let ceilings = one_ceilings f.ceilings g.ceilings a.ceilings b.ceilings (ap (λ (x : RosterFields (List ℕ)). x.ceilings) e) in
     λ i. record { relays = relays i; hosts = hosts i; duties = duties i; conflicts = conflicts i; people = people i; ceilings = ceilings i }
 
--- a text has one document, and what it says is one roster's
+-- a text has one document, and what that says is what one roster says
 pub one_roster : (text : List ℕ) (f g : RosterFields Cmnd) → IsRosterText text f → IsRosterText text g → f ≡ g
 one_roster text f g a b =
     let document : a.document ≡ b.document = same_Some _ _ (sym a.toml ∙ b.toml) in

@@ -1,4 +1,4 @@
--- When two rosters say the same of who may do what up to a moment, and differ in later days alone.
+-- When two rosters agree on who may do what up to a moment, and differ only in later days.
 use Rattle.std.specs.Prelude.{◌≡◌, ℕ, ◌≤◌, List}
 use Rattle.std.specs.Map.{keys_of}
 use Rattle.roster.specs.Fields.{RosterFields}

@@ -1,4 +1,4 @@
--- Which TOML document is which roster: its keys, and the type of each value (TOML 1.1).
+-- How a TOML document says what a roster says: its keys, and the type of each value (TOML 1.1).
 use Rattle.std.specs.Prelude.{ℕ, zero, suc, ◌+◌, ℤ, pos, negsuc, List, [], ◌∷◌, Option}
 use Rattle.std.specs.Prelude.{Some, None, Bool, true, if◌then◌else◌, codes, ◌&&◌, ◌||◌}
 use Rattle.std.specs.Str.{bytes_eq}
@@ -8,7 +8,7 @@ use Rattle.sudo_words.specs.Moment.{date_text}
 use Rattle.roster.specs.Fields.{CeilingFields, Entry, RosterFields}
 use Rattle.roster.specs.declared.days.Days.TheVariants.{Always, Between}
 
--- the second step is taken on what the first gives, where it gives something
+-- the second step is applied to what the first gives, if it gives something
 infixl 10 ◌>>=◌
 abbrev pub ◌>>=◌ : {A B : Type 0} → Option A → (A → Option B) → Option B
 (Some x) >>= f = f x
@@ -16,7 +16,7 @@ None >>= f = None
 
 -- ---- values by their types
 
--- what each item is, where each is one
+-- what each item is read as, if every item can be read
 abbrev pub each_item : {X : Type 0} → (Data → Option X) → Items → Option (List X)
 each_item f no_items = Some []
 each_item f (item d ds) = do
@@ -24,7 +24,7 @@ each_item f (item d ds) = do
   xs ← each_item f ds
   Some (x ∷ xs)
 
--- each key with what its value is, where each is one
+-- each key with what its value is read as, if every value can be read
 abbrev pub each_member : {X : Type 0} → (Data → Option X) → Members → Option (List (List ℕ × X))
 each_member f no_members = Some []
 each_member f (member k d ms) = do
@@ -50,7 +50,7 @@ abbrev pub pairs_of : Data → Option (List (List ℕ × List ℕ))
 pairs_of (array ds) = each_item pair_of ds
 pairs_of _ = None
 
--- a whole number; each one below 0 stands as 0, which no range of a roster has
+-- a whole number; each one below 0 counts as 0, which is out of range for every number of a roster
 abbrev pub at_least_zero : ℤ → ℕ
 at_least_zero (pos n) = n
 at_least_zero (negsuc n) = 0
@@ -60,15 +60,15 @@ number_of d = as_integer d >>= λ z. Some (at_least_zero z)
 
 -- ---- days
 
--- of this day and so many later ones the one that the text is the date of, or the day after them
--- where it is none's
+-- of the `later` days from this one on, the one whose date the text is, or the day after them if
+-- the text is not the date of any of them
 unfoldable pub day_from : (later day : ℕ) → List ℕ → ℕ
 day_from zero day text = day
 day_from (suc later) day text =
     if bytes_eq (date_text day) text then day else day_from later (day + 1) text
 
--- The day from 1970-01-01 to 2099-12-31 that the text is the date of, `yyyymmdd`. Each other text
--- stands as the day after them, which no entry of a roster has.
+-- The day from 1970-01-01 to 2099-12-31 whose date the text is, `yyyymmdd`. Any other text counts
+-- as the day after these, which no entry of a roster has.
 unfoldable pub day_spelled : List ℕ → ℕ
 day_spelled text = day_from 47_482 0 text
 
@@ -99,7 +99,7 @@ is_ceiling_key k =
     || bytes_eq k (codes "needs") || bytes_eq k (codes "hosts")
     || bytes_eq k (codes "runas") || bytes_eq k (codes "commands") || bytes_eq k (codes "longest")
 
--- a value that is no table has no keys
+-- a value that is not a table has no keys
 abbrev pub has_ceiling_keys : Data → Bool
 has_ceiling_keys (table ms) = each_key is_ceiling_key ms
 has_ceiling_keys _ = true
@@ -117,7 +117,7 @@ abbrev pub has_entry_keys : Data → Bool
 has_entry_keys (table ms) = each_key is_entry_key ms
 has_entry_keys _ = true
 
--- of each entry of a person, and of each person
+-- each entry of a person has only such keys; and so has each entry of every person
 abbrev pub have_entry_keys : Data → Bool
 have_entry_keys (array ds) = each_one has_entry_keys ds
 have_entry_keys _ = true
@@ -133,8 +133,8 @@ is_roster_key k =
     || bytes_eq k (codes "duties") || bytes_eq k (codes "conflicts")
     || bytes_eq k (codes "people") || bytes_eq k (codes "ceilings")
 
--- each key of the document is one of a roster, each key of a ceiling one of a ceiling, and each key
--- of an entry one of an entry
+-- the document has only keys of a roster, each ceiling only keys of a ceiling, and each entry only
+-- keys of an entry
 unfoldable pub has_known_keys : Members → Bool
 has_known_keys ms =
     each_key is_roster_key ms && have_ceiling_keys (get_member (codes "ceilings") ms)
@@ -142,12 +142,12 @@ has_known_keys ms =
 
 -- ---- what a document says
 
--- what stands at a key
+-- what the value of a key is read as
 abbrev pub member_of : {X : Type 0} → (Data → Option X) → List ℕ → Members → Option X
 member_of f key ms = get_member key ms >>= f
 
--- An entry is a duty's label, and then held always, or a table of a duty and of the days from which
--- and until which it is held.
+-- An entry is a duty's label, if the duty is always held, or a table of a duty and the first and
+-- the last day on which it is held.
 unfoldable pub duty_entry : Data → Option Entry
 duty_entry (table ms) = do
   duty ← member_of as_str (codes "duty") ms

@@ -1,4 +1,4 @@
--- The format of a roster's text, and the faults of a text that has not that format.
+-- The format of a roster's text, and the faults of a text that does not have this format.
 use Rattle.std.specs.Prelude.{◌≡◌, ℕ, ◌<◌, List, Some, None, true, false, codes}
 use Rattle.toml.specs.Data.{Members}
 use Rattle.toml.specs.Parse.{parse_document}
@@ -23,13 +23,13 @@ pub record IsRosterText (text : List ℕ) (f : RosterFields Cmnd) : Type 0 where
   pub apart : has_self_conflict f ≡ false
   pub range : in_range text f ≡ true
 
--- Each value of the text has its type, and they say this.
+-- Each value of the text has its type, and the values say this.
 abbrev pub Says : List ℕ → RosterFields (List ℕ) → Type 0
 Says text t =
     (document : Members) × (parse_document text ≡ Some document) × (fields_of document ≡ Some t)
 
--- The text has the fault. A fault of what a text says is one of a text whose values have their
--- types.
+-- The text has the fault. Only a text whose values have their types can have a fault in what it
+-- says.
 abbrev pub Has : List ℕ → RosterFault → Type 0
 Has text NotToml = parse_document text ≡ None
 Has text UnknownKey =

@@ -1,4 +1,4 @@
--- What a roster says. Names are seen as their bytes; people and ceilings stand in the byte order of
+-- What a roster says. Names are seen as their bytes; people and ceilings are in the byte order of
 -- their names.
 use Rattle.std.specs.Prelude.{ℕ, List, map}
 use Rattle.sudo_words.specs.Command.{cmnd_text}
@@ -6,8 +6,8 @@ use Rattle.sudo_words.specs.declared.cmnd.Cmnd.{Cmnd}
 use Rattle.roster.specs.declared.days.Days.{Days}
 
 -- A ceiling: who may ask and who approves, how many approvals it takes, and the most that a grant
--- under it gives (NIST SP 800-53 AC-6). `C` is what stands for a command: its text where the roster
--- is still a draft, else the command.
+-- under it gives (NIST SP 800-53 AC-6). `C` is what a command is given as: its text while the
+-- roster is a draft, then the command itself.
 pub record CeilingFields (C : Type 0) : Type 0 where
   pub ask : List ℕ
   pub approve : List ℕ
@@ -22,7 +22,7 @@ pub record CeilingFields (C : Type 0) : Type 0 where
 abbrev pub Entry : Type 0
 Entry = List ℕ × Days
 
--- A roster. A person has entries, of which several may be of one duty. A pair of conflicting duties
+-- A roster. A person may have several entries with the same duty. A pair of conflicting duties
 -- means the same either way round (NIST SP 800-53 AC-5).
 pub record RosterFields (C : Type 0) : Type 0 where
   pub relays : List (List ℕ)

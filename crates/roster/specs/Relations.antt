@@ -15,7 +15,7 @@ use Rattle.roster.specs.Rules.{is_among}
 use Rattle.roster.specs.declared.days.Days.{Days}
 use Rattle.roster.specs.declared.days.Days.TheVariants.{Always, Between}
 
--- what stands at a name in a list of names with something each
+-- what a list of names, each with something, has under a name (the first, if several are equal)
 abbrev pub entry_of : {X : Type 0} → List (List ℕ × X) → List ℕ → Option X
 entry_of [] name = None
 entry_of (e ∷ es) name = if bytes_eq e.0 name then Some e.1 else entry_of es name
@@ -33,7 +33,7 @@ abbrev pub hold : Days → (day : ℕ) → Bool
 hold Always day = true
 hold (Between from until) day = nat_le from day && nat_le day until
 
--- the entry is of the duty, and the day is one of its days
+-- the entry has the duty, and the day is one of its days
 abbrev pub gives : (duty : List ℕ) (day : ℕ) → Entry → Bool
 gives duty day e = bytes_eq e.0 duty && hold e.1 day
 
@@ -41,11 +41,11 @@ gives duty day e = bytes_eq e.0 duty && hold e.1 day
 abbrev pub holds : {C : Type 0} → RosterFields C → (person duty : List ℕ) (at : ℕ) → Bool
 holds f person duty at = list_any (gives duty (day_of at)) (entries_of f person)
 
--- the pair is of these two, this way round
+-- the pair is these two, this way round
 abbrev pub is_pair : (first second : List ℕ) → List ℕ × List ℕ → Bool
 is_pair first second p = bytes_eq p.0 first && bytes_eq p.1 second
 
--- the pair is of these two, either way round
+-- the pair is these two, either way round
 abbrev pub joins : (first second : List ℕ) → List ℕ × List ℕ → Bool
 joins first second p = is_pair first second p || is_pair second first p
 
@@ -53,7 +53,7 @@ joins first second p = is_pair first second p || is_pair second first p
 abbrev pub conflicting : {C : Type 0} → RosterFields C → (first second : List ℕ) → Bool
 conflicting f first second = list_any (joins first second) f.conflicts
 
--- the entry is of a duty that conflicts with this one, and the day is one of its days
+-- the entry has a duty that conflicts with this one, and the day is one of its days
 abbrev pub is_against : {C : Type 0} → RosterFields C → (duty : List ℕ) (day : ℕ) → Entry → Bool
 is_against f duty day e = hold e.1 day && conflicting f e.0 duty
 
@@ -61,15 +61,15 @@ is_against f duty day e = hold e.1 day && conflicting f e.0 duty
 abbrev pub holds_against : {C : Type 0} → RosterFields C → (person duty : List ℕ) (at : ℕ) → Bool
 holds_against f person duty at = list_any (is_against f duty (day_of at)) (entries_of f person)
 
--- Separation of duties: who approves at a moment is not who asks, holds the approving duty then,
--- and holds none then that conflicts with it.
+-- Separation of duties: whoever approves at a moment is not the asker, holds the approving duty
+-- then, and holds no duty then that conflicts with it.
 abbrev pub eligible : {C D : Type 0} → RosterFields C
     → (person asker : List ℕ) → CeilingFields D → (at : ℕ) → Bool
 eligible f person asker c at =
     not (bytes_eq person asker)
     && holds f person c.approve at && not (holds_against f person c.approve at)
 
--- who asked may revoke, and who holds the approving duty at the moment
+-- the asker may revoke, and so may whoever holds the approving duty at the moment
 abbrev pub may_revoke : {C D : Type 0} → RosterFields C
     → (person asker : List ℕ) → CeilingFields D → (at : ℕ) → Bool
 may_revoke f person asker c at = bytes_eq person asker || holds f person c.approve at
@@ -97,7 +97,7 @@ pub record IsFirst (words : List (List ℕ)) (w : List ℕ) : Type 0 where
 abbrev pub AreRising : {X : Type 0} → List (List ℕ × X) → Type 0
 AreRising entries = IsStrictlySortedBy (slice_cmp nat_cmp) (keys_of entries)
 
--- a roster's people and ceilings rise
+-- a roster's people and ceilings are in the byte order of their names, each name once
 pub record IsOrdered {C : Type 0} (f : RosterFields C) : Type 0 where
   pub people : AreRising f.people
   pub ceilings : AreRising f.ceilings

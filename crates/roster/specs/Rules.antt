@@ -1,5 +1,5 @@
--- What holds of each roster, beyond the types of its values. A list stands for its set, and counts
--- are of the list.
+-- What holds for each roster, beyond the types of its values. A list stands for the set of its
+-- elements, but a count is the length of the list.
 use Rattle.std.specs.Prelude.{◌≡◌, ℕ, All, List, length, Bool, true, ◌&&◌, nat_le}
 use Rattle.std.specs.List.{list_all, list_any}
 use Rattle.std.specs.Str.{bytes_eq}
@@ -25,8 +25,7 @@ is_named_person p = is_name p.0 && list_all is_named_entry p.1
 abbrev pub IsCmndText : List ℕ → Type 0
 IsCmndText text = (c : Cmnd) × IsLawful c × (text ≡ cmnd_text c)
 
--- what stands in a ceiling for a name is a name of its form, and what stands for a command is a
--- command
+-- each name in a ceiling is a name of its form, and each command in it is a command
 pub record IsNamedCeiling {C : Type 0} (IsCommand : C → Type 0)
     (c : List ℕ × CeilingFields C) : Type 0 where
   pub label : is_label c.0 ≡ true
@@ -36,13 +35,13 @@ pub record IsNamedCeiling {C : Type 0} (IsCommand : C → Type 0)
   pub runas : list_all is_name c.1.runas ≡ true
   pub commands : All IsCommand c.1.commands
 
--- each text in a name's place outside the ceilings is one
+-- each name outside the ceilings is a name of its form
 unfoldable pub good_names : {C : Type 0} → RosterFields C → Bool
 good_names f =
     list_all is_label f.relays && list_all is_host_name f.hosts && list_all is_label f.duties
     && list_all is_named_pair f.conflicts && list_all is_named_person f.people
 
--- what stands for a name is a name of its form, and what stands for a command is a command
+-- each name is a name of its form, and each command is a command
 pub record GoodNames {C : Type 0} (IsCommand : C → Type 0) (f : RosterFields C) : Type 0 where
   pub names : good_names f ≡ true
   pub ceilings : All (IsNamedCeiling IsCommand) f.ceilings
@@ -91,7 +90,7 @@ is_ranged c =
     is_within 1 3 c.1.needs && is_within 1 256 (length c.1.hosts) && is_within 1 256
     (length c.1.runas) && is_within 1 256 (length c.1.commands) && is_within 1 2_592_000 c.1.longest
 
--- from a day to one that is not before it, up to 2099-12-31
+-- every day, or from a day to the same or a later one, up to 2099-12-31
 abbrev pub are_in_range : Days → Bool
 are_in_range Always = true
 are_in_range (Between from until) = nat_le from until && nat_le until 47_481
@@ -99,7 +98,7 @@ are_in_range (Between from until) = nat_le from until && nat_le until 47_481
 abbrev pub is_ranged_entry : Entry → Bool
 is_ranged_entry e = are_in_range e.1
 
--- up to 256 entries, each of days in range
+-- up to 256 entries, each with days in range
 abbrev pub is_ranged_person : List ℕ × List Entry → Bool
 is_ranged_person p = nat_le (length p.1) 256 && list_all is_ranged_entry p.1
 

@@ -26,7 +26,7 @@ office = record {
 }
 
 -- whoever operates may ask for everything on `db` as root for an hour, and one of those who approve
--- has to
+-- must approve it
 abbrev pub everything : CeilingFields Cmnd
 everything = record {
   ask = codes "operate";
@@ -53,7 +53,7 @@ smallest = record {
   ceilings = [];
 }
 
--- a text that would be a roster's but for the days on which its one person holds a duty
+-- the text of a roster whose one person holds a duty between these days, if they are days in order
 abbrev pub text_with_days : (from until : List ℕ) → List ℕ
 text_with_days from until =
     codes "relays=['r']\nhosts=['h']\nduties=['d']\nconflicts=[]\nceilings={}\npeople={a=[{duty='d',from='"
@@ -82,8 +82,8 @@ longer_office = record office {
 }
 
 -- A whole roster: whoever operates may ask for everything on `db` as root, and one of those who
--- approve has to; the auditing duty conflicts with approving. Ann operates; eve approves, and
--- audits on 4 and 5 January 1970.
+-- approve must approve it; the auditing duty conflicts with approving. Ann operates; eve approves,
+-- and audits on 4 and 5 January 1970.
 abbrev pub shop_text : List ℕ
 shop_text =
     codes "relays = ['mail']\nhosts = ['db']\nduties = ['approve', 'audit', 'operate']\nconflicts = [['audit', 'approve']]\n"
@@ -103,7 +103,7 @@ shop = record {
   ceilings = (codes "db-root", everything) ∷ [];
 }
 
--- a roster of one relay and these hosts and duties, pairs and people
+-- a text with one relay and these hosts, duties, pairs and people, and no ceilings
 abbrev pub text_of : (hosts duties conflicts people : List ℕ) → List ℕ
 text_of hosts duties conflicts people =
     codes "relays=['r']\nhosts=[" ++ hosts ++ codes "]\nduties=["

@@ -9,8 +9,8 @@ use crate::commands::{has, place_of_dir, place_of_file};
 use std::marker::Model;
 use sudo_words::{ArgRule, Cmnd, FilePath, HostName, Items, Label, Name};
 
-/// The most that a grant under it gives, who may ask for it, and who approves (NIST SP 800-53
-/// AC-6).
+/// The most that a grant under the ceiling gives, who may ask for one, and who approves it (NIST SP
+/// 800-53 AC-6).
 #[derive(Debug, Drop)]
 pub struct Ceiling {
     pub(crate) ask: Label,
@@ -91,7 +91,7 @@ impl Ceiling {
         self.commands.as_slice()
     }
 
-    /// Whether a directory of this path is one of the commands. It takes no memory.
+    /// Whether the directory with this path is one of the commands. It takes no memory.
     pub fn has_dir(&self, path: &[u8]) -> bool
         ensures { result ≡ list_any (commands.is_dir path.now) self.now.commands }
     {

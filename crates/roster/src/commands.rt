@@ -1,4 +1,4 @@
-//! Commands, looked up by halving in their order.
+//! Commands in order, looked up by binary search.
 
 ghost use Rattle.std.specs.Prelude.{◌≡◌, IfOk};
 ghost use Rattle.std.specs.List.{list_any};
@@ -34,7 +34,8 @@ impl Kind {
     }
 }
 
-/// What a command is looked up by. A command without a path or arguments has none of them here.
+/// The key that a command is looked up by. A command without a path or without arguments has an
+/// empty one here.
 #[derive(Drop)]
 pub(crate) struct Place<'p> {
     pub(crate) kind: Kind,
@@ -50,7 +51,7 @@ impl<'p> Model for Place<'p> {
     ghost view = { λ p. record { kind = p.kind; path = p.path.now; args = p.args.now } };
 }
 
-/// Where the file stands with the rule.
+/// The place of the file with the rule.
 pub(crate) fn place_of_file<'p>(file: &'p FilePath, rule: &'p ArgRule) -> Place<'p>
     ensures { result ≡ orders.place (cmnd_of.Path file.now rule.now) }
 {
@@ -74,7 +75,7 @@ pub(crate) fn place_of_file<'p>(file: &'p FilePath, rule: &'p ArgRule) -> Place<
     }
 }
 
-/// Where a directory of this path stands.
+/// The place of the directory with this path.
 pub(crate) fn place_of_dir<'p>(path: &'p [u8]) -> Place<'p>
     ensures { result ≡ orders.place (cmnd_of.Dir path.now) }
 {
@@ -126,7 +127,7 @@ pub(crate) fn in_order(cmnds: &Items<Cmnd>) -> Result<Items<Cmnd>, AllocError>
     Ok(Items::new(ordered))
 }
 
-/// Whether one of the commands stands at the place.
+/// Whether one of the commands has this place.
 pub(crate) fn has(ordered: &[Cmnd], wanted: &Place<'_>) -> bool
     requires { orders.AreCmndsInOrder ordered.now }
     ensures { result ≡ list_any (orders.is_at wanted.now) ordered.now }

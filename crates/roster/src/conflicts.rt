@@ -45,15 +45,15 @@ impl Conflicts {
         self.listed.as_slice()
     }
 
-    /// Whether one of the pairs is of the two duties, either way round.
+    /// Whether the two duties are one of the pairs, either way round.
     pub(crate) fn joins(&self, first: &Label, second: &Label) -> bool
         ensures { result ≡ list_any (relations.joins first.now second.now) self.now }
     {
         are_paired(self.ordered.as_slice(), first, second)
     }
 
-    /// Whether one of the entries is of a duty that is paired with this one, on a day that is one
-    /// of its days.
+    /// Whether one of the entries has a duty that is paired with this one, and the day is one of
+    /// its days.
     pub(crate) fn join_one(&self, entries: &[(Label, Days)], duty: &Label, day: Day) -> bool
         ensures { result ≡ list_any (λ e. relations.hold e.1 day
             && list_any (relations.joins e.0 duty.now) self.now) entries.now }

@@ -1,4 +1,4 @@
-//! What a roster says, by names and commands.
+//! What a roster says, with its texts read as names and commands.
 
 use crate::ceiling::Ceiling;
 use crate::conflicts::Conflicts;

@@ -6,7 +6,7 @@ ghost use Rattle.roster.specs.Rules as rules;
 
 use sudo_words::Day;
 
-/// The number of 2099-12-31.
+/// The number of the day 2099-12-31.
 const LAST: u32 = 47_481;
 
 /// The days on which a duty is held, in UTC.
@@ -29,7 +29,7 @@ impl Days {
         }
     }
 
-    /// Whether they are from a day to one that is not before it, up to 2099-12-31.
+    /// Whether they are every day, or from a day to the same or a later one, up to 2099-12-31.
     pub(crate) fn are_in_range(&self) -> bool
         ensures { result ≡ rules.are_in_range self.now }
     {

@@ -1,4 +1,4 @@
-//! Why a text is no roster.
+//! Why a text is not a roster.
 
 ghost use Rattle.std.specs.Prelude.{◌≡◌};
 ghost use Rattle.roster.specs.declared.fault.RosterFault.TheVariants as fault;
@@ -7,24 +7,25 @@ use std::alloc::{AllocError, AllocFailed};
 use std::error::Error;
 use std::fmt;
 
-/// Why a text is no roster. It is shown as its code and name.
+/// Why a text is not a roster. It is shown as its code and name.
 ///
-/// Where a text has several of them, the one with the least number is answered.
+/// If a text has several faults, the one with the lowest number is returned.
 #[derive(Clone, Copy, Debug, PartialEq, Eq)]
 pub enum RosterFault {
-    /// The text is no document of TOML.
+    /// The text is not a TOML document.
     NotToml,
-    /// A key is none of a roster's, or one in a ceiling is none of a ceiling's.
+    /// The document, a ceiling or an entry has a key that it may not have.
     UnknownKey,
-    /// A value has another type than its key wants, or a key is missing.
+    /// A value does not have the type that its key requires, or a key is missing.
     WrongType,
-    /// A text in a name's place is no such name, or one in a command's place is no command's.
+    /// A text that should be a name is not such a name, or one that should be a command is not a
+    /// command.
     BadName,
     /// A duty is not among the duties, or a ceiling's host is not among the hosts.
     UnknownName,
     /// A duty conflicts with itself.
     SelfConflict,
-    /// A number, the length of a list or the length of the text is out of range.
+    /// A number, an entry's days, the length of a list or the length of the text is out of range.
     OutOfRange,
     /// Memory ran out.
     NoMemory,

@@ -1,4 +1,4 @@
-//! The keys of a document that a roster has.
+//! The keys that a roster's document may have.
 
 ghost use Rattle.std.specs.Prelude.{◌≡◌, Some, codes};
 ghost use Rattle.std.specs.List.{list_all, list_any};
@@ -152,7 +152,7 @@ fn people_at_have_keys(table: &Table) -> bool
     }
 }
 
-/// Whether each key is one that a roster, a ceiling or an entry has.
+/// Whether the document, its ceilings and its entries have only the keys that they may have.
 #[tactic(auto, unfolding(crate::specs::Document::has_known_keys))]
 pub(crate) fn has_known_keys(table: &Table) -> bool
     ensures { result ≡ known (table_view table.now) }

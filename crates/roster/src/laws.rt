@@ -1,5 +1,5 @@
 //! The laws, each the contract of a function that does nothing. Those of rosters and their
-//! texts stand here.
+//! texts are in this file.
 
 ghost use Rattle.std.specs.Prelude.{◌≡◌, ◌↔◌, ◌≤◌, ◌<◌, ◌⊎◌, ◌+◌, ◌*◌, ℕ};
 ghost use Rattle.std.specs.Prelude.{pos, List, [], true, false, codes};
@@ -17,13 +17,13 @@ ghost use Rattle.roster.specs.declared.fault.RosterFault.TheVariants.{BadName, N
 ghost use Rattle.roster.specs.declared.fault.RosterFault.TheVariants.{SelfConflict, UnknownKey};
 ghost use Rattle.roster.specs.declared.fault.RosterFault.TheVariants.{UnknownName, WrongType};
 
-// the rights of a moment
+// the rights at a moment
 pub use crate::right_laws::{
     always_is_every_day, cut_days_are_the_same, entries_are_a_set, later_days_agree,
     same_duties_same_rights, same_rights_until, worked_agreement,
 };
 
-/// A text is at most one roster's.
+/// A text is the text of at most one roster.
 pub fn one_roster()
     ensures { (text : List ℕ) (f g : RosterFields Cmnd)
         → IsRosterText text f → IsRosterText text g → f ≡ g }
@@ -41,8 +41,8 @@ pub fn one_fault()
         → IsLeastFault text d → IsLeastFault text e → d ≡ e }
 {}
 
-/// Each text is a roster's, or has a least fault. (It is never both, and never two:
-/// `roster_has_no_fault`, `one_roster`, `one_fault`.)
+/// Each text is the text of a roster, or has a least fault. (There are never both, and never two of
+/// either: `roster_has_no_fault`, `one_roster`, `one_fault`.)
 pub fn roster_or_fault()
     ensures { (text : List ℕ) → ((f : RosterFields Cmnd) × IsRosterText text f)
         ⊎ ((fault : RosterFault) × IsLeastFault text fault) }
@@ -57,7 +57,7 @@ pub fn conflict_is_between_two()
 {}
 
 /// Duties are separate (NIST SP 800-53 AC-5): nobody approves what they asked for, and nobody
-/// approves at a moment who does not hold the approving duty then or who holds one then that
+/// approves at a moment without holding the approving duty then, or while holding a duty that
 /// conflicts with it.
 pub fn duties_are_separate()
     ensures not_who_asks { (f : RosterFields Cmnd) (asker : List ℕ)
@@ -87,13 +87,14 @@ pub fn more_duties_no_more_eligible()
         eligible g person asker c at ≡ true → eligible f person asker c at ≡ true }
 {}
 
-/// A duty from a day to a day is held from the first second of the one to the last of the other.
+/// A duty with a first and a last day is held from the first second of the one to the last second
+/// of the other.
 pub fn days_in_seconds()
     ensures { (from until at : ℕ) → (hold (Between from until) (day_of at) ≡ true)
         ↔ ((from * 86_400 ≤ at) × (at < (until + 1) * 86_400)) }
 {}
 
-/// The day that a text stands for is the one whose date it is, where it is any's.
+/// A text that is the date of a day stands for that day, and no other text stands for a day.
 pub fn day_is_its_date()
     ensures read { (text : List ℕ) (day : ℕ) → IsDay day
         → IsDateText text (pos day) → day_spelled text ≡ day }
@@ -128,7 +129,7 @@ pub fn worked_days()
     ensures fay_no_more { eligible office (codes "fay") (codes "ann") everything 345_600 ≡ true }
 {}
 
-/// Worked texts: one that is no TOML; one with an unknown key, in which the known ones are missing
+/// Worked texts: one that is not TOML; one with an unknown key, in which the known ones are missing
 /// too; one with a value of the wrong type; and the smallest roster.
 pub fn worked_texts()
     ensures not_toml { IsLeastFault (codes "relays") NotToml }
@@ -138,8 +139,8 @@ pub fn worked_texts()
     ensures smallest_roster { IsRosterText smallest_text smallest }
 {}
 
-/// Worked texts of days: one roster; a day after the one until which the duty is held, and a text
-/// that is no day; and a table with another key.
+/// Worked texts with days: a roster; a first day after the last one; a text that is not a date; and
+/// an entry with an unknown key.
 pub fn worked_entries()
     ensures two_days { IsRosterText
         (text_with_days (codes "19700101") (codes "19700102")) (with_days (Between 0 1)) }
@@ -150,13 +151,14 @@ pub fn worked_entries()
     ensures other_key { IsLeastFault (codes "people={a=[{by='d'}]}") UnknownKey }
 {}
 
-/// A worked text with people, a duty of some days, a conflict and a ceiling is that roster's.
+/// A worked text with people, a duty held on some days, a conflict and a ceiling is the text of
+/// that roster.
 pub fn worked_roster()
     ensures { IsRosterText shop_text shop }
 {}
 
 /// Worked faults of what a text says: a host in upper case, a duty that is not listed, one that
-/// conflicts with itself, no host; and of two faults the lesser.
+/// conflicts with itself, no host; and, for a text with two faults, the lower one.
 pub fn worked_faults()
     ensures bad_name { IsLeastFault
         (text_of (codes "'H'") (codes "'d'") [] (codes "a=['d']")) BadName }

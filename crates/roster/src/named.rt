@@ -1,4 +1,4 @@
-//! The names and commands that a draft's texts are.
+//! Reads a draft's texts as names and commands.
 
 ghost use Rattle.std.specs.Prelude.{◌≡◌, All, map};
 ghost use Rattle.std.specs.List.{list_all};
@@ -176,8 +176,8 @@ fn ceilings(
     Ok(Items::new(ceilings))
 }
 
-/// What the draft says, where each text in a name's place is such a name and each in a command's
-/// place a command's.
+/// What the draft says, with names and commands; `BadName` if a text that should be a name is not
+/// such a name, or one that should be a command is not a command.
 #[tactic(auto, unfolding(crate::specs::Rules::good_names))]
 pub(crate) fn content_of(alloc: Global, draft: &Draft) -> Result<Content, RosterFault>
     ensures { Meets BadName (GoodNames IsCmndText draft.now)

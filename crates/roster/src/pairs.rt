@@ -1,4 +1,4 @@
-//! Pairs of duties, looked up by halving in their order.
+//! Pairs of duties in order, looked up by binary search.
 
 ghost use Rattle.std.specs.Prelude.{◌≡◌, IfOk};
 ghost use Rattle.std.specs.List.{list_any};
@@ -24,7 +24,7 @@ fn compare(pair: &(Label, Label), first: &Label, second: &Label) -> Ordering
     pair.0.cmp(first).then(pair.1.cmp(second))
 }
 
-/// Whether one of the pairs is of the two duties, this way round.
+/// Whether the two duties are one of the pairs, this way round.
 fn has_pair(ordered: &[(Label, Label)], first: &Label, second: &Label) -> bool
     requires { orders.AreInOrder ordered.now }
     ensures { result ≡ list_any (relations.is_pair first.now second.now) ordered.now }
@@ -43,7 +43,7 @@ fn has_pair(ordered: &[(Label, Label)], first: &Label, second: &Label) -> bool
     false
 }
 
-/// Whether one of the pairs is of the two duties, either way round.
+/// Whether the two duties are one of the pairs, either way round.
 #[tactic(auto, using(crate::proofs::PairLemmas::either_way_round))]
 pub(crate) fn are_paired(ordered: &[(Label, Label)], first: &Label, second: &Label) -> bool
     requires { orders.AreInOrder ordered.now }

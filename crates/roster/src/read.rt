@@ -1,4 +1,4 @@
-//! A roster's text, read.
+//! Reads a roster's text.
 
 ghost use Rattle.std.specs.Prelude.{◌≡◌, ◌≢◌, Some, None, IfOk, IfErr, MatchResult};
 ghost use Rattle.toml.specs.Parse.{parse_document};
@@ -20,7 +20,7 @@ use crate::typed::draft_of;
 use std::alloc::Global;
 use toml::Table;
 
-/// The document of TOML that the text is.
+/// The text, parsed as a TOML document.
 fn document(alloc: Global, text: &str) -> Result<Table, RosterFault>
     ensures { MatchResult result (λ t. parse_document text.now ≡ Some (table_view t))
         (λ e. e ≢ NoMemory → (e ≡ NotToml) × (parse_document text.now ≡ None)) }
@@ -35,8 +35,8 @@ fn document(alloc: Global, text: &str) -> Result<Table, RosterFault>
     }
 }
 
-/// The least fault of what the draft says, where each of its texts in a name's place is such a
-/// name.
+/// Tests what the draft says, once its names and commands are good. The error is the text's least
+/// fault.
 #[tactic(auto, using(crate::proofs::Texts::known_of_draft))]
 fn tested(text: &str, draft: &Draft, content: &Content) -> Result<(), RosterFault>
     requires draft { IsDraftOf text.now draft.now }
@@ -58,7 +58,7 @@ fn tested(text: &str, draft: &Draft, content: &Content) -> Result<(), RosterFaul
     Ok(())
 }
 
-/// What the draft of a text says by names and commands, or the least of the text's faults.
+/// What the draft of a text says, with names and commands, or the text's least fault.
 fn content_by_draft(alloc: Global, text: &str, draft: &Draft) -> Result<Content, RosterFault>
     requires draft { IsDraftOf text.now draft.now }
     requires ordered { IsOrdered draft.now }
@@ -70,7 +70,7 @@ fn content_by_draft(alloc: Global, text: &str, draft: &Draft) -> Result<Content,
     tested(text, draft, &content).and(Ok(content))
 }
 
-/// What the document of a text says that is a roster's, or the least of the text's faults.
+/// What the text of a roster says, from its document, or the text's least fault.
 fn content_by_document(alloc: Global, text: &str, table: &Table) -> Result<Content, RosterFault>
     requires { parse_document text.now ≡ Some (table_view table.now) }
     ensures found { IfOk result (λ s. IsRosterText text.now s) }
@@ -84,7 +84,7 @@ fn content_by_document(alloc: Global, text: &str, table: &Table) -> Result<Conte
     content_by_draft(alloc, text, &draft)
 }
 
-/// What a text says that is a roster's, or the least of its faults.
+/// What the text of a roster says, or the text's least fault.
 pub(crate) fn content_by(alloc: Global, text: &str) -> Result<Content, RosterFault>
     ensures found { IfOk result (λ s. IsRosterText text.now s) }
     ensures ordered { IfOk result IsOrdered }

@@ -16,7 +16,7 @@ pub(crate) fn is_among<F: Form>(words: &[Word<F>], text: &str) -> bool
     words.iter().any(|w| w.as_str() == text)
 }
 
-/// What stands at the name, found by halving.
+/// What the list has under the name, found by binary search.
 pub(crate) fn entry_of<'e, F: Form, T>(entries: &'e [(Word<F>, T)], name: &Word<F>) -> Option<&'e T>
     requires { relations.AreRising entries.now }
     ensures { option_map (λ x. x.now) result ≡ relations.entry_of entries.now name.now }
@@ -49,7 +49,7 @@ pub(crate) fn entries_of<'p>(
     }
 }
 
-/// Whether one of the entries is of the duty, on a day that is one of its days. It takes no memory.
+/// Whether one of the entries has the duty, and the day is one of its days. It takes no memory.
 pub fn give(entries: &[(Label, Days)], duty: &Label, day: Day) -> bool
     ensures { result ≡ list_any (relations.gives duty.now day) entries.now }
 {

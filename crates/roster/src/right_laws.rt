@@ -1,4 +1,4 @@
-//! Laws of the rights of a moment, each the contract of a function that does nothing.
+//! Laws of the rights at a moment, each the contract of a function that does nothing.
 
 ghost use Rattle.std.specs.Prelude.{◌≡◌, ◌↔◌, ◌≤◌, ◌<◌, ◌+◌, ℕ, List, ◌∷◌, ◌++◌, Contains, true};
 ghost use Rattle.sudo_words.specs.declared.cmnd.Cmnd.{Cmnd};
@@ -11,8 +11,8 @@ ghost use Rattle.roster.specs.Worked.{longer_office, office};
 ghost use Rattle.roster.specs.declared.days.Days.{Days as AnyDays};
 ghost use Rattle.roster.specs.declared.days.Days.TheVariants.{Always, Between};
 
-/// A duty that is held always is held at each moment; and that is to hold it on every day, from
-/// 1970-01-01 to 2099-12-31.
+/// A duty that is always held is held at each moment; and an entry that is always held means the
+/// same as one with the days from 1970-01-01 to 2099-12-31.
 pub fn always_is_every_day()
     ensures held { (f : RosterFields Cmnd) (person duty : List ℕ) (at : ℕ) →
         Contains (entries_of f person) (duty, Always) → holds f person duty at ≡ true }
@@ -23,8 +23,8 @@ pub fn always_is_every_day()
         → holds f person duty at ≡ holds g person duty at }
 {}
 
-/// To cut the days of an entry in two changes no duty at any moment: from a day to another, and
-/// from the day after that one on.
+/// Cutting the days of an entry in two, up to a day and from the day after it on, does not change
+/// which duties the person holds at any moment.
 pub fn cut_days_are_the_same()
     ensures { (f g : RosterFields Cmnd) (person duty other : List ℕ)
         (before after : List Entry) (from middle until at : ℕ) → from ≤ middle → middle < until
@@ -40,8 +40,8 @@ pub fn entries_are_a_set()
         holds f person duty at ≡ holds g person duty at }
 {}
 
-/// What somebody may do at a moment rests on the duties that they hold then, and on the conflicts,
-/// alone.
+/// What somebody may do at a moment depends only on the duties that they hold then, and on the
+/// conflicts.
 pub fn same_duties_same_rights()
     ensures eligible { (f g : RosterFields Cmnd) (person asker : List ℕ)
         (c : CeilingFields Cmnd) (at : ℕ) → f.conflicts ≡ g.conflicts
@@ -67,9 +67,9 @@ pub fn same_rights_until()
         → may_revoke f person asker c at ≡ may_revoke g person asker c at }
 {}
 
-/// Rosters agree until a moment where one is the other with an entry of other days that are the
-/// same up to the moment's day, or with one more entry whose days begin after it. So a duty may be
-/// ended, prolonged or given for the time to come.
+/// Two rosters agree until a moment if they differ only in the days of one entry, which are the
+/// same up to the moment's day, or if one has one more entry, whose days begin after it. So a duty
+/// may be ended, prolonged or given for the time to come.
 pub fn later_days_agree()
     ensures changed { (f g : RosterFields Cmnd) (moment : ℕ) (name duty : List ℕ)
         (old new : AnyDays) (people more : List (List ℕ × List Entry)) (before after : List Entry)
@@ -89,8 +89,8 @@ pub fn later_days_agree()
         → AgreeUntil moment f g → AgreeUntil moment g h → AgreeUntil moment f h }
 {}
 
-/// Worked agreement: an office, and the same where eve approves for two days more, agree until the
-/// last second of the day on which she would have ceased to, and no longer.
+/// Worked agreement: an office, and the same one where eve approves for two more days, agree until
+/// the last second of her last day in the first, and no longer.
 pub fn worked_agreement()
     ensures until { AgreeUntil 431_999 office longer_office }
     ensures no_longer { ¬ AgreeUntil 432_000 office longer_office }

@@ -22,8 +22,8 @@ use sudo_words::{Day, HostName, Items, Label, Moment, Name};
 
 /// Who holds which duty, which duties conflict, and under which ceilings rights are granted.
 ///
-/// It is what a text of TOML says, and keeps that text. Its look-ups take no memory, and are
-/// answered of any names: a person whom it does not list holds no duty.
+/// It is read from a TOML text, and keeps that text. Its look-ups take no memory, and may be made
+/// with any names: a person whom it does not list holds no duty.
 #[derive(Drop)]
 pub struct Roster {
     text: String,
@@ -50,13 +50,13 @@ impl fmt::Debug for Roster {
 }
 
 impl Roster {
-    /// The roster that the text is, or the least of the text's faults.
+    /// The roster that is read from the text, or the text's least fault.
     #[tactic(auto, using(crate::proofs::FaultLemmas::only_memory, crate::proofs::Uniqueness::one_roster))]
     pub fn read(alloc: Global, text: &str) -> Result<Roster, RosterFault>
         // What is read is what the text says.
         ensures found { IfOk result (λ r. (r.text ≡ text.now) × IsRosterText text.now r.says) }
-        // A roster's text is read as that roster, unless memory runs out: so no other fault comes
-        // where there is one.
+        // A roster's text is read as that roster, unless memory runs out: it is refused for
+        // nothing else.
         ensures only { (f : RosterFields Cmnd) → IsRosterText text.now f
             → MatchResult result (λ r. r.says ≡ f) (λ e. e ≡ NoMemory) }
         // Any other fault is one that the text has, and the text has none of a lower number.
@@ -104,7 +104,7 @@ impl Roster {
         }
     }
 
-    /// The entries that the text gives the person, none where the roster does not list the person.
+    /// The entries that the text gives the person; `None` if the roster does not list the person.
     pub fn entries(&self, person: &Name) -> Option<&[(Label, Days)]>
         ensures { option_map (λ e. e.now) result
             ≡ relations.entry_of self.now.says.people person.now }
@@ -137,7 +137,7 @@ impl Roster {
         first_of(self.content.relays.as_slice())
     }
 
-    /// The ceiling of the label. One to three people must approve under it.
+    /// The ceiling of the label, if there is one. One to three people must approve under it.
     pub fn ceiling(&self, label: &Label) -> Option<&Ceiling>
         ensures value { option_map (λ c. c.now) result
             ≡ relations.ceiling_at self.now.says label.now }
@@ -183,8 +183,8 @@ impl Roster {
         *person == *asker || self.holds(person, &ceiling.approve, at)
     }
 
-    /// Whether one of the entries is of a duty that conflicts with this one, on a day that is one
-    /// of its days.
+    /// Whether one of the entries has a duty that conflicts with this one, and the day is one of
+    /// its days.
     fn is_one_against(&self, entries: &[(Label, Days)], duty: &Label, day: Day) -> bool
         ensures { result ≡ list_any (relations.is_against self.now.says duty.now day) entries.now }
     {

@@ -1,5 +1,5 @@
-//! Tests of a roster, once its texts are names: its duties and hosts, its conflicts, and what it
-//! counts.
+//! Tests of a roster, once its texts are names: its duties and hosts, its conflicts, and its days,
+//! numbers and lengths.
 
 ghost use Rattle.std.specs.Prelude.{◌≡◌, ◌&&◌, IfOk, nat_le};
 ghost use Rattle.std.specs.List.{list_all, list_any};
@@ -183,7 +183,7 @@ fn has_ceiling_counts(draft: &Draft) -> bool
     is_up_to(1024, draft.ceilings.as_slice().len()) && are_ranged(draft.ceilings.as_slice())
 }
 
-/// Whether each number, each list's length and the text's length are in range.
+/// Whether each number, each entry's days, each list's length and the text's length are in range.
 #[tactic(auto, unfolding(crate::specs::Rules::in_range))]
 pub(crate) fn is_in_range(text: &str, draft: &Draft) -> bool
     ensures { result ≡ rules.in_range text.now draft.now }

@@ -1,4 +1,4 @@
-//! The texts of a document, where each value has its type.
+//! Reads a document as a draft: each value must have its type.
 
 ghost use Rattle.std.specs.Prelude.{◌≡◌, Some, None, IfOk, MatchResult};
 ghost use Rattle.toml.specs.Data.{as_str, get_member, table as data_table};
@@ -122,7 +122,8 @@ fn number_at(table: &Table, key: &str) -> Result<u64, RosterFault>
     number(value_at(table, key)?)
 }
 
-/// The day whose date the text is, or the day after 2099-12-31 where it is none's.
+/// The day whose date the text is, or, if it is not the date of a day from 1970-01-01 to
+/// 2099-12-31, the day after these.
 fn day_spelled(text: &str) -> Day
     ensures { result ≡ document.day_spelled text.now }
 {
@@ -286,7 +287,7 @@ fn ceilings_at(
     }
 }
 
-/// What the document says, where no key is missing and each value has its type.
+/// What the document says; `WrongType` if a key is missing or a value does not have its type.
 #[tactic(auto, unfolding(crate::specs::Document::fields_of))]
 pub(crate) fn draft_of(alloc: Global, table: &Table) -> Result<Draft, RosterFault>
     ensures reads { Reads WrongType (fields_of (table_view table.now)) result }

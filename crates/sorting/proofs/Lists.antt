@@ -34,7 +34,7 @@ pub contains_any : {X : Type 0} (eq : X → X → Bool) → ((a b : X) → Decid
     → (xs : List X) (x : X) → Contains xs x → list_any (λ y. eq y x) xs ≡ true
 contains_any eq decides xs x there = list_any_at (λ y. eq y x) xs there.0 x there.1 ((decides (get_or xs there.0 x) x).1 there.2)
 
--- what is listed once is found exactly where it stands
+-- an element is found in `listed` exactly if it is found in `standing`
 pub any_once : {X : Type 0} (eq : X → X → Bool) → ((a b : X) → Decides (eq a b) (a ≡ b)) → (order : X → X → Ordering) (standing listed : List X)
     → IsEachOnce order standing listed → (x : X) → list_any (λ y. eq y x) listed ≡ list_any (λ y. eq y x) standing
 any_once eq decides order standing listed once x =

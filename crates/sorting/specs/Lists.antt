@@ -14,11 +14,11 @@ text_order = slice_cmp nat_cmp
 abbrev pub args_order : List (List ℕ) → List (List ℕ) → Ordering
 args_order = slice_cmp text_order
 
--- a test of two that holds of equal ones alone
+-- a test of two elements that holds only if they are equal
 abbrev pub IsExact : {X : Type 0} → (X → X → Bool) → Type 0
 IsExact {X} same = (x y : X) → same x y ≡ true → x ≡ y
 
--- what stands is listed, each once, in order, and nothing else
+-- `listed` has the elements of `standing`, each once and in order, and nothing else
 pub record IsEachOnce {X : Type 0} (order : X → X → Ordering)
     (standing listed : List X) : Type 0 where
   pub in_order : IsStrictlySortedBy order listed

@@ -1,4 +1,4 @@
-//! Lists in order, each element once, and what is found in them.
+//! Lists in order, each element once, and searches in them.
 #![tactic(auto)]
 
 mod order;

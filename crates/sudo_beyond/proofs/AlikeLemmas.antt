@@ -248,7 +248,7 @@ module _ (p : List Entry) (i j : Invocation) (alike : Alike p i j) where
   rules_alike (entries.Rule rule ∷ es) users hosts runas cmnds at =
       (rule_alike rule users.0 hosts.0 runas.0 cmnds.0.0 at.0, rules_alike es users.1 hosts.1 runas.1 cmnds.1 at.1)
 
--- what a policy decides of the one it decides of the other
+-- a policy decides alike any two invocations that it answers alike
 pub alike_decide : (es : List Entry) (i j : Invocation) (d : Decision) → Alike es i j → Decides es i d → Decides es j d
 alike_decide es i j d alike =
     answers_decide (of_policy es i) (of_policy es j) es es d

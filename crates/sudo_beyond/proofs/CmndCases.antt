@@ -1,4 +1,4 @@
--- A command's case: a path that stands, with its own arguments or others; a file in the same directory; or a file elsewhere.
+-- The case of a command: a path that stands, with its own arguments or others; a file in the same directory; or a file elsewhere.
 use Rattle.std.proofs.Common.{◌≡◌, ℕ, ◌^◌, ◌<◌, ◌≤◌, Bool, true, false, not, leb, eqb, ◌&&◌, if◌then◌else◌, List, [], ◌∷◌, ◌++◌}
 use Rattle.std.proofs.Common.{length, take, drop, refl, sym, ap, ◌∙◌, subst, inl, inr, arith, append_assoc, length-append}
 use Rattle.std.specs.Bool.{Decides}
@@ -206,9 +206,9 @@ args_other path args others some more (Path file rule) no_a no_o =
     ]
 args_other path args others some more (Dir dir) no_a no_o = refl
 
--- ---- paths that do not stand
+-- ---- paths that no command names
 
--- neither path stands, and each directory has both or neither
+-- no command names either path, and each directory has both or neither
 elsewhere : (path q : List ℕ) (args others : List (List ℕ)) (c : Cmnd)
     → AllByRecursion (λ file. bytes_eq file path ≡ false) (path_in c) → AllByRecursion (λ file. bytes_eq file q ≡ false) (path_in c)
     → AllByRecursion (λ dir. is_directly_in dir path ≡ is_directly_in dir q) (dir_in c) → matches c path args ≡ matches c q others

@@ -49,7 +49,7 @@ pub not_both_answers : (d : Decision) → IsAllowed d → d ≡ Deny → ⊥
 not_both_answers d (inl allow) deny = allow_is_no_deny (sym allow ∙ deny)
 not_both_answers d (inr allow) deny = no_password_is_no_deny (sym allow ∙ deny)
 
--- ---- rules that answer alike, of the cases of one user, host and target
+-- ---- rules that answer alike, for the cases of one user, host and target
 
 pub gap_of_those : (a b x y : List PlainRule) (i j : Invocation) → AnswerAlike a x i
     → AnswerAlike b y i → SameNames i j → IsAnsweredGap x y j → IsAnsweredGap a b j

@@ -1,4 +1,4 @@
--- What stands in a policy is at most as much as its text is long.
+-- A policy has at most as many users as its text has bytes, and so with hosts, targets and commands.
 use Rattle.std.proofs.Common.{ℕ, ◌+◌, ◌^◌, ◌<◌, ◌≤◌, List, [], ◌∷◌, ◌++◌, length, arith, length-append}
 use Rattle.std.specs.Prelude.{codes}
 use Rattle.std.specs.List.{flat_map}

@@ -78,7 +78,7 @@ pub allowed_alike : (es : List Entry) (i j : Invocation) → Alike es i j → Al
 allowed_alike es i j alike (inl allow) = inl (alike_decide es i j Allow alike allow)
 allowed_alike es i j alike (inr allow) = inr (alike_decide es i j AllowNoPassword alike allow)
 
--- what is beyond has a case that is
+-- if an invocation lies beyond, then one of the cases does
 pub beyond_at_case : (s : Scope) (a b : List Entry) → IsPolicy a → IsPolicy b → SomethingBeyond s a b → (i : Invocation) × IsCase s a b i × LiesBeyond s a b i
 beyond_at_case s a b is_a is_b beyond =
     let i = beyond.0 in

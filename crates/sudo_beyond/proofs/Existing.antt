@@ -1,4 +1,4 @@
--- There are cases of every two policies whose scope fixes the names, and at most so many as what stands in both makes.
+-- Any two policies have cases in a scope that fixes the names, and at most as many as what stands in both makes.
 use Rattle.std.proofs.Common.{◌≡◌, ℕ, ◌+◌, ◌*◌, ◌^◌, ◌<◌, ◌≤◌, true, Option, Some, None, List, [], ◌∷◌, ◌++◌, length, map, refl}
 use Rattle.std.proofs.Common.{sym, ap, ◌∙◌, subst, inl, inr, arith, length-append, add-mul, suc-mul, one-mul, le_trans, le_refl}
 use Rattle.std.specs.Prelude.{codes}
@@ -154,7 +154,7 @@ module _ {X : Type 0} (R : X → X → Ordering) (total : IsTotalOrder R) (exact
         few = omega (arith, more.short, rest.few);
       }
 
--- what the orders do not tell apart is the same
+-- elements that the orders do not tell apart are equal
 exact_texts : (x y : List ℕ) → text_order x y ≡ Equal → x ≡ y
 exact_texts x y tied = (bytes_eq-Decides x y).0 (texts_ties x y ∙ ap is_eq tied)
 
@@ -202,7 +202,7 @@ both_few : (cmnds : List Cmnd) → length (paths cmnds) + length (dirs cmnds) �
 both_few [] = omega arith
 both_few (c ∷ cmnds) = omega (arith, length-append (path_in c) (paths cmnds), length-append (dir_in c) (dirs cmnds), one_kind c, both_few cmnds)
 
--- so many of the paths and of the directories, each with no more than the most
+-- the runs of so many paths and directories, where each makes no more than the most
 room : (files directories of_files of_directories count most : ℕ) → files + directories ≤ count → of_files ≤ files * most → of_directories ≤ directories * most
     → of_files + of_directories ≤ count * most
 room files directories of_files of_directories count most both few also =
@@ -316,7 +316,7 @@ cases_of s a b is_a is_b fixed =
           (length by_moment.list) _ _ by_user.few by_host.few by_target.few by_run.few by_moment.few;
     }
 
--- so few stand in both that the cases are few
+-- where so little stands in both policies, the cases are few
 pub few_of : (s : Scope) (a b : List Entry) (rules : List PlainRule) (m n : Size) → IsPolicy a → IsSize a m → IsReady b rules n
     → FixesNames s → most_of (m.commands + n.commands) (m.listings + n.listings) (m.turns + n.turns) ≤ most_cases → AreFew s a b
 few_of s a b rules m n is_a size ready fixed few =

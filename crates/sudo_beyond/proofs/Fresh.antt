@@ -1,4 +1,4 @@
--- Words that do not stand in a list: one is found among as many as the list is long, and one more.
+-- Words that are not in a list: one is found, if one more word is looked at than the list has elements.
 use Rattle.std.proofs.Common.{◌≡◌, ℕ, zero, suc, ◌+◌, ◌^◌, ◌%◌, ◌<◌, ◌≤◌, Bool, true, ◌&&◌, if◌then◌else◌}
 use Rattle.std.proofs.Common.{List, [], ◌∷◌, length, refl, sym, ap, ◌∙◌, inl, inr, ◌⊎◌, arith}
 use Rattle.std.specs.Prelude.{codes}
@@ -109,7 +109,7 @@ look taken (suc m) =
     last : (k : ℕ) → k < suc m → (k ≡ m) ⊎ (k < m)
     last k below = grind arith
 
--- one of them is not in a list, whatever is made of the words
+-- for one of them, what f makes of it is not in the list
 pub found_other : {X : Type 0} (eq : X → X → Bool) → ((a b : X) → Decides (eq a b) (a ≡ b)) → (f : List ℕ → X) → ((v w : List ℕ) → f v ≡ f w → v ≡ w)
     → (xs : List X) → length xs < 2 ^ 64 → Found (λ w. list_any (λ y. eq y (f w)) xs) (length xs + 1)
 found_other {X} eq decides f apart xs short =

@@ -57,7 +57,7 @@ first_of_same P Q cases (Some i) on back first = record {
   none_before = weaker_none P Q first.before back first.none_before;
 }
 
--- so it is where they hold alike of each case of which S holds, and S holds of all
+-- the same, where P and Q hold of the same cases among those of which S holds, and S holds of all
 weaker_none_on : (S P Q : Invocation → Type 0) (cases : List Invocation)
     → ((i : Invocation) → S i → Q i → P i) → AllByRecursion S cases → NoGap P cases → NoGap Q cases
 weaker_none_on S P Q [] back all none = tt
@@ -77,7 +77,7 @@ first_of_same_on S P Q cases (Some i) on back all first =
       none_before = weaker_none_on S P Q first.before back (all_front S first.before (i ∷ first.after) parts) first.none_before;
     }
 
--- where a list is empty whatever is put in, so are all of them together
+-- where f makes only empty lists, there is no gap in all of them together
 pub gaps_of_none : {X : Type 0} (P : Invocation → Type 0) (f : X → List Invocation) (xs : List X) → ((x : X) → f x ≡ []) → NoGap P (flat_map f xs)
 gaps_of_none P f [] none = tt
 gaps_of_none P f (x ∷ xs) none =

@@ -1,4 +1,4 @@
--- Each part of an invocation has a case in its list that all that stands in both policies answers alike.
+-- For each part of an invocation its list has a case that everything in either policy answers alike.
 use Rattle.std.proofs.Common.{◌≡◌, ℕ, ◌≤◌, true, List, ◌++◌, length}
 use Rattle.std.specs.List.{AllByRecursion, Contains}
 use Rattle.sudo_words.specs.Word.{is_name, is_host_name, is_file_path, is_arg}

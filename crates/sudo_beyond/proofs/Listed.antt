@@ -1,4 +1,4 @@
--- Each case stands in its list, and what stands in a list is of its form.
+-- Each case is in its list, and what is in a list has its form.
 use Rattle.std.proofs.Common.{◌≡◌, ℕ, ◌^◌, ◌<◌, ◌≤◌, Bool, true, eqb, if◌then◌else◌, Option, Some, None, IfSome}
 use Rattle.std.proofs.Common.{List, [], ◌∷◌, ◌++◌, length, map, refl, sym, ap, ◌∙◌, subst, inl, inr, arith}
 use Rattle.std.specs.Prelude.{codes}
@@ -46,7 +46,7 @@ name_listed None standing cases x are (inr first) =
     subst (λ (xs : List (List ℕ)). Contains xs x) (sym are.cases_are) (subst (λ (y : List ℕ). Contains (are.names ++ are.other_name ∷ []) y)
     (one_first (has standing) are.other_name x are.other_is first) (Contains-push are.names are.other_name))
 
--- what is listed once has what all that stands has
+-- what holds of all standing elements holds of the list that has each of them once
 pub recursion_listed : {X : Type 0} (P : X → Type 0) (order : _) (standing listed : List X)
     → IsEachOnce order standing listed → AllByRecursion P standing → AllByRecursion P listed
 recursion_listed P order standing listed once all =

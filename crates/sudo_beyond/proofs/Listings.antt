@@ -76,7 +76,7 @@ listed_once cmnds listed path lists table once = record {
       (flat_other (args_if path) listed (listings cmnds) table.only args (once.only args found));
 }
 
--- a test of two runs holds of equal ones alone
+-- a test of two runs holds only of equal ones
 pub runs_exact : (x y : Run) → (bytes_eq x.path y.path && pointwise bytes_eq x.args y.args) ≡ true → x ≡ y
 runs_exact x y same =
     let both = and_parts (bytes_eq x.path y.path) (pointwise bytes_eq x.args y.args) same in

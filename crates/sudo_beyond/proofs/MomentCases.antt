@@ -1,4 +1,4 @@
--- A moment's case: the greatest turn at or below it, or 0.
+-- The case of a moment: the greatest turn at or below it, or 0.
 use Rattle.std.proofs.Common.{◌≡◌, ℕ, ◌+◌, ◌<◌, ◌≤◌, Bool, true, ◌&&◌, leb, eqb, if◌then◌else◌, max, Option}
 use Rattle.std.proofs.Common.{Some, None, List, [], ◌∷◌, refl, sym, ap, subst, ◌∙◌, inl, inr, ◌⊎◌, arith}
 use Rattle.std.specs.List.{AllByRecursion, list_any}
@@ -18,7 +18,7 @@ greatest : List ℕ → ℕ → ℕ
 greatest [] t = 0
 greatest (p ∷ ps) t = if leb p t then max p (greatest ps t) else greatest ps t
 
--- what it is: at or below the moment, and so is a turn exactly where it is at or below the greatest
+-- it is at or below the moment, it is 0 or a turn, and each turn at or below the moment is at or below it
 record Greatest (ps : List ℕ) (t g : ℕ) : Type 0 where
   low : g ≤ t
   stands : (g ≡ 0) ⊎ (list_any (λ p. eqb p g) ps ≡ true)
@@ -58,7 +58,7 @@ is_greatest (p ∷ ps) t =
 
 -- ---- rules
 
--- two bounds that no turn parts
+-- a turn compares alike with the moment and with the greatest turn at or below it
 same_leb : (p t g : ℕ) → g ≤ t → (p ≤ t → p ≤ g) → leb p t ≡ leb p g
 same_leb p t g low keeps =
     elim (cases_Bool (leb p t)) [

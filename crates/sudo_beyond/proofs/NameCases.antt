@@ -1,4 +1,4 @@
--- A name's case: itself where it is fixed or stands, else the first other.
+-- The case of a name: itself if it is fixed or stands in a policy, else the first other name.
 use Rattle.std.proofs.Common.{◌≡◌, ℕ, ◌+◌, ◌^◌, ◌<◌, Bool, true, false, not, leb, ◌&&◌, Option, Some}
 use Rattle.std.proofs.Common.{None, List, [], ◌∷◌, ◌++◌, length, refl, sym, ap, ◌∙◌, inl, inr, arith}
 use Rattle.std.specs.Prelude.{codes}
@@ -17,7 +17,7 @@ use Rattle.sudo_beyond.proofs.OneCase.{IsNameCase}
 use Rattle.sudo_beyond.proofs.AlikeLemmas.{all_weaker}
 use Rattle.sudo_beyond.proofs.Fresh.{other_all, other_length, found_other}
 
--- ---- others are of each form
+-- ---- other words have each form
 
 -- a test of the ten digits computes
 name_digit : (b : ℕ) → b < 10 → is_name_byte (48 + b) ≡ true
@@ -64,7 +64,7 @@ other_arg k small =
     (and_from (list_all is_arg_byte (other k)) (leb 1 (length (other k))) (other_all is_arg_byte refl arg_digit k small)
     (le-leb 1 (length (other k)) (omega arith))) (le-leb (length (other k)) 64 (omega (arith, other_length k small)))
 
--- ---- names that do not stand
+-- ---- names that are not in a list
 
 pub none_each : {X : Type 0} (test : X → Bool) (xs : List X) → list_any test xs ≡ false → AllByRecursion (λ x. test x ≡ false) xs
 none_each test [] none = tt
@@ -81,7 +81,7 @@ all_true P (x ∷ xs) each = (each x, all_true P xs each)
 pub same_name : (names : List (List ℕ)) (x : List ℕ) → AlikeNames names x x
 same_name names x = all_true (λ name. bytes_eq name x ≡ bytes_eq name x) names (λ name. refl)
 
--- two names that do not stand are alike
+-- two names that are not in a list are alike
 unlike : (names : List (List ℕ)) (x y : List ℕ) → has names x ≡ false → has names y ≡ false → AlikeNames names x y
 unlike names x y no_x no_y =
     all_weaker (λ name. (bytes_eq name x ≡ false) × (bytes_eq name y ≡ false)) (λ name. bytes_eq name x ≡ bytes_eq name y) names

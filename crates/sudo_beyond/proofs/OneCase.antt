@@ -52,7 +52,7 @@ pub record IsCase (s : Scope) (a b : List Entry) (i : Invocation) : Type 0 where
   pub cmnd : IsCmndCase (commands a ++ commands b) i.path i.args
   pub at : IsMomentCase (rules_in a ++ rules_in b) i.at
 
--- fewer names and commands stand than a machine can count
+-- there are fewer names and commands than a machine can count
 pub record IsCounted (a b : List Entry) : Type 0 where
   pub users : length (users a ++ users b) < 2 ^ 64
   pub hosts : length (hosts a ++ hosts b) < 2 ^ 64

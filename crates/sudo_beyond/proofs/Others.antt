@@ -1,4 +1,4 @@
--- The first other word that is not taken: there is one alone, and no more are taken than stand.
+-- The first other word that is not taken: there is only one, and no more words are taken than the list has elements.
 use Rattle.std.proofs.Common.{◌≡◌, ℕ, ◌+◌, ◌^◌, ◌<◌, ◌≤◌, Bool, true, List, length, refl, sym, ap, ◌∙◌, inl, inr, arith}
 use Rattle.std.specs.Bool.{Decides}
 use Rattle.std.specs.List.{list_any}
@@ -22,12 +22,12 @@ module _ {X : Type 0} (eq : X → X → Bool) (decides : (a b : X) → Decides (
   abbrev is_taken : List ℕ → Bool
   is_taken w = list_any (λ y. eq y (f w)) xs
 
-  -- as many as are all taken stand at least
+  -- where the first n words are all taken, the list has at least n elements
   taken_few : (n : ℕ) → n ≤ 2 ^ 64 → ((k : ℕ) → k < n → is_taken (other k) ≡ true) → n ≤ length xs
   taken_few n small all =
       pigeons eq decides (λ k. f (other k)) n (λ i j low high same. other_injective i j (omega arith) (omega arith) (apart (other i) (other j) same)) xs all
 
-  -- where n are taken of a list no longer than n, the next is not
+  -- where the first n words are taken and the list is no longer than n, the next word is not taken
   pub last_free : (n : ℕ) → length xs ≤ n → n < 2 ^ 64 → ((k : ℕ) → k < n → is_taken (other k) ≡ true) → IsFirstOther is_taken (other n)
   last_free n few small all =
       record {

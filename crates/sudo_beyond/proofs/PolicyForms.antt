@@ -1,4 +1,4 @@
--- What stands in a policy is of its form.
+-- What stands in a policy has its form.
 use Rattle.std.proofs.Common.{◌≡◌, ℕ, ◌+◌, Bool, true, leb, if◌then◌else◌, Option, Some, None, IfSome, List, [], ◌∷◌, ◌++◌, sym, subst, inl, inr, arith}
 use Rattle.std.specs.List.{AllByRecursion, flat_map}
 use Rattle.std.specs.Option.{option_to_list}
@@ -56,7 +56,7 @@ entry_hosts (entries.HostAlias name list) is = names_of is_host_name list is.1.1
 entry_hosts (entries.CmndAlias name list) is = tt
 entry_hosts (entries.Rule rule) is = names_of is_host_name rule.hosts is.hosts.1
 
--- what holds of what each entry has holds of what stands in both policies
+-- what holds of everything in each entry holds of everything in both policies
 both_have : {Y : Type 0} (P : Y → Type 0) (has : Entry → List Y) (a b : List Entry) → ((e : Entry) → IsEntry e → AllByRecursion P (has e))
     → AllByRecursion IsEntry a → AllByRecursion IsEntry b → AllByRecursion P (flat_map has a ++ flat_map has b)
 both_have P has a b each is_a is_b =

@@ -1,4 +1,4 @@
--- What lies beyond of two policies and three.
+-- Laws of what lies beyond, for two policies and for three.
 use Rattle.std.proofs.Common.{◌≡◌, ℕ, ◌*◌, List, [], ◌∷◌, length, reverse, sym, ◌∙◌, subst, inl, inr, length-append, arith}
 use Rattle.std.specs.List.{flat_map}
 use Rattle.std.proofs.Math.Nat.{mul_assoc, suc-mul}
@@ -60,7 +60,7 @@ pub wider : (s t : Scope) (a b : List Entry) → ((i : Invocation) → IsInScope
 wider s t a b also beyond =
     (beyond.0, record { form = beyond.1.form; scope = also beyond.0 beyond.1.scope; gap = beyond.1.gap })
 
--- ---- what is decided of it
+-- ---- how both policies decide it
 
 pub first_allows : (s : Scope) (a b : List Entry) (i : Invocation) (d : Decision) → LiesBeyond s a b i → Decides a i d → d ≡ Deny → ⊥
 first_allows s a b i d beyond by denies = not_both a i beyond.gap.allowed (subst (λ (e : Decision). Decides a i e) denies by)

@@ -15,12 +15,12 @@ use Rattle.sudo_beyond.specs.private.Gathering.{IsFreeFile, IsFreeArgs, Adds}
 use Rattle.sudo_beyond.proofs.CmndCases.{args_decides}
 use Rattle.sorting.proofs.Lists.{any_once, take_next, parts_more, parts_weaker}
 
--- two lists of arguments are compared either way
+-- comparing two lists of arguments in either order gives the same
 pub args_either_way : (lists : List (List (List ℕ))) (args : List (List ℕ)) → list_any (λ wanted. pointwise bytes_eq wanted args) lists ≡ has_args lists args
 args_either_way lists args =
     ap (λ (test : List (List ℕ) → Bool). list_any test lists) (fun_ext (λ wanted. (lists_equiv nat_list_eq_equiv).symm wanted args))
 
--- what is free among the lists, each once, is so among those that stand
+-- what is free among the lists, each once, is free among those that stand with the path
 args_alike : (path : List ℕ) (cmnds : List Cmnd) (lists : List (List (List ℕ)))
     → IsEachOnce args_order (args_with path cmnds) lists → has_args lists ≡ has_args (args_with path cmnds)
 args_alike path cmnds lists once =
@@ -84,7 +84,7 @@ command_cases cmnds files directories none one two new once_files once_directori
   elsewhere_is = fresh_alike (paths cmnds) files once_files (codes "/") third.0 third.2;
 }
 
--- what holds of all that stands holds of all that is listed
+-- what holds of all standing elements holds of all listed elements
 pub all_listed : {X : Type 0} (P : X → Type 0) (order : _) (standing listed : List X) → IsEachOnce order standing listed → All P standing → All P listed
 all_listed P order standing listed once all =
     All-weaker (Contains listed) P (λ x there. All-contains P standing x all (once.only x there)) listed (All-contains_itself listed)

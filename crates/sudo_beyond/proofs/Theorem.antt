@@ -1,4 +1,4 @@
--- The cases suffice: where none of them is a gap nothing lies beyond, and each of them that is one lies beyond.
+-- The cases suffice: if none of them is a gap, nothing lies beyond; and each of them that is a gap lies beyond.
 use Rattle.std.proofs.Common.{◌≡◌, ℕ, true, Option, Some, None, MatchOption, List, [], ◌∷◌, ◌++◌, map, sym, subst}
 use Rattle.std.specs.List.{AllByRecursion, Contains, flat_map}
 use Rattle.std.proofs.lemmas.List.Elements.{All-contains, All-from_recursion, Contains-append_left, Contains-append_right, Contains-push}

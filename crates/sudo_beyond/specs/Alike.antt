@@ -1,4 +1,5 @@
--- What a policy answers alike: two names, two paths with their arguments, two moments.
+-- What it means that a policy answers alike two names, two paths with their arguments, or two
+-- moments.
 use Rattle.std.specs.Prelude.{◌≡◌, ℕ, List}
 use Rattle.std.specs.List.{AllByRecursion}
 use Rattle.std.specs.Str.{bytes_eq}
@@ -11,7 +12,7 @@ use Rattle.sudo_decide.specs.Decision.{takes_part}
 use Rattle.sudo_decide.specs.Reach.{rules_in}
 use Rattle.sudo_beyond.specs.Standing as standing
 
--- each of these names is both or neither
+-- each of these names equals both or neither
 abbrev pub AlikeNames : List (List ℕ) → List ℕ → List ℕ → Type 0
 AlikeNames names x y = AllByRecursion (λ name. bytes_eq name x ≡ bytes_eq name y) names
 

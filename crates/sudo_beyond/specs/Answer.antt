@@ -1,5 +1,5 @@
--- What is answered of two policies: the first case that lies beyond, or none; or that the cases are
--- too many.
+-- What is answered for two policies: the first case that lies beyond, or that none does; or that
+-- there are too many cases.
 use Rattle.std.specs.Prelude.{◌≡◌, ℕ, ◌<◌, ◌≤◌, List, ◌∷◌, ◌++◌, Option, Some, None}
 use Rattle.std.specs.List.{AllByRecursion}
 use Rattle.sudo_policy.specs.declared.entry.Entry.{Entry}
@@ -9,7 +9,7 @@ use Rattle.sudo_beyond.specs.declared.cases.Cases.{Cases}
 use Rattle.sudo_beyond.specs.Beyond.{IsGap}
 use Rattle.sudo_beyond.specs.Cases.{AreCases, product, invocations}
 
--- P holds here, and nowhere before in the list
+-- P holds of x, and of no element before it in the list
 pub record IsFirst {X : Type 0} (P : X → Type 0) (xs : List X) (x : X) : Type 0 where
   pub before : List X
   pub after : List X
@@ -17,7 +17,7 @@ pub record IsFirst {X : Type 0} (P : X → Type 0) (xs : List X) (x : X) : Type 
   pub here : P x
   pub none_before : AllByRecursion (λ y. P y → ⊥) before
 
--- the first of the list of which P holds; None where it holds of none
+-- the first element of the list for which P holds, or None if there is none
 abbrev pub FirstOf : {X : Type 0} → (X → Type 0) → List X → Option X → Type 0
 FirstOf P xs None = AllByRecursion (λ x. P x → ⊥) xs
 FirstOf P xs (Some x) = IsFirst P xs x

@@ -10,7 +10,7 @@ use Rattle.sudo_decide.specs.declared.invocation.Invocation.{Invocation}
 use Rattle.sudo_decide.specs.Decision.{Decides}
 use Rattle.sudo_decide.specs.declared.scope.Scope.{Scope}
 
--- an invocation has parts of their forms, and up to 64 arguments
+-- each part of an invocation has its form, and there are up to 64 arguments
 pub record IsInvocation (i : Invocation) : Type 0 where
   pub user : is_name i.user ≡ true
   pub host : is_host_name i.host ≡ true
@@ -20,7 +20,7 @@ pub record IsInvocation (i : Invocation) : Type 0 where
   pub few_args : length i.args ≤ 64
   pub at : IsMoment i.at
 
--- what is fixed is this name; what is not may be any
+-- a name that is fixed is this one; a name that is not fixed may be any
 abbrev pub Agrees : Option (List ℕ) → List ℕ → Type 0
 Agrees None name = Unit {0}
 Agrees (Some fixed) name = name ≡ fixed
@@ -51,6 +51,6 @@ pub record LiesBeyond (s : Scope) (a b : List Entry) (i : Invocation) : Type 0 w
   pub scope : IsInScope s i
   pub gap : IsGap a b i
 
--- there is one, of whatever names, path, arguments and moment
+-- there is one, whatever its names, path, arguments and moment
 abbrev pub SomethingBeyond : Scope → List Entry → List Entry → Type 0
 SomethingBeyond s a b = (i : Invocation) × LiesBeyond s a b i

@@ -34,9 +34,8 @@ pub record IsFirstOther (taken : List ℕ → Bool) (word : List ℕ) : Type 0 w
   pub free : taken word ≡ false
   pub first : (k : ℕ) → k < number → taken (other k) ≡ true
 
--- ---- names: those that stand, and one that does not. A list tells two names apart only where one
--- of them stands in it, so
--- one name that stands nowhere is as good as any.
+-- ---- names: those that stand in the policies, and one that does not. A list tells two names apart
+-- only if one of them stands in it, so one name that stands in no list is as good as any other.
 
 abbrev pub has : List (List ℕ) → List ℕ → Bool
 has words x = list_any (λ word. bytes_eq word x) words
@@ -92,9 +91,9 @@ args_with path cmnds = flat_map (args_in path) cmnds
 abbrev pub has_args : List (List (List ℕ)) → List (List ℕ) → Bool
 has_args lists args = list_any (λ wanted. pointwise bytes_eq args wanted) lists
 
--- A path that stands: without arguments, with each list that stands with it, and with one argument
--- that does not stand alone with it. A rule for its arguments tells `""`, its own list and the rest
--- apart, and nothing else.
+-- A path that stands in a policy: without arguments, with each list that stands with it, and with
+-- one argument that does not stand alone with it. A rule for its arguments tells `""`, its own list
+-- and the rest apart, and nothing else.
 pub record ArePathCases (cmnds : List Cmnd) (path : List ℕ) (runs : List Run) : Type 0 where
   pub lists : List (List (List ℕ))
   pub other_arg : List ℕ
@@ -103,8 +102,8 @@ pub record ArePathCases (cmnds : List Cmnd) (path : List ℕ) (runs : List Run) 
   pub lists_are : IsEachOnce args_order (args_with path cmnds) lists
   pub other_is : IsFirstOther (λ word. has_args (args_with path cmnds) (word ∷ [])) other_arg
 
--- A file in this directory that is none of the paths, without arguments: commands tell such files
--- of one directory apart by nothing.
+-- A file in this directory that is not among the paths, without arguments: no command tells two
+-- such files of one directory apart.
 pub record IsFreshFile (taken : List (List ℕ)) (dir : List ℕ) (runs : List Run) : Type 0 where
   pub name : List ℕ
   pub runs_are : runs ≡ run_of (dir ++ name) [] ∷ []
@@ -145,8 +144,8 @@ turns rules = flat_map turns_of rules
 abbrev pub AreMomentCases : List Rule → List ℕ → Type 0
 AreMomentCases rules cases = IsEachOnce nat_cmp (0 ∷ turns rules) cases
 
--- ---- the five lists of two policies, of what stands in both. An alias counts also where no rule
--- uses it.
+-- ---- the five lists of two policies, made from what stands in either. An alias counts even if no
+-- rule uses it.
 
 pub record AreCases (s : Scope) (a b : List Entry) (c : Cases) : Type 0 where
   pub users : AreNameCases s.user (users a ++ users b) c.users
@@ -155,7 +154,7 @@ pub record AreCases (s : Scope) (a b : List Entry) (c : Cases) : Type 0 where
   pub runs : AreCommandCases (commands a ++ commands b) c.runs
   pub moments : AreMomentCases (rules_in a ++ rules_in b) c.moments
 
--- so many combinations they have
+-- how many combinations there are
 abbrev pub product : Cases → ℕ
 product c = length c.users * length c.hosts * length c.targets * length c.runs * length c.moments
 

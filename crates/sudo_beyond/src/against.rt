@@ -52,7 +52,8 @@ fn allowed(alloc: Global, scope: &Scope, a: &Policy) -> Result<Option<Invocation
     }
 }
 
-/// Whether the baseline refuses the first that the policy allows.
+/// Whether the baseline refuses the first invocation in the scope that the policy is found to
+/// allow.
 fn is_shown(alloc: Global, scope: &Scope, a: &Policy, b: &Baseline<'_>) -> Result<bool, NoMemory>
     ensures { IfOk result (λ shown. shown ≡ true → SomethingBeyond scope.now a.now b.now) }
 {
@@ -62,7 +63,8 @@ fn is_shown(alloc: Global, scope: &Scope, a: &Policy, b: &Baseline<'_>) -> Resul
     }
 }
 
-/// Whether that is seen without the baseline's cases, which are surely few.
+/// Whether an invocation is seen to lie beyond without the baseline's cases, where the cases are
+/// surely few.
 fn is_seen(alloc: Global, scope: &Scope, a: &Policy, b: &Baseline<'_>) -> Result<bool, NoMemory>
     ensures { IfOk result (λ seen. seen ≡ true
         → AreFew scope.now a.now b.now × SomethingBeyond scope.now a.now b.now) }
@@ -87,12 +89,12 @@ fn is_found(alloc: Global, scope: &Scope, a: &Policy, b: &Policy) -> Result<bool
     }
 }
 
-/// Whether there is any invocation in the scope that the policy allows and the baseline refuses, of
-/// whatever user, host, target, path, arguments and moment (NIST SP 800-53, AC-6(7)). `B1
-/// TooManyCases` is answered where `beyond` answers it.
+/// Whether there is any invocation in the scope that the policy allows and the baseline refuses,
+/// whatever its user, host, target, path, arguments and moment (NIST SP 800-53, AC-6(7)). It fails
+/// with `B1 TooManyCases` where `beyond` does.
 ///
-/// Mostly the baseline refuses the first invocation that the policy allows. Then no case of the
-/// baseline is gathered, where these are surely few.
+/// Usually the baseline refuses the first invocation that the policy allows. Then, if the cases are
+/// surely few, none of the baseline's cases is gathered.
 pub fn is_anything_beyond(
     alloc: Global,
     scope: &Scope,

@@ -67,8 +67,8 @@ impl<'p> Baseline<'p> {
         }
     }
 
-    /// Whether what stands in both makes, of one user, host and target, so few cases that all are
-    /// tried.
+    /// Whether what stands in both policies makes, for one user, host and target, so few cases that
+    /// all are tried.
     pub(crate) fn is_small_beside(&self, alloc: Global, a: &Policy) -> Result<bool, NoMemory>
         ensures { IfOk result
             (λ small. small ≡ true → (s : Scope) → FixesNames s → AreFew s a.now self.now) }

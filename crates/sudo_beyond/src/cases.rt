@@ -92,7 +92,7 @@ fn command_cases(alloc: Global, a: &Policy, b: &Policy) -> Result<Items<Run>, No
     run_cases(alloc, &cmnds)
 }
 
-/// The product, or the greatest number where it is past that.
+/// The product, or the greatest `usize` if the product is past that.
 fn times(count: usize, more: usize) -> usize
     ensures { result ≡ min (count * more) (2 ^ 64 - 1) }
 {
@@ -120,7 +120,7 @@ impl Cases {
         })
     }
 
-    /// How many combinations they have; past the greatest number, that number.
+    /// How many combinations there are, or the greatest `usize` if there are more.
     pub fn count(&self) -> usize
         ensures { result ≡ min (specs.product self.now) (2 ^ 64 - 1) }
     {

@@ -18,9 +18,10 @@ pub(crate) const MOST_CASES: usize = 1_000_000;
 /// An invocation in the scope that the first policy allows and the second refuses (NIST SP 800-53,
 /// AC-6(7)).
 ///
-/// `None` says that there is none at all, of whatever user, host, target, path, arguments and
-/// moment. Where there are some, the answer is the first of the cases that stand for all of them.
-/// `B1 TooManyCases` is answered, before any of them is tried, where there are more than 1,000,000.
+/// `None` says that there is none at all, whatever the user, host, target, path, arguments and
+/// moment. Where there are some, the answer is the first of them among the cases that stand for all
+/// invocations. It fails with `B1 TooManyCases`, before any case is tried, if there are more than
+/// 1,000,000 cases.
 pub fn beyond(
     alloc: Global,
     scope: &Scope,
@@ -30,8 +31,8 @@ pub fn beyond(
     // nothing lies beyond, or what is answered does
     ensures exact { IfOk result (λ found. MatchOption found
         (SomethingBeyond scope.now a.now b.now → ⊥) (LiesBeyond scope.now a.now b.now)) }
-    // the first of the cases, of which there are at most 1,000,000; and they are called too many
-    // only where there are more
+    // the answer is the first gap among the cases, of which there are at most 1,000,000; and
+    // `TooManyCases` comes only where there are more
     ensures answer { MatchResult result (IsFirstBeyond scope.now a.now b.now)
         (λ e. e ≡ fault.TooManyCases → AreTooMany scope.now a.now b.now) }
 {

@@ -32,7 +32,7 @@ ghost use Rattle.sudo_beyond.specs.Alike.{AlikeNames, AlikeCmnds, AlikeMoments, 
 
 // ---- items, lists and aliases
 
-/// Two names that each name of a list and of the definitions answers alike, the list answers alike,
+/// If each name in a list and in the definitions answers two names alike, then so does the list,
 /// through aliases.
 pub fn alike_names()
     ensures { (defs : List (Definition (Item (List ℕ)))) (list : Names) (x y : List ℕ) →
@@ -40,7 +40,8 @@ pub fn alike_names()
         names_say defs x list ≡ names_say defs y list }
 {}
 
-/// So it is with two paths and their arguments, and the commands of a list and of the definitions.
+/// The same holds for two paths with their arguments, and the commands in a list and in the
+/// definitions.
 pub fn alike_commands()
     ensures { (defs : List (Definition CmndItem)) (list : List (Signed CmndItem))
         (path other : List ℕ) (args others : List (List ℕ))
@@ -50,8 +51,8 @@ pub fn alike_commands()
         ≡ list_says_by (λ says item. cmnd_answer says other others item) defs list }
 {}
 
-/// Of two invocations that each name, command and date of a policy answers alike, the policy
-/// decides one thing.
+/// If each name, command and date of a policy answers two invocations alike, then the policy
+/// decides both alike.
 pub fn alike_decide()
     ensures { (es : List Entry) (i j : Invocation) (d : Decision)
         → Alike es i j → Decides es i d → Decides es j d }
@@ -59,7 +60,7 @@ pub fn alike_decide()
 
 // ---- the five lists
 
-/// Each user has one in the list whom every name of a user that stands in both policies answers
+/// For each user in the scope, the list has one that every user name in either policy answers
 /// alike.
 pub fn each_user_has_a_case()
     ensures { (s : Scope) (a b : List Entry) (c : Cases) → IsPolicy a → IsPolicy b
@@ -67,22 +68,24 @@ pub fn each_user_has_a_case()
         → (y : List ℕ) × Contains c.users y × AlikeNames (users a ++ users b) x y }
 {}
 
-/// Each host has one in the list that every host that stands in both policies answers alike.
+/// For each host in the scope, the list has one that every host name in either policy answers
+/// alike.
 pub fn each_host_has_a_case()
     ensures { (s : Scope) (a b : List Entry) (c : Cases) → IsPolicy a → IsPolicy b
         → AreCases s a b c → (x : List ℕ) → is_host_name x ≡ true → Agrees s.host x
         → (y : List ℕ) × Contains c.hosts y × AlikeNames (hosts a ++ hosts b) x y }
 {}
 
-/// Each target has one in the list that every target that stands in both policies answers alike.
+/// For each target in the scope, the list has one that every target name in either policy answers
+/// alike.
 pub fn each_target_has_a_case()
     ensures { (s : Scope) (a b : List Entry) (c : Cases) → IsPolicy a → IsPolicy b
         → AreCases s a b c → (x : List ℕ) → is_name x ≡ true → Agrees s.runas x
         → (y : List ℕ) × Contains c.targets y × AlikeNames (runas a ++ runas b) x y }
 {}
 
-/// Each path with its arguments has one in the list that every command that stands in both policies
-/// matches alike.
+/// For each path with its arguments, the list has one that every command in either policy matches
+/// alike.
 pub fn each_command_has_a_case()
     ensures { (s : Scope) (a b : List Entry) (c : Cases) → IsPolicy a → IsPolicy b
         → AreCases s a b c → (path : List ℕ) (args : List (List ℕ)) → is_file_path path ≡ true
@@ -91,28 +94,29 @@ pub fn each_command_has_a_case()
         × AlikeCmnds (commands a ++ commands b) path args other others }
 {}
 
-/// Each moment has one in the list at which each rule of both policies takes part or does not, as
-/// it does then.
+/// For each moment, the list has one at which the same rules of both policies take part.
 pub fn each_moment_has_a_case()
     ensures { (s : Scope) (a b : List Entry) (c : Cases) → IsPolicy a
         → IsPolicy b → AreCases s a b c → (t : ℕ) → IsMoment t
         → (u : ℕ) × Contains c.moments u × AlikeMoments (rules_in a ++ rules_in b) t u }
 {}
 
-/// Two policies and a scope have one list of each.
+/// Two policies and a scope have only one list of each part.
 pub fn one_list_of_each()
     ensures { (s : Scope) (a b : List Entry) (c d : Cases)
         → AreCases s a b c → AreCases s a b d → c ≡ d }
 {}
 
-/// As many invocations are made of them as their product says, and each is one, in the scope.
+/// The lists make as many invocations as their product says, and each is well formed and in the
+/// scope.
 pub fn cases_are_invocations()
     ensures count { (c : Cases) → length (invocations c) ≡ product c }
     ensures form { (s : Scope) (a b : List Entry) (c : Cases) → IsPolicy a → IsPolicy b → IsScope s
         → AreCases s a b c → AllByRecursion (λ i. IsInvocation i × IsInScope s i) (invocations c) }
 {}
 
-/// What lies beyond anywhere does so at a case: where none of the cases does, nothing does.
+/// If an invocation lies beyond, then one of the cases does; if none of the cases is a gap, nothing
+/// lies beyond.
 pub fn cases_suffice()
     ensures at_a_case { (s : Scope) (a b : List Entry) (c : Cases)
         → IsPolicy a → IsPolicy b → AreCases s a b c → SomethingBeyond s a b
@@ -124,9 +128,9 @@ pub fn cases_suffice()
 
 // ---- policies
 
-/// A text that spells a policy has no command whose file sudo takes for its own command `sudoedit`,
-/// in rules and in aliases, used or not; and nobody and no host in it is named by a word with which
-/// sudo begins a command.
+/// A text that spells a policy has no command, in rules or in aliases, used or not, whose file sudo
+/// takes for its own command `sudoedit`; and no user, host or target in it is named by a word with
+/// which sudo begins a command.
 pub fn nothing_of_sudos_own()
     ensures commands { (text : Text) (es : List Entry) → Spells text es
         → AllByRecursion (λ c. (front : List ℕ) (rule : Ruled)
@@ -151,14 +155,14 @@ pub fn nothing_beyond_a_third()
         → (SomethingBeyond s b c → ⊥) → SomethingBeyond s a c → ⊥ }
 {}
 
-/// What lies beyond in a scope does so in each wider one.
+/// If something lies beyond in a scope, then something lies beyond in each wider scope.
 pub fn wider_scope()
     ensures { (s t : Scope) (a b : List Entry) → ((i : Invocation) → IsInScope s i → IsInScope t i)
         → SomethingBeyond s a b → SomethingBeyond t a b }
 {}
 
-/// Of what lies beyond, whatever the first policy decides is no denial, and whatever the second
-/// decides is one.
+/// For an invocation that lies beyond, the first policy's decision is never a denial, and the
+/// second's always is.
 pub fn beyond_is_decided()
     ensures first { (s : Scope) (a b : List Entry) (i : Invocation) (d : Decision)
         → LiesBeyond s a b i → Decides a i d → d ≡ Deny → ⊥ }
@@ -166,9 +170,9 @@ pub fn beyond_is_decided()
         → LiesBeyond s a b i → Decides b i d → d ≡ Deny }
 {}
 
-/// Worked cases: `ALL, !bob db1 = ALL` allows somebody who stands in no text what `ann db1 = ALL`
-/// refuses them, and bob nothing; a rule's last moment turns one second later, and the last moment
-/// of all never.
+/// Worked cases: `ALL, !bob db1 = ALL` allows somebody whom neither text names, but not bob, what
+/// `ann db1 = ALL` refuses them; the moment after a rule's last moment is one second later, and the
+/// last moment of all has none after it.
 pub fn worked_beyond()
     ensures somebody { LiesBeyond anything all_but_bob ann_alone (runs_other (codes "other0")) }
     ensures bob { LiesBeyond anything all_but_bob ann_alone (runs_other (codes "bob")) → ⊥ }

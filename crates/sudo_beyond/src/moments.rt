@@ -48,8 +48,8 @@ pub fn push_turns(moments: &mut Vec<Moment>, p: &Policy) -> Result<(), NoMemory>
     Ok(())
 }
 
-/// The first moment of all, each at which a rule begins to take part, and each after the last at
-/// which one does.
+/// The first moment of all, each moment at which a rule begins to take part, and the moment after
+/// each rule's last.
 pub fn moment_cases(alloc: Global, a: &Policy, b: &Policy) -> Result<Items<Moment>, NoMemory>
     ensures { IfOk result (λ cases. AreMomentCases (rules_in a.now ++ rules_in b.now) cases) }
 {

@@ -9,7 +9,7 @@ use sorting::in_order;
 use std::alloc::Global;
 use sudo_words::{Form, Items, NoMemory, Word};
 
-/// The names that stand, each once, in byte order, and then the first other.
+/// The names in `standing`, each once, in byte order, and then the first other name.
 fn names_and_other<F: Form>(
     alloc: Global,
     standing: Vec<Word<F>>,
@@ -23,7 +23,7 @@ fn names_and_other<F: Form>(
     Ok(Items::new(cases))
 }
 
-/// A list of the fixed name alone, which is of its form.
+/// A list of the fixed name alone, which has its form.
 fn fixed_alone<F: Form>(alloc: Global, fixed: &Word<F>) -> Result<Items<Word<F>>, NoMemory>
     ensures form { F.has fixed.now ≡ true }
     ensures alone { IfOk result (λ cases. cases ≡ fixed.now ∷ []) }
@@ -34,7 +34,7 @@ fn fixed_alone<F: Form>(alloc: Global, fixed: &Word<F>) -> Result<Items<Word<F>>
     }
 }
 
-/// The fixed name; or each that stands, and the first other.
+/// The fixed name alone; or, if none is fixed, the names in `standing` and the first other name.
 pub fn name_cases<F: Form>(
     alloc: Global,
     fixed: &Option<Word<F>>,

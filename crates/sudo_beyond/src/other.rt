@@ -1,4 +1,4 @@
-//! Words that do not stand: `other0`, `other1` and so on.
+//! Other words: `other0`, `other1` and so on, of which the first that is not taken is used.
 
 ghost use Rattle.std.specs.Prelude.{◌≡◌, ◌<◌, true, IfOk};
 ghost use Rattle.std.specs.List.Sorted.{IsStrictlySortedBy};
@@ -21,8 +21,8 @@ pub fn other<F: Form>(alloc: Global, number: usize) -> Result<Word<F>, NoMemory>
     }
 }
 
-/// The first other word that does not stand: one of as many as stand, and one more. Those that
-/// stand are in order.
+/// The first other word that is not in `standing`, which is in order. It is one of the first
+/// `standing.len() + 1` words.
 pub fn first_other<F: Form>(alloc: Global, standing: &[Word<F>]) -> Result<Word<F>, NoMemory>
     requires form { IsFormOfOthers F.has }
     requires sorted { IsStrictlySortedBy text_order standing.now }

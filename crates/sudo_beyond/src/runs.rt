@@ -38,7 +38,7 @@ fn copied_list(args: &Args) -> Result<Args, NoMemory>
     Ok(args.clone()?)
 }
 
-// ---- files that stand nowhere
+// ---- files that no policy names
 
 fn other_file(alloc: Global, dir: &str, number: usize) -> Result<FilePath, NoMemory>
     requires { is_file_path (dir.now ++ word_of number) ≡ true }
@@ -50,7 +50,7 @@ fn other_file(alloc: Global, dir: &str, number: usize) -> Result<FilePath, NoMem
     }
 }
 
-/// The first other file in this directory that is none of the files.
+/// The first other file in this directory that is not among the files.
 fn free_file(alloc: Global, dir: &str, files: &[FilePath]) -> Result<FilePath, NoMemory>
     requires form { (k : ℕ) → k < 2 ^ 64 → is_file_path (dir.now ++ word_of k) ≡ true }
     requires sorted { IsStrictlySortedBy text_order files.now }
@@ -75,7 +75,7 @@ fn one_other(alloc: Global, number: usize) -> Result<Args, NoMemory>
     Ok(Args::new(vec![in alloc; arg]?))
 }
 
-/// The first other argument that is, alone, none of the lists.
+/// The first list of one other argument that is not among the lists.
 fn free_args(alloc: Global, lists: &[Args]) -> Result<Args, NoMemory>
     requires { IsStrictlySortedBy args_order lists.now }
     ensures { IfOk result (λ args. IsFreeArgs lists.now args) }
@@ -112,7 +112,7 @@ pub fn listings(alloc: Global, cmnds: &[Cmnd]) -> Result<Vec<Run>, NoMemory>
     Ok(listed)
 }
 
-/// Those of the listings, which are in order, that are of this path.
+/// The listings of this path, out of all listings, which are in order.
 fn listed_at<'a>(listed: &'a [Run], path: &FilePath) -> &'a [Run]
     requires { IsStrictlySortedBy run_order listed.now }
     ensures { map (λ run. run.args) result.now ≡ args_at path.now listed.now }
@@ -190,7 +190,7 @@ fn push_paths(
     Ok(())
 }
 
-/// Adds a file in this directory that is none of the files, without arguments.
+/// Adds the first other file in this directory that is not among the files, without arguments.
 fn push_fresh(
     alloc: Global,
     runs: &mut Vec<Run>,

@@ -58,7 +58,7 @@ fn invocation_of(
     })
 }
 
-/// Runs this, and leaves the rest of the invocation as it is.
+/// Sets what the invocation runs, and leaves the rest of it as it is.
 fn set_run(i: &mut Invocation, run: &Run) -> Result<(), NoMemory>
     ensures user { i.new.user ≡ i.old.user }
     ensures host { i.new.host ≡ i.old.host }
@@ -115,7 +115,8 @@ fn try_runs(
     Ok(None)
 }
 
-/// Of each policy's rules only those are asked that are about the user, the host and the target.
+/// Searches the cases of one user, host and target. Of each policy only the rules from the first to
+/// the last that are about these three are asked.
 fn of_target(
     a: &Compiled,
     b: &Compiled,

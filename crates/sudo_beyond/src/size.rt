@@ -1,4 +1,4 @@
-//! How much stands in a policy that makes cases.
+//! How many parts of a policy make cases.
 
 ghost use Rattle.std.specs.Prelude.{◌≡◌, ◌+◌, ◌≤◌, IfOk, IfSome, true};
 ghost use Rattle.sudo_policy.specs.Policy.{IsPolicy};
@@ -13,7 +13,7 @@ use std::alloc::Global;
 use sudo_policy::Policy;
 use sudo_words::NoMemory;
 
-/// How much stands in a policy of which cases of commands and of moments are made.
+/// How many parts of a policy make cases of commands and of moments.
 #[derive(Clone, Copy)]
 pub struct Size {
     /// Its commands.
@@ -25,7 +25,7 @@ pub struct Size {
 }
 
 impl Size {
-    /// How much stands in the policy.
+    /// The counts of this policy.
     pub fn of(alloc: Global, p: &Policy) -> Result<Size, NoMemory>
         ensures policy { IsPolicy p.now }
         ensures size { IfOk result (IsSize p.now) }
@@ -42,8 +42,8 @@ impl Size {
         })
     }
 
-    /// The most cases that are made of both, of one user, host and target, where a machine can
-    /// count them.
+    /// The most cases that both make together for one user, host and target, or `None` if the count
+    /// overflows.
     fn most_cases(&self, other: &Size) -> Option<usize>
         ensures { IfSome result (λ most. most ≡ most_of (self.now.commands + other.now.commands)
             (self.now.listings + other.now.listings) (self.now.turns + other.now.turns)) }
@@ -57,7 +57,7 @@ impl Size {
         runs.checked_mul(turns.checked_add(1)?)
     }
 
-    /// Whether of both are made, of one user, host and target, so few cases that all are tried.
+    /// Whether both make together, for one user, host and target, so few cases that all are tried.
     pub fn makes_few_with(&self, other: &Size) -> bool
         ensures { result ≡ true
             → most_of (self.now.commands + other.now.commands) (self.now.listings

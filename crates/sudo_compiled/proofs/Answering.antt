@@ -1,4 +1,4 @@
--- A list, or rules, that are gone through from the last.
+-- A list, or rules, read from the last back.
 use Rattle.std.proofs.Common.{◌≡◌, ℕ, Bool, true, false, ◌&&◌, if◌then◌else◌, Option, Some, None, List, [], ◌∷◌, ◌++◌, map, refl, sym, ap, ◌∙◌, subst}
 use Rattle.std.specs.Prelude.{unwrap_or}
 use Rattle.std.specs.Option.{option_map, option_or}
@@ -31,7 +31,7 @@ pub answer_silent : (rules : List PlainRule) (r : PlainRule) (i : Invocation) �
 answer_silent rules r i quiet =
     ap (λ (o : Option Decision). unwrap_or o Deny) (last_spoken-push rules r i ∙ ap (λ (o : Option Decision). option_or o (last_spoken rules i)) quiet)
 
--- nor does one at the front answer that is silent
+-- nor does a silent one at the front answer
 pub answer_silent_first : (rules : List PlainRule) (r : PlainRule) (i : Invocation) → spoken i r ≡ None → answer (r ∷ rules) i ≡ answer rules i
 answer_silent_first rules r i quiet =
     ap (λ (o : Option Decision). unwrap_or o Deny) (ap (option_or (last_spoken rules i)) quiet ∙ option_or-None (last_spoken rules i))

@@ -1,4 +1,4 @@
--- Entries that are taken from the end of a list which stands the other way round.
+-- Entries that are taken from the end of a reversed list.
 use Rattle.std.proofs.Common.{◌≡◌, List, [], ◌∷◌, ◌++◌, reverse, refl, sym, ap, ◌∙◌, subst, append_assoc, inr}
 use Rattle.std.proofs.lemmas.List.{append-nil, reverse-append}
 use Rattle.sudo_policy.specs.declared.entry.Entry.{Entry}

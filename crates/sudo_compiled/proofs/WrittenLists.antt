@@ -104,7 +104,7 @@ if_same : (b : Bool) (x y u v : Option Bool) → x ≡ u → y ≡ v → (if b t
 if_same true x y u v e f = e
 if_same false x y u v e f = f
 
--- what is kept says of a list what the definitions say of it
+-- what is kept says about a list what the definitions say about it
 pub stands_list : {X Y : Type 0} (plain : Invocation → X → Option Bool) (says : Invocation → (List ℕ → Option Bool)
     → Y → Option Bool) (defs : List (Definition Y)) (known : Known X) (list : List (Signed Y)) (i : Invocation)
     → Stands plain says defs known → list_answer (says i (known_says (plain i) known)) list ≡ list_says_by (says i) defs list

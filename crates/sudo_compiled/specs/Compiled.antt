@@ -1,4 +1,4 @@
--- What a compiled policy answers: the last rule that speaks decides, as of any policy, and there is
+-- What a compiled policy answers: the last rule that speaks decides, as in any policy, and there is
 -- no alias to follow (sudoers(5), "SUDOERS FILE FORMAT").
 use Rattle.std.specs.Prelude.{◌≡◌, ℕ, Bool, true, ◌&&◌, List, map, Option}
 use Rattle.std.specs.Prelude.{Some, None, if◌then◌else◌, unwrap_or}

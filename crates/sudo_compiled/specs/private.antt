@@ -1,4 +1,4 @@
--- What only private clauses and proofs cite: no public contract speaks of it.
+-- What only private clauses and proofs cite, and no public contract.
 pub mod Writing
 pub mod Kept
 pub mod Tags

@@ -1,4 +1,4 @@
-//! What rules without aliases answer, and those of them that bear on an invocation.
+//! What rules without aliases answer, and which of them bear on an invocation.
 
 ghost use Rattle.std.specs.Prelude.{◌≡◌};
 ghost use Rattle.sudo_compiled.specs.Compiled.{answer, AnswerAlike};

@@ -1,4 +1,4 @@
-//! Policies compiled, and what they decide.
+//! Compiled policies, and what they decide.
 
 ghost use Rattle.std.specs.Prelude.{◌≡◌, ◌++◌, ◌∷◌, [], List, IfOk, OnOk};
 ghost use Rattle.sudo_policy.specs.declared.entry.Entry.{Entry as PolicyEntry};
@@ -56,8 +56,8 @@ fn written_rule(alloc: Global, known: &Aliases, rule: &Rule) -> Result<PlainRule
     })
 }
 
-/// Adds an entry's rule, if it is one: what the entries decided, and then this one, the rules then
-/// answer.
+/// Adds an entry's rule, if it is one: rules that answered what some entries decide then answer
+/// what those entries and this one decide.
 fn push_rule(
     alloc: Global,
     rules: &mut Vec<PlainRule>,
@@ -76,8 +76,8 @@ fn push_rule(
 
 /// The policy compiled: whatever is asked, it answers what the policy decides.
 ///
-/// Every alias is written out, once, in the order of the entries: in its place stand the items of
-/// its list in order, each turned over where the alias is negated. So it has at most 131,072 names
+/// Every alias is written out, once, in the order of the entries: the items of its list take its
+/// place in order, each turned over where the alias is negated. So it has at most 131,072 names
 /// and commands, the most that a policy weighs.
 pub fn compile(alloc: Global, p: &Policy) -> Result<Compiled, NoMemory>
     ensures { IfOk result (λ c. (i : Asked) → Decides p.now i (answer c i)) }
@@ -90,7 +90,7 @@ pub fn compile(alloc: Global, p: &Policy) -> Result<Compiled, NoMemory>
     Ok(Compiled { rules })
 }
 
-/// Adds an entry's rule, as `push_rule` does, and gives the entry back.
+/// Adds an entry's rule, as `push_rule` does, and frees the entry.
 fn take_rule(
     alloc: Global,
     rules: &mut Vec<PlainRule>,
@@ -104,7 +104,7 @@ fn take_rule(
     push_rule(alloc, rules, known, &entry)
 }
 
-/// Gives back the room of entries that are done with, once it is half of all.
+/// Frees the room of entries that are done with, once it is half of all.
 fn give_back(rest: &mut Vec<Entry>)
     ensures { rest.new.items ≡ rest.old.items }
 {
@@ -113,14 +113,14 @@ fn give_back(rest: &mut Vec<Entry>)
     }
 }
 
-/// The rules of the entries, each of which is given back once its rule is made.
+/// The rules of the entries. Each entry is freed once its rule is made.
 fn rules_of(alloc: Global, known: &Aliases, entries: Vec<Entry>) -> Result<Vec<PlainRule>, NoMemory>
     ensures { IfOk result (λ rules. (defined : List PolicyEntry) (i : Asked)
         → AreKnown defined known.now → DecidesBy defined entries.items i (answer rules.items i)) }
 {
     let mut rules = Vec::with_capacity(alloc, entries.len())?;
     let mut rest = entries;
-    // The first entry is taken first, from the end.
+    // Turned round, so that the first entry is popped first.
     rest.reverse();
     while let Some(entry) = rest.pop() {
         take_rule(alloc, &mut rules, known, entry)?;
@@ -129,8 +129,8 @@ fn rules_of(alloc: Global, known: &Aliases, entries: Vec<Entry>) -> Result<Vec<P
     Ok(rules)
 }
 
-/// The policy compiled, as `compile` compiles it. It is given back on the way, which takes less
-/// memory at once.
+/// The policy compiled, as `compile` compiles it. It is freed on the way, which takes less memory
+/// at once.
 pub fn compile_owned(alloc: Global, p: Policy) -> Result<Compiled, NoMemory>
     ensures { IfOk result (λ c. (i : Asked) → Decides p i (answer c i)) }
 {

@@ -18,14 +18,14 @@ use sudo_words::{Arg, Cmnd, FilePath};
 enum Kept<P> {
     /// One item.
     One(Signed<P>),
-    /// However many.
+    /// Any number of items.
     More(Vec<Signed<P>>),
     /// What an alias stands for, turned over where the use of the alias is negated.
     Alias(bool, Rc<Vec<Signed<P>>>),
 }
 
-/// A list, which contracts see as the list of its items. One item alone stands in place and takes
-/// no memory, and what an alias stands for is shared by all its uses.
+/// A list, which contracts see as the list of its items. A single item is kept in place,
+/// without memory for a list, and what an alias stands for is shared by all its uses.
 #[derive(Drop)]
 pub struct Few<P> {
     kept: Kept<P>,
@@ -78,14 +78,14 @@ fn signed(negated: bool, answer: Option<bool>) -> Option<bool>
     if negated { answer.map(|b| !b) } else { answer }
 }
 
-/// What a list of names says whose items are turned over where it is negated.
+/// What a list of names says, with its items turned over where it is negated.
 fn turned_plains_say(negated: bool, list: &[Signed<Plain>], asked: &[u8]) -> Option<bool>
     ensures { result ≡ compiled.plains_say asked.now (map (turned negated) list.now) }
 {
     signed(negated, plains_say(list, asked))
 }
 
-/// What a list of commands says whose items are turned over where it is negated.
+/// What a list of commands says, with its items turned over where it is negated.
 fn turned_cmnds_say(
     negated: bool,
     list: &[Signed<Cmnd>],
@@ -98,7 +98,7 @@ fn turned_cmnds_say(
 }
 
 impl Few<Plain> {
-    /// What the list says of this name.
+    /// What the list says about this name.
     pub(crate) fn says_of(&self, asked: &[u8]) -> Option<bool>
         ensures { result ≡ compiled.plains_say asked.now self.now }
     {
@@ -113,7 +113,7 @@ impl Few<Plain> {
 }
 
 impl Few<Cmnd> {
-    /// What the list says of the path with these arguments.
+    /// What the list says about the path with these arguments.
     pub(crate) fn says_of_run(&self, path: &FilePath, args: &[Arg]) -> Option<bool>
         ensures { result ≡ compiled.cmnds_say path.now args.now self.now }
     {

@@ -1,4 +1,4 @@
-//! The kinds of aliases: what is written of the items of their lists.
+//! The kinds of aliases, and how the items of their lists are written out.
 
 ghost use Rattle.std.specs.Prelude.{◌≡◌, Bool, List, ℕ, Option, IfOk};
 ghost use Rattle.sudo_decide.specs.declared.invocation.Invocation.{Invocation};
@@ -12,7 +12,7 @@ use std::alloc::Global;
 use sudo_policy::{CmndItem, Item};
 use sudo_words::{AliasName, Cmnd, Form, HostName, Name, NoMemory, Word};
 
-/// What is written of an item of a list.
+/// What an item of a list is written out as.
 pub(crate) enum Written<'a, P> {
     /// Itself.
     Own(P),
@@ -25,16 +25,16 @@ pub(crate) trait Kind {
     /// What its lists are made of.
     type Item;
 
-    /// What a list is made of in which no alias stands.
+    /// What a list without aliases is made of.
     type Plain: Drop;
 
-    /// What an item says of the invocation, by what the aliases say.
+    /// What an item says about the invocation, given what the aliases say.
     ghost says: { Invocation → (List ℕ → Option Bool) → Self.Item → Option Bool };
 
-    /// What one that is no alias says of it.
+    /// What an item that is not an alias says about it.
     ghost plain: { Invocation → Self.Plain → Option Bool };
 
-    /// The item as it is written, a copy of its own.
+    /// The item as it is written out: a copy of its own, or the alias that it is.
     fn written<'a>(
         alloc: Global,
         item: &'a Self::Item,
@@ -42,7 +42,7 @@ pub(crate) trait Kind {
         ensures { IfOk result (λ w. (i : Invocation) (alias_says : List ℕ → Option Bool)
             → written_says (plain i) alias_says w ≡ says i alias_says item.now) };
 
-    /// A copy of one that is no alias.
+    /// A copy of an item that is not an alias.
     fn copied(alloc: Global, own: &Self::Plain) -> Result<Self::Plain, NoMemory>
         ensures { IfOk result (λ x. x ≡ own.now) };
 }

@@ -12,7 +12,7 @@ use std::rc::Rc;
 use sudo_policy::Signed;
 use sudo_words::{AliasName, NoMemory};
 
-/// The aliases of one kind by name, each with what it stands for: a list in which no alias stands.
+/// The aliases of one kind by name, each with what it stands for: a list without aliases.
 #[derive(Drop)]
 pub(crate) struct Known<P> {
     lists: HashMap<String, Rc<Vec<Signed<P>>>>,

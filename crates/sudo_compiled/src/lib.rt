@@ -1,5 +1,5 @@
-//! Policies compiled: every alias written out, so that what is asked meets names and commands
-//! alone.
+//! Compiled policies: every alias is written out, so that an invocation is compared with names and
+//! commands alone.
 #![tactic(auto)]
 
 mod aliases;

@@ -1,4 +1,4 @@
-//! What lists without aliases say. Each is gone through from its last item, and the first answer is
+//! What lists without aliases say. Each is read from its last item back, and the first answer is
 //! the list's.
 
 ghost use Rattle.std.specs.Prelude.{◌≡◌, Some, None, true, if◌then◌else◌};
@@ -18,7 +18,7 @@ fn yes(negated: bool) -> Option<bool>
     Some(!negated)
 }
 
-/// What the list says of this name.
+/// What the list says about this name.
 pub(crate) fn plains_say(list: &[Signed<Plain>], asked: &[u8]) -> Option<bool>
     ensures { result ≡ compiled.plains_say asked.now list.now }
 {
@@ -33,7 +33,7 @@ pub(crate) fn plains_say(list: &[Signed<Plain>], asked: &[u8]) -> Option<bool>
     None
 }
 
-/// Whether the item is about the name of this tag, which is looked at first.
+/// Whether the item is about the name asked for, which has this tag. The tags are compared first.
 fn is_meant(item: &Plain, asked: &[u8], asked_tag: u32) -> bool
     requires { asked_tag ≡ tag_of asked.now }
     ensures { (if result then Some true else None) ≡ compiled.plain_answer asked.now item.now }
@@ -44,7 +44,7 @@ fn is_meant(item: &Plain, asked: &[u8], asked_tag: u32) -> bool
     }
 }
 
-/// What the list says of the path with these arguments.
+/// What the list says about the path with these arguments.
 pub(crate) fn cmnds_say(list: &[Signed<Cmnd>], path: &FilePath, args: &[Arg]) -> Option<bool>
     ensures { result ≡ compiled.cmnds_say path.now args.now list.now }
 {

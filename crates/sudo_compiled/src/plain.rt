@@ -1,4 +1,4 @@
-//! What a compiled policy is made of: rules in whose lists no alias stands.
+//! What a compiled policy is made of: rules whose lists have no aliases.
 
 ghost use Rattle.std.specs.Prelude.{◌≡◌, IfOk};
 
@@ -7,12 +7,12 @@ use crate::short::Short;
 use std::alloc::Global;
 use sudo_words::{Cmnd, Moment, NoMemory};
 
-/// An item of a list of users, hosts or targets that is no alias.
+/// An item of a list of users, hosts or targets that is not an alias.
 #[derive(Drop)]
 pub enum Plain {
     /// `ALL`.
     All,
-    /// The one of this name.
+    /// The one with this name.
     Name(Short),
 }
 
@@ -28,8 +28,8 @@ impl Plain {
     }
 }
 
-/// A rule whose aliases are written out: in the place of each stand the items of its list, turned
-/// round where it is negated.
+/// A rule whose aliases are written out: each is replaced by the items of its list, turned over
+/// where it is negated.
 #[derive(Drop)]
 pub struct PlainRule {
     /// The users whom it is about.

@@ -1,4 +1,4 @@
-//! What a rule without aliases says of an invocation.
+//! What a rule without aliases says about an invocation.
 
 ghost use Rattle.std.specs.Prelude.{◌≡◌};
 ghost use Rattle.sudo_compiled.specs.Compiled as compiled;
@@ -22,7 +22,8 @@ fn takes_part(rule: &PlainRule, at: Moment) -> bool
     begun && lasts
 }
 
-/// Whether the rule's users, hosts and targets each say yes; one that does not ends the look.
+/// Whether the rule's users, hosts and targets each say yes. The first that does not is the last
+/// asked.
 pub(crate) fn is_about(rule: &PlainRule, i: &Invocation) -> bool
     ensures { result ≡ compiled.is_about rule.now i.now }
 {

@@ -24,7 +24,7 @@ pub(crate) fn tag(text: &[u8]) -> u32
     u32::from(byte_before_end(text, 2)) * 256 + u32::from(byte_before_end(text, 1))
 }
 
-/// A copy of a name, which contracts see as its bytes. Up to 16 bytes stand in place and take no
+/// A copy of a name, which contracts see as its bytes. Up to 16 bytes are kept in place and take no
 /// memory.
 #[derive(Drop)]
 pub struct Short {

@@ -14,7 +14,7 @@ use std::alloc::Global;
 use sudo_policy::Signed;
 use sudo_words::{AliasName, NoMemory};
 
-/// The sign, turned over where it stands under a negation.
+/// The sign, turned over if it is under a negation.
 fn turned(negated: bool, under_negation: bool) -> bool
     ensures { result ≡ (if under_negation then not negated else negated) }
 {
@@ -64,7 +64,7 @@ fn push_alias<K: Kind>(
     }
 }
 
-/// Adds an item, or what the alias stands for that it is, turned over under a negation.
+/// Adds an item, or what it stands for if it is an alias, turned over under a negation.
 fn push_item<K: Kind>(
     alloc: Global,
     known: &Known<K::Plain>,
@@ -81,7 +81,7 @@ fn push_item<K: Kind>(
     }
 }
 
-/// The list written out item by item. There is room for a list without aliases from the first.
+/// The list written out item by item. Room for a list without aliases is made at the start.
 fn written_items<K: Kind>(
     alloc: Global,
     known: &Known<K::Plain>,

@@ -84,7 +84,7 @@ none_in_front def n es name none =
 
 -- ---- what is defined above is not defined again
 
--- a name that is not defined is not one that is
+-- a name that is not defined differs from one that is
 new_differs : {X : Type 0} (defs : List (Definition X)) (new name : List ℕ) (b : Bool)
     → bytes_eq new name ≡ b → is_defined defs new ≡ false → is_defined defs name ≡ true → b ≡ false
 new_differs defs new name false is fresh known = refl
@@ -112,7 +112,7 @@ not_again def above (e ∷ es) name new known =
     is_defined-append def (e ∷ []) es name
     ∙ or_from (is_defined (flat_map def (e ∷ [])) name) (is_defined (flat_map def es) name) here (not_again def (e ∷ above) es name new.1 still)
 
--- the entries behind some others are new below those
+-- the entries after some others define new aliases, below those
 new_behind : {X : Type 0} (def : Entry → List (Definition X)) (above before rest : List Entry)
     → AreNew def above (before ++ rest) → AreNew def (reverse before ++ above) rest
 new_behind def above [] rest new = new
@@ -124,7 +124,7 @@ new_behind def above (e ∷ before) rest new =
 
 -- ---- a definition by its place
 
--- what a definition at a place says of the others: none above it has its name, and none below it
+-- what a definition at a place tells about the others: none above it has its name, and none below it
 record Once {X : Type 0} (def : Entry → List (Definition X)) (before after : List Entry) (name : List ℕ) : Type 0 where
   above : is_defined (flat_map def before) name ≡ false
   below : is_defined (flat_map def after) name ≡ false
@@ -158,11 +158,11 @@ front_below before entry after below within =
     ∙ ap (λ (es : List Entry). es ++ reverse before) (reverse-cons entry (take rest after))
     ∙ append_assoc (reverse (take rest after)) (entry ∷ []) (reverse before)
 
--- the entries above a place that does not
+-- the entries above a place that does not lie below the definition
 front_above : (before rest : List Entry) (below : ℕ) → below ≤ length before → take below (before ++ rest) ≡ take below before
 front_above before rest below within = take-append-le below before rest within
 
--- an alias that is defined above a place is what its list is, by the definitions above its own
+-- an alias that is defined above a place has the value of its list, by the definitions above its own
 pub defined_above : {X V : Type 0} (f : (List ℕ → V) → List (Signed X) → V) (u : V) (def : Entry → List (Definition X)) (es : List Entry)
     (place below : ℕ) (name : List ℕ) (list : List (Signed X))
     → AreNew def [] es → DefinedAt def es place name list → place < below
@@ -188,7 +188,7 @@ defined_above {X} {V} f u def es place below name list new defined within =
     ∙ by_definition_finds f u (flat_map def (reverse (take rest at.after))) d (flat_map def (reverse at.before)) later
     ∙ ap (λ (fs : List Entry). f (by_definition f u (flat_map def (reverse fs))) list) (sym above)
 
--- one that is defined at the place or below it is not
+-- an alias that is defined at the place or below it has the value of an unknown name
 pub defined_below : {X V : Type 0} (f : (List ℕ → V) → List (Signed X) → V) (u : V) (def : Entry → List (Definition X)) (es : List Entry)
     (place below : ℕ) (name : List ℕ) (list : List (Signed X))
     → AreNew def [] es → DefinedAt def es place name list → below ≤ place
@@ -205,7 +205,7 @@ defined_below {X} f u def es place below name list new defined within =
     (none_reversed def (take below es) name
     (ap (λ (fs : List Entry). is_defined (flat_map def fs) name) front ∙ none_in_front def below at.before name once.above))
 
--- nor is one that is defined nowhere
+-- so has an alias that is not defined at all
 pub defined_nowhere :
     {X V : Type 0} (f : (List ℕ → V) → List (Signed X) → V) (u : V) (def : Entry → List (Definition X)) (es : List Entry) (below : ℕ) (name : List ℕ)
     → is_defined (flat_map def es) name ≡ false → by_definition f u (flat_map def (reverse (take below es))) name ≡ u
@@ -234,7 +234,7 @@ pub unknown_alias_is_silent :
 unknown_alias_is_silent item_says def es below name none =
     defined_nowhere (λ says items. list_answer (item_says says) items) None def es below name none
 
--- an alias says what its list says where the definitions behind its own have other names
+-- an alias says what its list says, where the definitions after its own have other names
 pub alias_says_by_definition : {X : Type 0} (item_says : (List ℕ → Option Bool) → X → Option Bool) (later above : List (Definition X)) (d : Definition X)
     → is_defined later d.name ≡ false → aliases_say item_says (later ++ d ∷ above) d.name ≡ list_says_by item_says above d.list
 alias_says_by_definition item_says later above d none =

@@ -1,4 +1,4 @@
--- What the laws and other crates cite of decisions.
+-- Facts about decisions that the laws and other crates cite.
 use Rattle.std.proofs.Common.{◌≡◌, Bool, false, ◌&&◌, if◌then◌else◌, Some, None, List, [], ◌∷◌, ◌++◌, map, reverse, refl, sym, ap, subst, inl}
 use Rattle.std.proofs.lemmas.List.{append-nil}
 use Rattle.sudo_policy.specs.declared.entry.Rule.{Rule}
@@ -33,7 +33,7 @@ decides_rule_last defined es r i answer speaks = inl (record {
 
 -- ---- rules define nothing
 
--- rules behind some entries leave what those decide as it is, and the other way round
+-- rules after some entries do not change what those entries decide, because rules define nothing
 pub same_definitions : (es : List Entry) (rules : List Rule) (i : Invocation) (d : Decision)
     → Decides es i d → DecidesBy (reverse (es ++ map entries.Rule rules)) es i d
 same_definitions es rules i d by = decides_same (reverse es) (reverse (es ++ map entries.Rule rules)) es i d (rules_behind es rules) by

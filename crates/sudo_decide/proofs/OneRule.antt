@@ -1,4 +1,4 @@
--- Two rules that speak where all behind them is silent stand at one place.
+-- Two rules that speak, with only silent entries after each, are at the same place.
 use Rattle.std.proofs.Common.{◌≡◌, Bool, Some, None, List, [], ◌∷◌, ◌++◌, refl, sym, ap, ◌∙◌, subst}
 use Rattle.sudo_policy.specs.declared.entry.Rule.{Rule}
 use Rattle.sudo_policy.specs.declared.entry.Entry.{Entry}

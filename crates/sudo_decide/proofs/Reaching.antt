@@ -1,4 +1,4 @@
--- A decision depends on each rule through what its lists and its command answer, and on the definitions through no more.
+-- A decision depends only on what each rule's lists and command answer, its dates and its tag; and on the definitions only through those answers.
 use Rattle.std.proofs.Common.{◌≡◌, Bool, ◌&&◌, if◌then◌else◌, Option, None, List, [], ◌∷◌, ◌++◌, map, reverse, refl, sym, ap, ◌∙◌}
 use Rattle.std.specs.List.{flat_map}
 use Rattle.std.specs.Option.{option_map, option_or}
@@ -24,7 +24,7 @@ last_rule_spoken : List Entry → Invocation → List Rule → Option Decision
 last_rule_spoken defined i [] = None
 last_rule_spoken defined i (r ∷ rs) = option_or (last_rule_spoken defined i rs) (spoken defined i (entries.Rule r))
 
--- an entry that is no rule is passed over
+-- an entry that is not a rule is passed over
 passed : (defined : List Entry) (i : Invocation) (e : Entry) (es : List Entry) (o : Option Decision)
     → spoken defined i e ≡ None → last_spoken defined i es ≡ o → last_spoken defined i (e ∷ es) ≡ o
 passed defined i e es o quiet was =
@@ -98,7 +98,7 @@ rules_spoken_alike p q (r ∷ rs) (s ∷ ss) alike =
     first
     ∙ ap (λ (o : Option Decision). option_or o (spoken q.defined q.asked (entries.Rule s))) (rules_spoken_alike p q rs ss alike.1)
 
--- where the rules answer alike, the decision is one
+-- where the rules answer alike, the decision is the same
 pub answers_decide : (p q : Question) (es fs : List Entry) (d : Decision)
     → AllAnswerAlike p q (rules_in es) (rules_in fs) → DecidesBy p.defined es p.asked d → DecidesBy q.defined fs q.asked d
 answers_decide p q es fs d alike by =

@@ -111,7 +111,7 @@ silent_from_last defined i (e ∷ es) h =
     let both = option_or-is_None (last_spoken defined i es) (spoken defined i e) h in
     (silent_from_spoken defined i e both.1, silent_from_last defined i es both.0)
 
--- a rule behind one more entry
+-- a rule after one more entry
 one_before : (defined : List Entry) (i : Invocation) (e : Entry) (es : List Entry) (d : Decision)
     → DecidesByRule defined es i d → DecidesByRule defined (e ∷ es) i d
 one_before defined i e es d by = record {
@@ -137,7 +137,7 @@ rule_from_last defined i (e ∷ es) d h = rule_by_cases defined i e es d (last_s
 
 -- ---- decisions
 
--- the last that speaks, or to deny
+-- what the last that speaks decides, or to deny
 decision_of : List Entry → List Entry → Invocation → Decision
 decision_of defined es i = unwrap_or (last_spoken defined i es) Deny
 
@@ -171,7 +171,7 @@ some_decision defined es i = (decision_of defined es i, Decides-decision_of defi
 pub one_decision : (defined es : List Entry) (i : Invocation) (c d : Decision) → DecidesBy defined es i c → DecidesBy defined es i d → c ≡ d
 one_decision defined es i c d x y = sym (decision_of-Decides defined es i c x) ∙ decision_of-Decides defined es i d y
 
--- where the last that speaks is alike, the decision is
+-- where the last that speak decide alike, the decisions are alike
 pub decides_alike : (p q : List Entry) (es fs : List Entry) (i j : Invocation) (d : Decision)
     → last_spoken p i es ≡ last_spoken q j fs → DecidesBy p es i d → DecidesBy q fs j d
 unfolding decision_of
@@ -181,7 +181,7 @@ decides_alike p q es fs i j d same by =
     let P : Decision → Type 0 = λ x. DecidesBy q fs j x in
     subst P decided (Decides-decision_of q fs j)
 
--- a silent entry changes nothing of what comes behind it
+-- a silent entry before others changes nothing
 last_spoken-silent_cons : (defined after : List Entry) (e : Entry) (i : Invocation)
     → entry_says defined e i ≡ None → last_spoken defined i (e ∷ after) ≡ last_spoken defined i after
 last_spoken-silent_cons defined after e i quiet =

@@ -12,15 +12,15 @@ use Rattle.sudo_policy.specs.Text.{Names}
 use Rattle.sudo_decide.specs.Decision.{list_answer, cmnd_answer, name_alias_says}
 use Rattle.sudo_decide.specs.Decision.{cmnd_alias_says, names_say}
 
--- `NAME = LIST`, wherever it stands among the entries: whoever is asked for, the alias answers what
--- its list answers, both by all that the entries define of the kind
+-- `NAME = LIST`, wherever it stands among the entries: for each name asked for, the alias answers
+-- what its list answers, both by all definitions of the kind among the entries
 abbrev pub EachAnswersItsList : (Entry → List (Definition (Item (List ℕ)))) → List Entry → Type 0
 EachAnswersItsList def es =
     (asked : List ℕ) (place : ℕ) (name : List ℕ) (list : Names) → DefinedAt def es place name list
     → name_alias_says (flat_map def (reverse es)) asked name
     ≡ names_say (flat_map def (reverse es)) asked list
 
--- the same of aliases of commands, whatever is run
+-- the same for aliases of commands, whatever is run
 abbrev pub EachCmndAnswersItsList : List Entry → Type 0
 EachCmndAnswersItsList es =
     (path : List ℕ) (args : List (List ℕ)) (place : ℕ) (name : List ℕ)

@@ -23,12 +23,12 @@ use Rattle.sudo_decide.specs.declared.invocation.Invocation.{Invocation}
 
 -- ---- answers: `Some true` is yes, `Some false` is no, and `None` is silence
 
--- only a yes is one: neither a no nor silence
+-- whether the answer is yes; neither a no nor silence is
 abbrev pub is_yes : Option Bool → Bool
 is_yes (Some answer) = answer
 is_yes None = false
 
--- the last that is given
+-- the last answer that is given
 abbrev pub last_given : {X : Type 0} → List (Option X) → Option X
 last_given [] = None
 last_given (answer ∷ later) = option_or (last_given later) answer
@@ -41,7 +41,8 @@ signed_answer negated answer = if negated then option_map not answer else answer
 abbrev pub list_answer : {X : Type 0} → (X → Option Bool) → List (Signed X) → Option Bool
 list_answer item_says list = last_given (map (λ x. signed_answer x.negated (item_says x.item)) list)
 
--- `ALL` says yes, a name where it is the one asked for, and an alias what is known of it
+-- `ALL` says yes, a name says yes if it is the one asked for, and an alias says what `alias_says`
+-- gives for it
 abbrev pub item_answer : (List ℕ → Option Bool) → List ℕ → Item (List ℕ) → Option Bool
 item_answer alias_says asked items.All = Some true
 item_answer alias_says asked (items.Name name) = if bytes_eq name asked then Some true else None
@@ -64,7 +65,7 @@ abbrev pub cmnd_alias_says : List (Definition CmndItem)
 cmnd_alias_says defs path args =
     by_definition (λ says list. list_answer (cmnd_answer says path args) list) None defs
 
--- what a list of users, hosts or targets says of the name asked for
+-- what a list of users, hosts or targets says about the name asked for
 abbrev pub names_say : List (Definition (Item (List ℕ))) → List ℕ → Names → Option Bool
 names_say defs asked list = list_answer (item_answer (name_alias_says defs asked) asked) list
 
@@ -108,7 +109,7 @@ entry_says defined alias i = None
 
 -- ---- policies: the last rule that speaks decides, and silence denies
 
--- what a rule decides by its answer
+-- what a rule decides with this answer
 abbrev pub outcome : Rule → Bool → Decision
 outcome r answer = if answer then (if r.nopasswd then AllowNoPassword else Allow) else Deny
 
@@ -133,7 +134,7 @@ pub record DecidesBySilence (defined : List Entry)
   pub silent : AllSilent defined es i
   pub decision : d ≡ Deny
 
--- what the entries decide where these define the aliases
+-- what the entries `es` decide, where the entries `defined` define the aliases
 abbrev pub DecidesBy : List Entry → List Entry → Invocation → Decision → Type 0
 DecidesBy defined es i d = DecidesByRule defined es i d ⊎ DecidesBySilence defined es i d
 

@@ -93,7 +93,7 @@ cmnds_new above (entries.CmndAlias name list ∷ es) placed =
 cmnds_new above (entries.Rule rule ∷ es) placed =
     (tt, cmnds_new (entries.Rule rule ∷ above) es placed.1)
 
--- so it is in a policy
+-- each alias of a policy is new in its kind
 pub user_aliases_new : (es : List Entry) → IsPolicy es → AreNew user_def [] es
 user_aliases_new es policy = users_new [] es policy.placed
 

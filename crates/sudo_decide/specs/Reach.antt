@@ -1,4 +1,5 @@
--- What a decision depends on: of each rule what its lists and its command answer, and no more.
+-- What a decision depends on: for each rule, what its lists and its command answer, whether it
+-- takes part, and its tag; and nothing more.
 use Rattle.std.specs.Prelude.{◌≡◌, List, [], ◌∷◌, reverse}
 use Rattle.std.specs.List.{flat_map}
 use Rattle.sudo_policy.specs.declared.entry.Rule.{Rule}
@@ -16,12 +17,13 @@ rule_in alias = []
 abbrev pub rules_in : List Entry → List Rule
 rules_in es = flat_map rule_in es
 
--- where entries define the aliases, and what is asked
+-- the entries that define the aliases, and the invocation that is asked about
 pub record Question : Type 0 where
   pub defined : List Entry
   pub asked : Invocation
 
--- two rules answer two questions alike, list by list
+-- two rules answer two questions alike: in each list, in the command, in taking part, and in the
+-- tag
 pub record AnswersAlike (p q : Question) (r s : Rule) : Type 0 where
   pub users : names_say (user_defs p.defined) p.asked.user r.users
       ≡ names_say (user_defs q.defined) q.asked.user s.users
@@ -33,13 +35,13 @@ pub record AnswersAlike (p q : Question) (r s : Rule) : Type 0 where
   pub dates : takes_part r p.asked.at ≡ takes_part s q.asked.at
   pub nopasswd : r.nopasswd ≡ s.nopasswd
 
--- as many rules, and each answers as the one at its place
+-- the lists are equally long, and the two rules at each place answer alike
 abbrev pub AllAnswerAlike : Question → Question → List Rule → List Rule → Type 0
 AllAnswerAlike p q [] [] = Unit {0}
 AllAnswerAlike p q [] (s ∷ ss) = ⊥
 AllAnswerAlike p q (r ∷ rs) [] = ⊥
 AllAnswerAlike p q (r ∷ rs) (s ∷ ss) = AnswersAlike p q r s × AllAnswerAlike p q rs ss
 
--- what is asked of a policy
+-- the question that asks a policy, by its own definitions, about an invocation
 abbrev pub of_policy : List Entry → Invocation → Question
 of_policy es i = record { defined = reverse es; asked = i }

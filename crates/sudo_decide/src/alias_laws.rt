@@ -49,8 +49,8 @@ pub fn worked_user_aliases()
         (codes "ann") (alias_only false (codes "B")) ≡ Some true }
 {}
 
-/// Worked aliases of commands: where `C = /bin/ls, !/bin/su`, `!C` denies the first, allows the
-/// second and is silent of others.
+/// Worked aliases of commands: where `C = /bin/ls, !/bin/su`, `!C` says no to the first, yes to the
+/// second, and is silent about others.
 pub fn worked_cmnd_aliases()
     ensures first { not_ls_alias (codes "/bin/ls") ≡ Some false }
     ensures second { not_ls_alias (codes "/bin/su") ≡ Some true }

@@ -11,7 +11,7 @@ use crate::kind::{Kind, Meaning};
 use sudo_policy::{Policy, Signed};
 use sudo_words::AliasName;
 
-/// Only a yes is one: neither a no nor silence.
+/// Whether the answer is yes; neither a no nor silence is.
 pub(crate) fn is_yes(answer: Option<bool>) -> bool
     ensures { result ≡ answers.is_yes answer }
 {
@@ -26,7 +26,7 @@ pub(crate) fn signed_answer(negated: bool, answer: Option<bool>) -> Option<bool>
 }
 
 /// An alias answers what its list answers by the definitions above its own. One that is not defined
-/// below the place is silent.
+/// before the place `below` is silent.
 #[cycle(answers)]
 fn alias_answer<K: Kind>(p: &Policy, below: usize, name: &AliasName, i: &Invocation) -> Option<bool>
     requires { IsPolicy p.now }
@@ -41,7 +41,7 @@ fn alias_answer<K: Kind>(p: &Policy, below: usize, name: &AliasName, i: &Invocat
     }
 }
 
-/// What an item answers, by the definitions below the place.
+/// What an item answers, by the definitions before the place `below`.
 #[cycle(answers)]
 fn item_answer<K: Kind>(p: &Policy, below: usize, item: &K::Item, i: &Invocation) -> Option<bool>
     requires { IsPolicy p.now }
@@ -54,7 +54,8 @@ fn item_answer<K: Kind>(p: &Policy, below: usize, item: &K::Item, i: &Invocation
     }
 }
 
-/// A list's answer is the last one that an item of it gives, by the definitions below the place.
+/// A list's answer is the last one that its items give, by the definitions before the place
+/// `below`.
 #[cycle(answers)]
 fn list_answer<K: Kind>(
     p: &Policy,

@@ -29,10 +29,10 @@ pub(crate) trait Kind {
     /// What its lists are made of.
     type Item;
 
-    /// What an entry defines of the kind.
+    /// The aliases of the kind that an entry defines.
     ghost def: { Entry → List (Definition Self.Item) };
 
-    /// What an item says of the invocation, by what the aliases say.
+    /// What an item says about the invocation, given what the aliases say.
     ghost says: { Asked → (List ℕ → Option Bool) → Self.Item → Option Bool };
 
     /// The place where the alias is defined, and its list.
@@ -40,7 +40,7 @@ pub(crate) trait Kind {
         ensures { MatchOption result (is_defined (flat_map def p.now) name.now
             ≡ false) (λ x. DefinedAt def p.now x.0 name.now x.1.now) };
 
-    /// What the item means where this is asked.
+    /// What the item means for this invocation.
     fn meaning<'a>(item: &'a Self::Item, i: &Invocation) -> Meaning<'a>
         ensures { (alias_says : List ℕ → Option Bool)
             → meant alias_says result ≡ says i.now alias_says item.now };
@@ -49,7 +49,8 @@ pub(crate) trait Kind {
     ghost once: { (es : List Entry) → IsPolicy es → AreNew def [] es };
 }
 
-/// `ALL` says yes, a name where it is the one asked for, and an alias what its list says.
+/// `ALL` says yes, a name says yes if it is the one asked for, and an alias says what its list
+/// says.
 fn name_meaning<'a, F: Form>(item: &'a Item<Word<F>>, asked: &Word<F>) -> Meaning<'a>
     ensures { (alias_says : List ℕ → Option Bool)
         → meant alias_says result ≡ item_answer alias_says asked.now item.now }

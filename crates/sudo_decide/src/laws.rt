@@ -1,4 +1,5 @@
-//! The laws, each the contract of a function that does nothing. Those of decisions stand here.
+//! The laws, each the contract of a function that does nothing. Those of decisions are written
+//! here, and the others are re-exported.
 
 ghost use Rattle.std.specs.Prelude.{◌≡◌, ℕ, ◌<◌, Bool, true, false, Option};
 ghost use Rattle.std.specs.Prelude.{List, [], ◌∷◌, ◌++◌, reverse, codes};
@@ -19,18 +20,19 @@ pub use crate::alias_laws::{
     alias_answers_its_list, alias_keeps_silence, worked_cmnd_aliases, worked_user_aliases,
 };
 
-/// A policy decides one thing of an invocation.
+/// A policy decides an invocation in one way only.
 pub fn one_decision()
     ensures { (es : List Entry) (i : Invocation) (c d : Decision) →
         Decides es i c → Decides es i d → c ≡ d }
 {}
 
-/// Something is decided of each invocation by any list of entries.
+/// Any list of entries decides each invocation in some way.
 pub fn some_decision()
     ensures { (es : List Entry) (i : Invocation) → (d : Decision) × Decides es i d }
 {}
 
-/// A silent rule may be added anywhere, or taken away: nothing is decided otherwise.
+/// Adding a rule anywhere, or taking it away, does not change the decision on an invocation about
+/// which the rule is silent.
 pub fn silent_rule()
     ensures added { (before after : List Entry) (r : Rule) (i : Invocation) (d : Decision) →
         says (reverse (before ++ after)) r i ≡ None →
@@ -48,8 +50,8 @@ pub fn outside_dates()
         r.not_after ≡ Some last → last < i.at → says defined r i ≡ None }
 {}
 
-/// A rule whose dates do not hold may be added anywhere, or taken away: nothing is decided
-/// otherwise.
+/// Adding a rule anywhere, or taking it away, does not change the decision on an invocation outside
+/// the rule's dates.
 pub fn rule_outside_dates()
     ensures added { (before after : List Entry) (r : Rule) (i : Invocation) (d : Decision) →
         takes_part r i.at ≡ false →
@@ -59,7 +61,7 @@ pub fn rule_outside_dates()
         Decides (before ++ entries.Rule r ∷ after) i d → Decides (before ++ after) i d }
 {}
 
-/// Two negations are none, and what is silent stays so under negation.
+/// Two negations cancel, and a silent answer stays silent under negation.
 pub fn double_negation()
     ensures twice { (answer : Option Bool)
         → signed_answer true (signed_answer true answer) ≡ answer }
@@ -74,15 +76,16 @@ pub fn last_speaks()
 {}
 
 /// A decision depends on what the lists and the command of each rule answer, and on its tag and
-/// whether it takes part, and on nothing else: of two policies and two invocations for which these
-/// are alike, rule by rule, one thing is decided.
+/// whether it takes part, and on nothing else: where these agree, rule by rule, for two policies
+/// and two invocations, the decisions are the same.
 pub fn answers_decide()
     ensures { (es fs : List Entry) (i j : Invocation) (d : Decision) →
         AllAnswerAlike (of_policy es i) (of_policy fs j) (rules_in es) (rules_in fs) →
         Decides es i d → Decides fs j d }
 {}
 
-/// Worked lists: `ALL, !bob` says no to bob and yes to alice, and `!bob` alone is silent of alice.
+/// Worked lists: `ALL, !bob` says no to bob and yes to alice, and `!bob` alone is silent about
+/// alice.
 pub fn worked_lists()
     ensures bob { names_say [] (codes "bob") all_but_bob ≡ Some false }
     ensures alice { names_say [] (codes "alice") all_but_bob ≡ Some true }

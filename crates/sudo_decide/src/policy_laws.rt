@@ -9,8 +9,8 @@ ghost use Rattle.sudo_decide.specs.declared.invocation.Invocation.{Invocation};
 ghost use Rattle.sudo_decide.specs.Answered.{EachAnswersItsList, EachCmndAnswersItsList};
 ghost use Rattle.sudo_decide.specs.Decision.{DecidesByRule, DecidesBySilence};
 
-/// At most one rule of a policy is the one that decides, at one place; and where one does, it is
-/// not silence that denies.
+/// At most one rule of a policy, at one place, decides an invocation; and if one does, silence does
+/// not decide it.
 pub fn one_rule_decides()
     ensures rule { (es : List Entry) (i : Invocation) (c d : Decision)
         (x : DecidesByRule (reverse es) es i c) (y : DecidesByRule (reverse es) es i d) →

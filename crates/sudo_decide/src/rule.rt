@@ -1,4 +1,4 @@
-//! What a rule says of an invocation.
+//! What a rule says about an invocation.
 
 ghost use Rattle.std.specs.Prelude.{◌≡◌, reverse};
 ghost use Rattle.sudo_decide.specs.Decision as rules;
@@ -25,7 +25,8 @@ fn takes_part(rule: &Rule, at: Moment) -> bool
     begun && lasts
 }
 
-/// Whether the rule's users, hosts and targets each say yes; one that does not ends the look.
+/// Whether the rule's users, hosts and targets each say yes. The first that does not ends the
+/// check.
 fn is_about(p: &Policy, rule: &Rule, i: &Invocation) -> bool
     ensures { result ≡ rules.is_about (reverse p.now) rule.now i.now }
 {
@@ -52,7 +53,7 @@ pub(crate) fn says(p: &Policy, rule: &Rule, i: &Invocation) -> Option<bool>
     cmnd_says(p, rule, i)
 }
 
-/// What the rule decides by its answer.
+/// What the rule decides with this answer.
 pub(crate) fn outcome(rule: &Rule, answer: bool) -> Decision
     ensures { result ≡ rules.outcome rule.now answer }
 {

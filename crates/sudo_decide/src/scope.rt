@@ -1,8 +1,9 @@
-//! What is fixed of the invocations that are looked at.
+//! The parts that are fixed in the invocations that are looked at.
 
 use sudo_words::{HostName, Name};
 
-/// What is fixed of the invocations that are looked at; absent, any is.
+/// The parts that are fixed in the invocations that are looked at; a part that is `None` may be
+/// anything.
 #[derive(Debug, Drop)]
 pub struct Scope {
     /// The user who asks.

@@ -1,4 +1,4 @@
--- An alias of a policy is what its list is, by all of the policy's definitions.
+-- An alias of a policy has the value of its list, by all of the policy's definitions.
 use Rattle.std.proofs.Common.{◌≡◌, ℕ, ◌+◌, max, Bool, true, false, ◌||◌, if◌then◌else◌, List, [], ◌∷◌}
 use Rattle.std.proofs.Common.{◌++◌, reverse, Option, Some, None, refl, sym, ap, subst, ◌∙◌, append_assoc}
 use Rattle.std.specs.Prelude.{IfSome}
@@ -20,7 +20,7 @@ use Rattle.sudo_policy.specs.Policy.{IsPlaced, ArePlaced, IsPolicy}
 use Rattle.sudo_policy.specs.Aliased.{EachWeighsItsList}
 use Rattle.sudo_policy.proofs.DefinedPlaces.{split_at}
 
--- ---- definitions of which each is new, and uses what stands behind it
+-- ---- definitions, each of which is new and uses only those after it in the list
 
 abbrev pub AreFresh : {X : Type 0} → (X → Option (List ℕ)) → List (Definition X) → Type 0
 AreFresh alias_of [] = Unit {0}
@@ -42,7 +42,7 @@ differs defs new name true is fresh known =
     let both : true ≡ false = sym known ∙ sym (ap (is_defined defs) same) ∙ fresh in
     both
 
--- what is defined behind is not defined in front
+-- a name that the back part defines is not defined by the front part
 front_new : {X : Type 0} (alias_of : X → Option (List ℕ)) (front back : List (Definition X)) (name : List ℕ)
     → AreFresh alias_of (front ++ back) → is_defined back name ≡ true → is_defined front name ≡ false
 front_new alias_of [] back name fresh known = refl
@@ -65,9 +65,9 @@ passes f u (d ∷ front) back name none =
     if_false (bytes_eq d.name name) (f (by_definition f u (front ++ back)) d.list) (by_definition f u (front ++ back) name) parts.0
     ∙ passes f u front back name parts.1
 
--- ---- an alias by all definitions
+-- ---- the value of an alias by all definitions
 
--- what is said of a list depends on its own aliases alone
+-- the value of a list depends only on the values of the aliases in it
 abbrev pub DependsOnAliases : {X V : Type 0} → (X → Option (List ℕ)) → ((List ℕ → V) → List (Signed X) → V) → Type 0
 DependsOnAliases {X} {V} alias_of f =
     (v w : List ℕ → V) (defs : List (Definition X)) (list : List (Signed X))
@@ -133,7 +133,7 @@ fresh_below alias_of def above (e ∷ es) step placed fresh =
     subst (λ (x : List Entry). AreFresh alias_of (flat_map def x)) (sym order)
     (fresh_below alias_of def (e ∷ above) es step placed.1 (step above e placed.0 fresh))
 
--- ---- aliases by their places
+-- ---- the value of an alias that is defined at a place
 
 pub by_all : {X V : Type 0} (alias_of : X → Option (List ℕ)) (def : Entry → List (Definition X)) (f : (List ℕ → V)
     → List (Signed X) → V) (u : V) (es : List Entry) (place : ℕ) (name : List ℕ) (list : List (Signed X))

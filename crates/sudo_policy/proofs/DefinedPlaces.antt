@@ -38,7 +38,7 @@ split_at def (e ∷ es) (suc place) name list at =
       def_is = s.def_is;
     }
 
--- one more entry behind
+-- one more entry at the end
 pub defined_before : {X : Type 0} (def : Entry → List (Definition X)) (es : List Entry) (e : Entry) (place : ℕ) (name : List ℕ) (list : List (Signed X))
     → DefinedAt def es place name list → DefinedAt def (es ++ e ∷ []) place name list
 defined_before def [] e place name list at = absurd (none-some _ at)

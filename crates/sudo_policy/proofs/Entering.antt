@@ -1,4 +1,4 @@
--- What is kept of the aliases of all kinds, as one entry is added.
+-- What is kept for the aliases of all kinds, as one entry is added.
 use Rattle.std.proofs.Common.{◌≡◌, ℕ, List, [], ◌∷◌, ◌++◌, length, reverse, Option, Some, None, Result, refl, sym, subst, ◌∙◌, arith}
 use Rattle.std.specs.Prelude.{MatchOption, IfOk, IfErr}
 use Rattle.std.specs.Option.{ok_or}
@@ -18,7 +18,7 @@ use Rattle.sudo_policy.specs.private.AliasKinds.{AreAliasKinds, RuleIsKnown, rul
 use Rattle.sudo_policy.specs.Policy.{IsPlaced, entry_weight}
 use Rattle.sudo_policy.proofs.Tables.{new_is, definable_is, kind_push, kind_same, rule_known, known_rule, rule_stopped}
 
--- the entry is placed, and what is kept beside the entries is that of all, and the weight is the entry's until it stops
+-- the entry is placed, what is kept agrees with all entries and this one, and the weight is the entry's until it stops
 abbrev pub IsEntered : List Entry → Entry → AliasKinds → ℕ → Type 0
 IsEntered es e s w = IsPlaced (reverse es) e × AreAliasKinds (es ++ e ∷ []) s × (w ≡ stopped (entry_weight (reverse es) e))
 
@@ -158,7 +158,7 @@ rule_made es s r w is known weighs =
       weighs ∙ rule_stopped es s r is,
     )
 
--- what was found of a rule's weight
+-- what was found for the weight of a rule
 abbrev pub IsWeighed : AliasKinds → Rule → Option ℕ → Type 0
 IsWeighed s r o = MatchOption o (¬ RuleIsKnown s r) (λ w. RuleIsKnown s r × (w ≡ stopped (rule_weight_in s r)))
 

@@ -88,7 +88,7 @@ pub lacks : {X : Type 0} (alias_of : X → Option (List ℕ)) (def : Entry → L
 lacks alias_of def es m name k none =
     sym (defined_reversed def name es) ∙ sym (k.table.has_those name) ∙ ap (λ (o : Option Alias). is_some o) none
 
--- ---- what stands at the place that the table keeps is the definition
+-- ---- the entry at the place that the table keeps is the definition
 
 pub defined_there : {X : Type 0} (alias_of : X → Option (List ℕ)) (def : Entry → List (Definition X)) (es : List Entry) (m : Aliases) (name : List ℕ)
     (a : Alias) (entry : Entry) (named : List ℕ) (list : List (Signed X)) → IsKind def alias_of es m → alias_at m name ≡ Some a → a.place < length es

@@ -51,7 +51,7 @@ pub all_no_alias : is_alias_name (codes "ALL") ≡ false
 unfolding is_reserved
 all_no_alias = refl
 
--- a form of names: neither `ALL` nor an alias is of it
+-- a form of names: neither `ALL` nor an alias has it
 pub record IsForm (form : List ℕ → Bool) : Type 0 where
   pub all : form (codes "ALL") ≡ false
   pub alias : (w : List ℕ) → form w ≡ true → is_alias_shape w ≡ true → ⊥
@@ -76,7 +76,7 @@ host_form = record { all = refl; alias = host_no_alias }
 
 -- ---- items
 
--- a text is one item's
+-- a text is the text of one item at most
 item_one : (form : List ℕ → Bool) → IsForm form → (i j : Item (List ℕ)) → IsItem form i → IsItem form j → item_text i ≡ item_text j → i ≡ j
 item_one form f items.All items.All x y e = refl
 item_one form f items.All (items.Name m) x y e = absurd (false≢true (sym f.all ∙ ap form e ∙ y))
@@ -106,7 +106,7 @@ spelled_item_one form f F ts s t r q g h n k =
 
 -- ---- commands
 
--- what may stand behind a command: nothing, `,` or `:`
+-- what may follow a command: nothing, `,` or `:`
 abbrev pub EndsCmnd : List Tok → Type 0
 EndsCmnd [] = Unit {0}
 EndsCmnd (word a n w ∷ ts) = ⊥
@@ -176,7 +176,7 @@ rule_toks_one (Exactly xs) (Exactly ys) x y r s n k e =
     let both = arg_toks_one xs ys x.0 y.0 r s n k e in
     (ap (λ (args : List (List ℕ)). Exactly args) both.0, both.1)
 
--- a head and what stands behind it are one command's
+-- a head and what follows it belong to one command at most
 cmnd_item_one : (c d : CmndItem) → IsCmndItem c → IsCmndItem d → (r s : List Tok) → EndsCmnd r
     → EndsCmnd s → head_of c ≡ head_of d → args_of c ++ r ≡ args_of d ++ s → (c ≡ d) × (r ≡ s)
 cmnd_item_one (cmnds.Alias v) (cmnds.Alias w) x y r s n k e f = (ap (λ (u : List ℕ). cmnds.Alias u) e, f)

@@ -6,7 +6,7 @@ use Rattle.sudo_policy.specs.private.Lengths.{stopped}
 use Rattle.sudo_policy.specs.Printing.{alias_text, list_text, tail_text}
 use Rattle.sudo_policy.proofs.Printed.{tail_suc, first_and_rest}
 
--- the items behind the first, and one more
+-- the items after the first, and one more
 pub tail_longer : {X : Type 0} (f : X → List ℕ) (xs : List X) (i : ℕ) (d : X) (len more : ℕ) → i < length xs → len ≡ stopped (length (tail_text f (take i xs)))
     → more ≡ stopped (length (f (get_or xs i d))) → stopped (stopped (len + 2) + more) ≡ stopped (length (tail_text f (take (i + 1) xs)))
 tail_longer f xs i d len more h len_is more_is =

@@ -59,7 +59,7 @@ pub stops_bangs : (w rest : List ℕ) → 0 < length w → is_word_text w ≡ tr
 stops_bangs [] rest some h = absurd (omega arith)
 stops_bangs (x ∷ w) rest some h = no_bang x w h
 
--- `!` and a word stand in two texts in one way
+-- how many `!` stand before a word is read in one way
 one_bangs : (n m : ℕ) (v w r s : List ℕ) → 0 < length v → is_word_text v ≡ true → 0 < length w
     → is_word_text w ≡ true → (bangs n ++ v) ++ r ≡ (bangs m ++ w) ++ s → (n ≡ m) × (v ++ r ≡ w ++ s)
 one_bangs n m v w r s some_v text_v some_w text_w e =
@@ -70,30 +70,30 @@ one_bangs n m v w r s some_v text_v some_w text_w e =
 
 -- ---- what follows the blanks
 
--- a token begins with no blank
+-- a token does not begin with a blank
 pub starts : (t : Tok) (rest : List ℕ) → IsTok t rest → Stops is_blank (text_of t ++ rest)
 starts (word a zero []) rest h = let bad : 0 < 0 = h.0 in absurd (omega arith)
 starts (word a zero (x ∷ w)) rest h = no_blank x w h.1
 starts (word a (suc n) w) rest h = refl
 starts (mark a m) rest h = mark_no_blank m h
 
--- a word, with the `!` before it, begins with no mark
+-- a word, with the `!` before it, does not begin with a mark
 word_starts : (n : ℕ) (w rest : List ℕ) → 0 < length w → is_word_text w ≡ true → Stops is_mark ((bangs n ++ w) ++ rest)
 word_starts zero [] rest some h = absurd (omega arith)
 word_starts zero (x ∷ w) rest some h = no_mark x w h
 word_starts (suc n) w rest some h = refl
 
--- so it is none
+-- so it is not a mark
 word_or_mark : (n : ℕ) (w rest s : List ℕ) (m : ℕ) → 0 < length w → is_word_text w ≡ true → is_mark m ≡ true → (bangs n ++ w) ++ rest ≡ m ∷ s → ⊥
 word_or_mark n w rest s m some text is e = false≢true (sym (subst (Stops is_mark) e (word_starts n w rest some text)) ∙ is)
 
--- and it is something
+-- and it is not empty
 word_some : (n : ℕ) (w rest : List ℕ) → 0 < length w → (bangs n ++ w) ++ rest ≡ [] → ⊥
 word_some zero [] rest some e = omega arith
 word_some zero (x ∷ w) rest some e = absurd cc
 word_some (suc n) w rest some e = absurd cc
 
--- a reading of bytes that go on with s behind the blanks: its token stands at the front of s, and blanks before it where it says so
+-- bytes that are blanks and then s: in each reading s begins with the first token, which says whether there are blanks before it
 pub after : (bytes blanks s : List ℕ) → IsCut is_blank bytes blanks s
     → (t : Tok) (ts : List Tok) (h : Lexes bytes (t ∷ ts)) → (s ≡ text_of t ++ h.1) × (is_spaced t ≡ is_some_blank blanks)
 after bytes blanks s c t ts h =
@@ -134,7 +134,7 @@ mark_only bytes blanks s c gap m rest g is e (mark a k ∷ ts) h =
     let left : h.1 ≡ rest = cc in
     (ts, ap (λ (x : Bool). mark x k ∷ ts) gaps ∙ ap (λ (x : ℕ). mark gap x ∷ ts) same, subst (λ (r : List ℕ). Lexes r ts) left h.6)
 
--- a mark behind the blanks
+-- a mark after the blanks
 pub lex_mark : (bytes blanks s : List ℕ) → IsCut is_blank bytes blanks s → (gap : Bool) (m : ℕ) (rest : List ℕ)
     → gap ≡ is_some_blank blanks → is_mark m ≡ true → s ≡ m ∷ rest → IsFirst bytes (mark gap m) rest
 lex_mark bytes blanks s c gap m rest g is e = record {
@@ -145,7 +145,7 @@ lex_mark bytes blanks s c gap m rest g is e = record {
 
 -- ---- words
 
--- what stands behind the blanks: so many `!`, and a word
+-- what follows the blanks: so many `!`, and a word
 pub record IsWordAt (s : List ℕ) (n : ℕ) (w rest : List ℕ) : Type 0 where
   pub whole : s ≡ (bangs n ++ w) ++ rest
   pub is : (0 < length w) × (is_word_text w ≡ true) × (goes_on rest ≡ false)

@@ -49,11 +49,11 @@ backslash_last text =
           (λ e. false≢true (sym fails ∙ ap (last_passes is_backslash) (ends.0 e) ∙ last_passes_last is_backslash (take (length text - 1) text) 92)) ∙ sym fails
     ]
 
--- where one last byte is taken off, one front is left
+-- the front that is left, when a last byte is taken off, is unique
 pub one_front : (xs ys : List ℕ) (x : ℕ) → xs ++ x ∷ [] ≡ ys ++ x ∷ [] → xs ≡ ys
 one_front xs ys x e = append_cancel_right xs ys (x ∷ []) e
 
--- what is taken off from the end, where it is a backslash
+-- taking a backslash off the end, if there is one
 pub backslash_off : (line : List ℕ) (r : Option (Bor (List ℕ)))
     → MatchOption r ((front : List ℕ) → line ≢ front ++ backslash ∷ []) (λ x. line ≡ x.now ++ backslash ∷ [])
     → MatchOption r (ends_in_backslash line ≡ false) (λ front. line ≡ front.now ++ backslash ∷ [])
@@ -63,7 +63,7 @@ backslash_off line (Some x) h = h
 
 -- ---- a line without its comment
 
--- the cut at the first `#` of a line that has none
+-- a line without `#` is cut at its end
 pub no_hash_cut : (line : List ℕ) → Each is_no_hash line → IsCut is_no_hash line line []
 no_hash_cut line h = record { whole = sym (append-nil line); each = h; stops = tt }
 
@@ -120,7 +120,7 @@ body_one line a b is h =
 pub front_one : (line a b : List ℕ) → IsContinued line a → IsContinued line b → a ≡ b
 front_one line a b h k = one_front a b backslash (sym h.whole ∙ k.whole)
 
--- it has no comment
+-- a line that goes on has no `#`
 pub no_hash_in : (line front : List ℕ) → IsContinued line front → Each is_no_hash line
 no_hash_in line front h = subst (Each is_no_hash) (sym h.whole) (each_append is_no_hash front (backslash ∷ []) h.each (refl, tt))
 
@@ -128,7 +128,7 @@ each_front : (p : ℕ → Bool) (xs ys : List ℕ) → Each p (xs ++ ys) → Eac
 each_front p [] ys h = tt
 each_front p (x ∷ xs) ys h = (h.0, each_front p xs ys h.1)
 
--- and what stands before its last byte has none
+-- nor has what stands before its last byte
 pub front_is : (line front : List ℕ) → Each is_no_hash line → line ≡ front ++ backslash ∷ [] → Each is_no_hash front
 front_is line front each e = each_front is_no_hash front (backslash ∷ []) (subst (Each is_no_hash) e each)
 
@@ -147,12 +147,12 @@ hash_no_front line body rest c some front k =
     let t = one_cut is_no_hash body rest line [] c.each c.stops (no_hash_in line front k) tt (sym c.whole ∙ sym (append-nil line)) in
     omega (arith, some, ap length t.1)
 
--- what the first `#` behind a body needs
+-- a line has no body if its first `#` does not begin a comment
 pub hash_bad : (line body rest : List ℕ) → IsCut is_no_hash line body rest → (x : ℕ) (note : List ℕ) → rest ≡ x ∷ note
     → ((is_before_comment body ≡ true) → (is_comment note ≡ true) → ⊥) → (other : List ℕ) → IsBody line other → ⊥
 hash_bad line body rest c x note e bad other h = let t = subst (IsNote body) e (body_cut line body rest c other h).1 in bad t.0 t.1
 
--- a line that ends in a backslash, behind a byte that it may not go on behind
+-- a line does not go on if a line may not go on after the byte before its last backslash
 pub bad_front : (line front : List ℕ) → line ≡ front ++ backslash ∷ [] → last_passes may_go_on front ≡ false → (other : List ℕ) → IsContinued line other → ⊥
 bad_front line front e bad other k =
     let same = one_front front other backslash (sym e ∙ k.whole) in

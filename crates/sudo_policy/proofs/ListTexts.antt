@@ -3,11 +3,11 @@ use Rattle.std.proofs.Common.{◌≡◌, ℕ, Bool, List, [], ◌∷◌, refl, s
 use Rattle.sudo_policy.specs.Lex.{Tok, mark}
 use Rattle.sudo_policy.specs.Grammar.{More, Listed}
 
--- Tokens have one such thing at their front, where F holds of the tokens behind it.
+-- Tokens begin with one such thing at most, if F holds of the tokens after it.
 abbrev pub IsOne : {X : Type 0} → (List Tok → X → List Tok → Type 0) → (List Tok → Type 0) → Type 0
 IsOne {X} Is F = (ts : List Tok) (x y : X) (r s : List Tok) → Is ts x r → Is ts y s → F r → F s → (x ≡ y) × (r ≡ s)
 
--- F holds before the mark, and G at the end of the list, where the mark does not stand
+-- F holds of tokens that begin with the mark; G holds of what follows the list: it implies F, and excludes the mark
 module _ {X : Type 0} (m : ℕ) (Is : List Tok → X → List Tok → Type 0) (F G : List Tok → Type 0) (marked : (a : Bool) (next : List Tok) → F (mark a m ∷ next))
     (within : (r : List Tok) → G r → F r) (ended : (a : Bool) (next : List Tok) → G (mark a m ∷ next) → ⊥) (one : IsOne Is F) where
   more_front : (ts : List Tok) (xs : List X) (r : List Tok) → More m Is ts xs r → G r → F ts

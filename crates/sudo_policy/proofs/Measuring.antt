@@ -45,7 +45,7 @@ measured_push {X} alias_of m xs x a here b of_xs of_x weight depth =
           ∙ sym (depth_push alias_of (depth_in m) xs x);
     }
 
--- the item at a place, behind those before it
+-- the item at a place, after those before it
 pub measured_more : {X : Type 0} (alias_of : X → Option (List ℕ)) (m : Aliases) (xs : List (Signed X)) (i : ℕ) (x : Signed X) (a here b : Measure)
     → i < length xs → x ≡ get_or xs i x → IsMeasured alias_of m (take i xs) a → IsItemMeasured m (alias_of x.item) here
     → b.weight ≡ stopped (a.weight + here.weight) → b.depth ≡ max a.depth here.depth → IsMeasured alias_of m (take (i + 1) xs) b
@@ -73,7 +73,7 @@ item_stopped : (kept weigh : List ℕ → ℕ) (o : Option (List ℕ)) → ((n :
 item_stopped kept weigh None same = refl
 item_stopped kept weigh (Some n) same = let one = same n in omega arith
 
--- a list's weight by weights that stop, once it stops, is its weight once that stops
+-- the weight of a list stops at the same number whether it is summed from weights that stop or from the weights themselves
 pub list_stopped : {X : Type 0} (alias_of : X → Option (List ℕ)) (kept weigh : List ℕ → ℕ) (list : List (Signed X))
     → ((n : List ℕ) → kept n ≡ stopped (weigh n)) → stopped (list_weight alias_of kept list) ≡ stopped (list_weight alias_of weigh list)
 list_stopped alias_of kept weigh [] same = refl

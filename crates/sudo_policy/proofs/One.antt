@@ -31,7 +31,7 @@ use Rattle.sudo_policy.proofs.SpecTexts.{NotMark, BeginsWord, word_no_mark, item
 
 -- ---- parts and definitions
 
--- what may stand behind a part or a definition: nothing or `:`
+-- what may follow a part or a definition: nothing or `:`
 abbrev EndsPart : List Tok → Type 0
 EndsPart [] = Unit {0}
 EndsPart (word a n w ∷ ts) = ⊥
@@ -128,7 +128,7 @@ kinds_same k l Is Js ts ds es g h = let both = sym g.2 ∙ h.2 in cc
 kinds_differ : (k l : List ℕ) → bytes_eq k l ≡ false → k ≡ l → ⊥
 kinds_differ k l h e = false≢true (sym h ∙ (bytes_eq-Decides k l).1 e)
 
--- a word that no item is
+-- a word that is not the text of any item
 record IsKind (kind : List ℕ) : Type 0 where
   pub all : codes "ALL" ≡ kind → ⊥
   pub name : is_name kind ≡ false

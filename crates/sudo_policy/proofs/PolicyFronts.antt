@@ -1,4 +1,4 @@
--- Entries behind entries: a front of a policy is a policy.
+-- Entries after entries: a front of a policy is a policy.
 use Rattle.std.proofs.Common.{◌≡◌, ℕ, ◌+◌, ◌<◌, List, [], ◌∷◌, ◌++◌, length, get_or, take, drop, reverse}
 use Rattle.std.proofs.Common.{map, sym, ap, subst, ◌∙◌, append_assoc, add_assoc, zero-add, arith}
 use Rattle.std.specs.List.{AllByRecursion}
@@ -11,7 +11,7 @@ use Rattle.sudo_policy.specs.Policy.{IsEntry, IsPlaced, ArePlaced, KnowsRule, we
 use Rattle.sudo_policy.specs.Printing.{line_text, canon}
 use Rattle.sudo_policy.specs.Reading.{with_rules}
 
--- the entries above what stands behind these
+-- the entries above whatever follows these
 pub onto : List Entry → List Entry → List Entry
 onto above es = reverse es ++ above
 
@@ -25,7 +25,7 @@ onto-cons above e es =
     let one : reverse (e ∷ es) ≡ reverse es ++ e ∷ [] = reverse-append (e ∷ []) es in
     ap (λ (x : List Entry). x ++ above) one ∙ append_assoc (reverse es) (e ∷ []) above
 
--- ---- what holds of each
+-- ---- what holds of each element
 
 pub all_front : {X : Type 0} (P : X → Type 0) (xs ys : List X) → AllByRecursion P (xs ++ ys) → AllByRecursion P xs
 all_front P [] ys h = tt
@@ -66,7 +66,7 @@ weight_both above (e ∷ es) fs =
 pub canon_both : (es fs : List Entry) → canon (es ++ fs) ≡ canon es ++ canon fs
 canon_both es fs = flat_map-append line_text es fs
 
--- entries in two halves, printed one behind the other
+-- entries in two halves, printed one after the other
 pub canon_halves : (es : List Entry) (half : ℕ) → canon (take half es) ++ canon (drop half es) ≡ canon es
 canon_halves es half = sym (canon_both (take half es) (drop half es)) ∙ ap canon (take-append-drop half es)
 
@@ -87,7 +87,7 @@ policy_front es fs p = record {
   short = omega (arith, p.short, ap length (canon_both es fs), length-append (canon es) (canon fs));
 }
 
--- the next entry stands where those in front of it are above it
+-- the next entry is placed below those before it
 pub next_placed : (es : List Entry) (e : Entry) → ArePlaced [] (es ++ e ∷ []) → IsPlaced (reverse es) e
 next_placed es e h =
     let P : List Entry → Type 0 = λ xs. ArePlaced xs (e ∷ []) in
@@ -123,7 +123,7 @@ rules_known : (above : List Entry) (rules : List Rule) → ArePlaced above (map 
 rules_known above [] h = tt
 rules_known above (r ∷ rules) h = (h.0, each_above above r rules (rules_known (entries.Rule r ∷ above) rules h.1))
 
--- rules behind a policy use what its entries define
+-- rules after a policy use only what its entries define
 pub extended_known : (es : List Entry) (rules : List Rule) → IsPolicy (with_rules es rules) → AllByRecursion (KnowsRule (reverse es)) rules
 extended_known es rules p =
     let P : List Entry → Type 0 = λ xs. ArePlaced xs (map entries.Rule rules) in

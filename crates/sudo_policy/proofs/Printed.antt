@@ -12,14 +12,14 @@ tail_suc f (x ∷ xs) zero d h = simp append-nil
 tail_suc f (x ∷ xs) (suc i) d h =
     ap (λ (t : List ℕ). (codes ", " ++ f x) ++ t) (tail_suc f xs i d (omega arith)) ∙ simp append_assoc
 
--- the items behind the first
+-- the items after the first
 pub tail_more : {X : Type 0} (f : X → List ℕ) (xs : List X) (i : ℕ) (d : X) (old : List ℕ) → i < length xs
     → ((old ++ tail_text f (take i xs)) ++ codes ", ") ++ f (get_or xs i d) ≡ old ++ tail_text f (take (i + 1) xs)
 tail_more f xs i d old h =
     let one : i + 1 ≡ suc i = omega arith in
     rw (one, tail_suc f xs i d h) (simp append_assoc)
 
--- an alias's list behind what stands before it
+-- the list of an alias, after what stands before it
 pub head_and_list : (old kind name list : List ℕ) → (old ++ alias_text kind name []) ++ list ≡ old ++ alias_text kind name list
 head_and_list old kind name list = simp append_assoc
 

@@ -44,7 +44,7 @@ lex_same a b ts us e f h = subst (Lexes b) f (subst (λ (x : List ℕ). Lexes x 
 
 -- ---- what is printed and read
 
--- what f prints, behind a blank or not, is read as the tokens that g gives
+-- what f prints, after a blank or not, is read as the tokens that g gives
 abbrev pub IsPrinted : {X : Type 0} → (X → Type 0) → (X → List ℕ) → (Bool → X → List Tok) → Type 0
 IsPrinted {X} P f g =
     (a : Bool) (x : X) (rest : List ℕ) (ts : List Tok) → P x → goes_on rest ≡ false → Lexes rest ts → Lexes (gap a ++ (f x ++ rest)) (g a x ++ ts)
@@ -161,7 +161,7 @@ lex_rule Any rest ts is stops h = h
 lex_rule Empty rest ts is stops h = lex_mark true quote (quote ∷ rest) (mark false quote ∷ ts) refl (lex_mark false quote rest ts refl h)
 lex_rule (Exactly args) rest ts is stops h = lex_args args rest ts is.0 stops h
 
--- what is printed behind a head
+-- what is printed after a head
 abbrev behind_head : CmndItem → List ℕ
 behind_head (cmnds.Alias w) = []
 behind_head (cmnds.Cmnd c) = rule_text (rule_of c)

@@ -136,7 +136,7 @@ tag_given false = refl
 
 -- ---- the line
 
--- what is printed behind the targets, and how it is read
+-- what is printed after the targets, and how it is read
 what_toks : Rule → List Tok
 what_toks r = date_toks (codes "NOTBEFORE") r.not_before ++ (date_toks (codes "NOTAFTER") r.not_after ++ (tag_toks r.nopasswd ++ (cmnd_toks true r.cmnd ++ [])))
 

@@ -142,7 +142,7 @@ cmnd_head_word (cmnds.Cmnd c) h = head_word c h.head
 bare_arg_byte : (b : ℕ) → is_arg_byte b ≡ true → is_escaped b ≡ false → is_word_byte b ≡ true
 bare_arg_byte b h k = grind (arith, nat_tests)
 
--- the text of a byte, and a word behind it
+-- the text of a byte, and a word after it
 byte_text : (b : ℕ) (rest : List ℕ) → is_arg_byte b ≡ true → is_word_text rest ≡ true → is_word_text (escaped_byte b ++ rest) ≡ true
 byte_text b rest h k =
     elim (cases_Bool (is_escaped b)) [

@@ -40,7 +40,7 @@ word_no_mark m [] h = tt
 word_no_mark m (word a n w ∷ ts) h = tt
 word_no_mark m (mark a k ∷ ts) h = absurd h
 
--- not with a word that `=` stands directly behind
+-- not with a word directly before `=`
 abbrev pub NotDate : List Tok → Type 0
 NotDate ts = (a : Bool) (w : List ℕ) (next : List Tok) → ts ≡ word a 0 w ∷ mark false equals ∷ next → ⊥
 
@@ -156,7 +156,7 @@ equals_no_end (word a n w ∷ ts) next h e = absurd h
 equals_no_end (mark a m ∷ ts) next (inl h) e = let same : m ≡ equals = cc in absurd (omega arith)
 equals_no_end (mark a m ∷ ts) next (inr h) e = let same : m ≡ equals = cc in absurd (omega arith)
 
--- no `=` stands behind a head
+-- no `=` follows a head
 rule_no_equals : (q : ArgRule) (r next : List Tok) → EndsCmnd r → rule_toks q ++ r ≡ mark false equals ∷ next → ⊥
 rule_no_equals Any r next n e = equals_no_end r next n e
 rule_no_equals Empty r next n e = absurd cc
@@ -186,7 +186,7 @@ tags_word : (ts : List Tok) (tags : List Bool) (r : List Tok) → SpellsTags ts 
 tags_word ts [] r g n = subst BeginsWord (sym g) n
 tags_word ts (t ∷ tags) r g n = subst BeginsWord (sym g.3) tt
 
--- `:` is no `=`
+-- `:` is not `=`
 colon_no_equals : (a b : Bool) (ts us : List Tok) → mark a colon ∷ ts ≡ mark b equals ∷ us → ⊥
 colon_no_equals a b ts us e = let same : ◌≡◌ {A = ℕ} colon equals = cc in absurd (omega arith)
 

@@ -1,4 +1,4 @@
--- What is kept of aliases, as entries are added.
+-- What is kept for aliases, as entries are added.
 use Rattle.std.proofs.Common.{◌≡◌, ℕ, ◌+◌, ◌≤◌, Bool, true, false, cond, ◌||◌, List, [], ◌∷◌, ◌++◌, length}
 use Rattle.std.proofs.Common.{reverse, Option, Some, None, refl, sym, ap, subst, ◌∙◌, inl, inr, arith}
 use Rattle.std.specs.Prelude.{IfSome}
@@ -64,7 +64,7 @@ table_push {X} alias_of defs old new name place list t d =
           (depth_of alias_of (alias_depth alias_of defs) list) (alias_depth alias_of defs n) depth (t.deep n);
     }
 
--- what may be defined by what is kept may be defined by the definitions, and the other way round
+-- an alias may be defined by what is kept exactly where it may be by the definitions
 pub new_is : {X : Type 0} (alias_of : X → Option (List ℕ)) (defs : List (Definition X)) (m : Aliases) (name : List ℕ) (list : List (Signed X))
     → IsTable alias_of defs m → IsDefinable alias_of m name list → IsNew alias_of defs name list
 new_is alias_of defs m name list t d = record {

@@ -1,4 +1,4 @@
--- The text of a word is cut from the bytes behind it in one way.
+-- The text of a word is cut from the bytes after it in one way.
 use Rattle.std.proofs.Common.{eqb, ◌≡◌, ℕ, true, false, ◌⊎◌, inl, inr, List, [], ◌∷◌, ◌++◌, refl, sym, ap, ◌∙◌, arith}
 use Rattle.std.proofs.lemmas.Bool.{false≢true, and_parts, and_from, or_left, or_right}
 use Rattle.std.proofs.lemmas.Bool.Decides.{nat_tests}

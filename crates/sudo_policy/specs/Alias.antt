@@ -33,7 +33,7 @@ abbrev pub cmnd_def : Entry → List (Definition CmndItem)
 cmnd_def (entries.CmndAlias name list) = record { name = name; list = list } ∷ []
 cmnd_def other = []
 
--- those of entries that are listed from the nearest to the farthest above
+-- the definitions among entries, which are listed from the nearest to the farthest above
 abbrev pub user_defs : List Entry → List (Definition (Item Text))
 user_defs above = flat_map user_def above
 
@@ -55,8 +55,8 @@ abbrev pub DefinedAt : {X : Type 0} → (Entry → List (Definition X))
 DefinedAt def es place name list =
     option_map def (slice_get es place) ≡ Some (record { name = name; list = list } ∷ [])
 
--- What holds of an alias is what holds of its list, where the aliases in the list are taken by the
--- definitions above it.
+-- The value of an alias is the value of its list, where each alias in the list has the value that
+-- the definitions above this one give it. A name that is not defined has the value `unknown`.
 abbrev pub by_definition : {X V : Type 0}
     → ((Text → V) → List (Signed X) → V) → V → List (Definition X) → Text → V
 by_definition of_list unknown [] name = unknown
@@ -64,7 +64,7 @@ by_definition of_list unknown (d ∷ above) name =
     if bytes_eq d.name name then of_list
     (by_definition of_list unknown above) d.list else by_definition of_list unknown above name
 
--- the alias that an item is, if it is one
+-- the name of the alias, if the item is one
 abbrev pub item_alias : Item Text → Option Text
 item_alias items.All = None
 item_alias (items.Name name) = None
@@ -92,8 +92,8 @@ list_weight alias_of weigh list = sum_by (λ s. item_weight weigh (alias_of s.it
 abbrev pub alias_weight : {X : Type 0} → (X → Option Text) → List (Definition X) → Text → ℕ
 alias_weight alias_of defs = by_definition (list_weight alias_of) 0 defs
 
--- ---- depth: an alias's is 1 more than the greatest of the aliases in its list, and 1 where it has
--- none
+-- ---- depth: an alias is 1 deeper than the deepest alias in its list, and has depth 1 if the list
+-- has no alias
 
 abbrev pub item_depth : (Text → ℕ) → Option Text → ℕ
 item_depth deep None = 0

@@ -17,7 +17,8 @@ pub record WeighsItsList {X : Type 0} (alias_of : X → Option Text)
   pub depth :
       alias_depth alias_of defs name ≡ 1 + list_depth alias_of (alias_depth alias_of defs) list
 
--- each alias of a kind does, wherever the entries define it, by all that they define of the kind
+-- this holds for each alias of a kind, wherever the entries define it, by all of their definitions
+-- of the kind
 abbrev pub EachWeighsItsList : {X : Type 0} → (X → Option Text)
     → (Entry → List (Definition X)) → List Entry → Type 0
 EachWeighsItsList {X} alias_of def es =

@@ -10,7 +10,7 @@ use Rattle.sudo_policy.specs.declared.fault.LineFault.TheVariants.{TooLarge, NoM
 use Rattle.sudo_policy.specs.declared.fault.ReadFault.{ReadFault}
 use Rattle.sudo_policy.specs.Text.{Text}
 
--- its code and name
+-- the code and the name of a fault
 abbrev pub line_fault_text : LineFault → Text
 line_fault_text BadWord = codes "S3 BadWord"
 line_fault_text Unexpected = codes "S4 Unexpected"
@@ -27,6 +27,6 @@ kind_text TooLong = codes "S1 TooLong"
 kind_text BadByte = codes "S2 BadByte"
 kind_text (Line fault) = line_fault_text fault
 
--- its kind, and its line in decimal: 0 where there is no text
+-- the kind of a fault, and its line in decimal: 0 where there is no text
 abbrev pub fault_text : ReadFault → Text
 fault_text f = kind_text f.kind ++ codes " line " ++ decimal f.line

@@ -1,5 +1,5 @@
 -- The grammar of a line (sudoers(5), "SUDOERS FILE FORMAT"): definitions of aliases, or a user
--- specification. Each relation is of tokens, what stands at their front, and the tokens that follow
+-- specification. Each relation is between tokens, what they begin with, and the tokens that follow
 -- it. A token's Bool says whether blanks stand before it: a variable where they may, true where
 -- they must, false where they may not.
 use Rattle.std.specs.Prelude.{◌≡◌, ℕ, ◌%◌, ◌==◌, Bool, true, false, ◌⊎◌, List, [], ◌∷◌}
@@ -30,7 +30,7 @@ abbrev pub begins_spaced : List Tok → Bool
 begins_spaced [] = false
 begins_spaced (t ∷ ts) = is_spaced t
 
--- ---- lists: one or more, with a mark between, and blanks round it or not
+-- ---- lists: one or more elements, with a mark between, and blanks round it or not
 
 abbrev pub More : {X : Type 0} → ℕ → (List Tok → X → List Tok → Type 0)
     → List Tok → List X → List Tok → Type 0
@@ -119,7 +119,7 @@ GivesBound before after date new_before new_after =
     × (new_after ≡ after)) ⊎ ((date.word ≡ codes "NOTAFTER") × (after ≡ None)
     × (new_after ≡ Some date.moment) × (new_before ≡ before))
 
--- What the options say of the bounds, in order, after options that gave these so far.
+-- The bounds that the options give, in order, after earlier options that gave these so far.
 abbrev pub Bounds : (before after : Option ℕ) → List Date
     → (not_before not_after : Option ℕ) → Type 0
 Bounds before after [] not_before not_after = (not_before ≡ before) × (not_after ≡ after)

@@ -8,7 +8,7 @@ use Rattle.sudo_words.specs.Word.{is_letter_or_digit}
 use Rattle.sudo_words.specs.Command.{is_escaped}
 use Rattle.sudo_policy.specs.Span.{Each}
 
--- the bytes of a text: tab, newline, and the printed ones of ASCII
+-- the bytes of a text: tab, newline, and the printable ones of ASCII
 abbrev pub is_text_byte : ℕ → Bool
 is_text_byte b = (b == tab) || (b == newline) || (nat_le space b && nat_le b (byte "~"))
 
@@ -28,15 +28,15 @@ is_word_byte b =
     || (b == byte "/") || (b == byte "+") || (b == byte "-") || (b == byte "@")
     || (b == byte "%")
 
--- and of `,`, `:` and `=`, each after a backslash
+-- the text of a word: such bytes, and `,`, `:` and `=`, each after a backslash
 abbrev pub is_word_text : List ℕ → Bool
 is_word_text [] = true
 is_word_text (b ∷ []) = is_word_byte b
 is_word_text (b ∷ c ∷ rest) = if b == backslash then is_escaped c
     && is_word_text rest else is_word_byte b && is_word_text (c ∷ rest)
 
--- Whether a word before these bytes would go on with them. A word is cut as long as it goes, or
--- else one could be cut in two, and a text would spell two things.
+-- Whether a word before these bytes would go on with them. A word is cut as long as it can be;
+-- otherwise one word could be cut in two, and a text would spell two things.
 abbrev pub goes_on : List ℕ → Bool
 goes_on [] = false
 goes_on (b ∷ []) = is_word_byte b
@@ -61,18 +61,19 @@ abbrev pub text_of : Tok → List ℕ
 text_of (word spaced n text) = bangs n ++ text
 text_of (mark spaced byte) = byte ∷ []
 
--- whether there is any
+-- whether there is any blank
 abbrev pub is_some_blank : List ℕ → Bool
 is_some_blank [] = false
 is_some_blank (b ∷ bs) = true
 
--- the token is one, and ends where the rest begins
+-- the token is well formed, and ends where the rest begins
 abbrev pub IsTok : Tok → List ℕ → Type 0
 IsTok (word spaced n text) rest =
     (0 < length text) × (is_word_text text ≡ true) × (goes_on rest ≡ false)
 IsTok (mark spaced byte) rest = is_mark byte ≡ true
 
--- The bytes are these tokens in order, with blanks before those that say so and after the last.
+-- The bytes are these tokens in order, with blanks before those that say so, and perhaps after the
+-- last.
 abbrev pub Lexes : List ℕ → List Tok → Type 0
 Lexes bytes [] = Each is_blank bytes
 Lexes bytes (t ∷ ts) =

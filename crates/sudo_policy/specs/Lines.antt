@@ -71,9 +71,9 @@ IsBody line body =
 abbrev pub Joined : List Text → List Text → Type 0
 Joined [] joined = joined ≡ []
 Joined (line ∷ lines) joined =
-    -- the first is complete, and the rest is joined for itself
+    -- the first is complete, and the rest is joined by itself
     ((body : Text) × (more : List Text) × IsBody line body
     × (joined ≡ body ∷ more) × Joined lines more)
-    -- or the first goes on, and what comes of the rest follows after one blank
+    -- or the first goes on, and the first joined line of the rest follows it after one space
     ⊎ ((front body : Text) × (more : List Text) × IsContinued line front
     × (joined ≡ (front ++ space ∷ body) ∷ more) × Joined lines (body ∷ more))

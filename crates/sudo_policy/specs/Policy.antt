@@ -31,7 +31,7 @@ abbrev pub IsCmndItem : CmndItem → Type 0
 IsCmndItem (cmnds.Alias name) = is_alias_name name ≡ true
 IsCmndItem (cmnds.Cmnd cmnd) = IsLawful cmnd
 
--- a list has an item at least, and each is of its form
+-- a list has at least one item, and each has its form
 abbrev pub IsList : {X : Type 0} → (X → Type 0) → List (Signed X) → Type 0
 IsList Is list = (1 ≤ length list) × AllByRecursion (λ s. Is s.item) list
 
@@ -51,7 +51,8 @@ IsEntry (entries.HostAlias name list) =
 IsEntry (entries.CmndAlias name list) = (is_alias_name name ≡ true) × IsList IsCmndItem list
 IsEntry (entries.Rule rule) = IsRule rule
 
--- ---- places: below the entries above, which are listed from the nearest to the farthest
+-- ---- where an entry may be placed, below the entries above, which are listed from the nearest to
+-- the farthest
 
 -- An alias is new in its kind, what its list uses is defined above, and its depth is within the
 -- limit.

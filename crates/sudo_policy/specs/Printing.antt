@@ -55,7 +55,8 @@ date_text option (Some moment) = option ++ codes "=" ++ stamp moment ++ codes " 
 abbrev pub tag_text : Bool → Text
 tag_text nopasswd = if nopasswd then codes "NOPASSWD: " else []
 
--- what stands before the `(` and after the `)`
+-- what stands before the dates and the command: the users, the hosts, and the targets in
+-- parentheses
 abbrev pub who_text : Rule → Text
 who_text r = names_text r.users ++ codes " " ++ names_text r.hosts
     ++ codes " = (" ++ names_text r.runas ++ codes ") "

@@ -7,7 +7,7 @@ use Rattle.sudo_policy.specs.declared.entry.Rule.{Rule}
 use Rattle.sudo_policy.specs.declared.entry.Entry.{Entry}
 use Rattle.sudo_policy.specs.declared.entry.Entry.TheVariants as entries
 
--- a byte stands in the text that no text may have
+-- the text has a byte that no text may have
 abbrev pub HasOtherByte : Text → Type 0
 HasOtherByte text =
     (front rest : Text) × (b : ℕ) × (text ≡ front ++ b ∷ rest) × (is_text_byte b ≡ false)

@@ -15,7 +15,7 @@ use crate::fault::LineFault;
 use std::alloc::Global;
 use std::slice;
 
-/// The aliases of all four kinds. One name may stand in several.
+/// The aliases of all four kinds. One name may be defined in several.
 #[derive(Drop)]
 pub struct AliasKinds {
     pub users: Aliases,
@@ -37,7 +37,7 @@ impl AliasKinds {
         }
     }
 
-    /// How much the rule weighs, where each alias in it is defined in the kind of its place.
+    /// The weight of the rule, or `None` if an alias in it is not defined in the kind of its place.
     pub fn rule_weight(&self, rule: &Rule) -> Option<usize>
         ensures { MatchOption result (¬ RuleIsKnown self.now rule.now) (λ w.
             RuleIsKnown self.now rule.now × (w ≡ stopped (rule_weight_in self.now rule.now))) }
@@ -61,10 +61,12 @@ impl AliasKinds {
         true
     }
 
-    /// Adds what an entry at this place defines, and gives what the entry weighs.
+    /// Adds what an entry at this place defines, and returns the entry's weight.
     ///
-    /// `AliasTwice` comes where its name is defined in its kind, else `UnknownAlias` where it uses
-    /// an alias that is not, else `TooLarge` where its depth is past the limit.
+    /// Fails with `AliasTwice` if the name that the entry defines is already defined in its kind,
+    /// else with `UnknownAlias` if the entry uses an alias that is not defined, else with
+    /// `TooLarge` if the depth of the new alias is past the limit; and with `NoMemory` if memory
+    /// runs out.
     pub fn enter(&mut self, alloc: Global, place: usize, entry: &Entry) -> Result<usize, LineFault>
         ensures found { (es : List Entered) → AreAliasKinds es self.old → place ≡ length es
             → IfOk result (λ w. IsPlaced (reverse es) entry.now × AreAliasKinds (es

@@ -15,20 +15,20 @@ use std::alloc::Global;
 use std::collections::HashMap;
 use sudo_words::{AliasName, Form, Word};
 
-/// The most that a policy weighs.
+/// The greatest weight of a policy.
 pub const MOST_WEIGHT: usize = 131_072;
 
 /// One more than that: a greater weight is kept as this.
 const TOO_HEAVY: usize = MOST_WEIGHT + 1;
 
-/// The most that an alias's depth is.
+/// The greatest depth of an alias.
 const MOST_DEPTH: usize = 64;
 
-/// What a list may be made of: aliases, and what is none.
+/// An item of a list, which may be an alias.
 pub trait Aliased {
     ghost alias_of: { Self → Option (List ℕ) };
 
-    /// The alias that it is, if it is one.
+    /// The name of the alias, if the item is one.
     fn alias(&self) -> Option<&AliasName>
         ensures { option_copied result ≡ alias_of self.now };
 }
@@ -78,7 +78,7 @@ impl Measure {
     }
 }
 
-/// What is kept of an alias.
+/// What is kept for each alias.
 #[derive(Clone, Copy)]
 pub struct Alias {
     /// The place of its definition among the policy's entries.
@@ -103,14 +103,14 @@ impl Aliases {
         }
     }
 
-    /// What is kept of the alias. It takes no memory.
+    /// What is kept for the alias of this name, if it is one of these. It takes no memory.
     pub fn get(&self, name: &AliasName) -> Option<Alias>
         ensures { result ≡ alias_at self.now name.now }
     {
         self.known.get(name.as_str()).copied()
     }
 
-    /// The measure of an item, where it is no alias or one of these.
+    /// The measure of an item, or `None` if it is an alias that is not one of these.
     fn measured_item<T: Aliased>(&self, item: &T) -> Option<Measure>
         ensures { MatchOption result (IsItemUnmeasured self.now (T.alias_of item.now))
             (IsItemMeasured self.now (T.alias_of item.now)) }
@@ -127,7 +127,7 @@ impl Aliases {
         }
     }
 
-    /// The measure of a list, where each alias in it is one of these.
+    /// The measure of a list, or `None` if an alias in it is not one of these.
     pub fn measured<T: Aliased>(&self, list: &[Signed<T>]) -> Option<Measure>
         ensures { MatchOption result (IsUnmeasured T.alias_of self.now list.now)
             (IsMeasured T.alias_of self.now list.now) }
@@ -143,10 +143,11 @@ impl Aliases {
         Some(all)
     }
 
-    /// The measure of a list that may define an alias of this name.
+    /// The measure of a list by which an alias of this name may be defined.
     ///
-    /// `AliasTwice` comes where the name is defined, else `UnknownAlias` where the list uses an
-    /// alias that is not, else `TooLarge` where its depth is past the limit.
+    /// Fails with `AliasTwice` if the name is already defined, else with `UnknownAlias` if the list
+    /// uses an alias that is not defined, else with `TooLarge` if the depth of the new alias is
+    /// past the limit.
     fn definable<T: Aliased>(
         &self,
         name: &AliasName,
@@ -168,7 +169,8 @@ impl Aliases {
         Ok(measure)
     }
 
-    /// Adds a definition, which stands at this place. Its faults are those of `definable`.
+    /// Adds a definition that stands at this place. It fails as `definable` does, or with
+    /// `NoMemory`.
     pub fn define<T: Aliased>(
         &mut self,
         alloc: Global,

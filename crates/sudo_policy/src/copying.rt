@@ -1,4 +1,4 @@
-//! Entries copied, each as it is.
+//! Copies of entries, each equal to its original.
 
 ghost use Rattle.std.specs.Prelude.{◌≡◌, IfOk};
 

@@ -24,8 +24,7 @@ fn push<T: Drop>(items: &mut Vec<T>, item: T) -> Result<(), LineFault>
     Ok(())
 }
 
-/// Adds one more to a list, where nothing was wrong with it, and gives what was wrong with it where
-/// something was.
+/// Adds one more to a list if it was entered without a fault, and returns that fault otherwise.
 fn push_entered<T: Drop>(
     items: &mut Vec<T>,
     item: T,
@@ -54,7 +53,7 @@ pub struct Draft {
 }
 
 impl Draft {
-    /// The draft without entries.
+    /// A draft without entries.
     pub fn new(alloc: Global) -> Draft
         ensures draft { IsDraft result }
         ensures none { result.entries.items ≡ [] }
@@ -67,11 +66,12 @@ impl Draft {
         }
     }
 
-    /// Adds one more entry after its own.
+    /// Adds one more entry at the end.
     ///
-    /// `AliasTwice` comes where the entry defines an alias that is defined in its kind, else
-    /// `UnknownAlias` where it uses one that is not, else `TooLarge` where the whole is past a
-    /// limit. After a fault it is a draft no longer.
+    /// Fails with `AliasTwice` if the entry defines an alias that is already defined in its kind,
+    /// else with `UnknownAlias` if it uses one that is not defined, else with `TooLarge` if the
+    /// whole is past a limit; and with `NoMemory` if memory runs out. After a failure nothing is
+    /// promised about the draft.
     pub fn add(&mut self, alloc: Global, entry: Entry) -> Result<(), LineFault>
         requires draft { IsDraft self.old }
         requires entry { IsEntry entry }
@@ -79,13 +79,13 @@ impl Draft {
         ensures only { IsPolicy (self.old.entries.items ++ entry ∷ [])
             → IfErr result (λ e. e ≡ fault.NoMemory) }
     {
-        // One call gives the entry up, whether it was entered or not.
+        // One call takes the entry, whether it was entered or not.
         let entered = self.enter(alloc, &entry);
         push_entered(&mut self.entries, entry, entered)
     }
 
-    /// Enters what an entry defines, weighs and is long, and leaves the entries as they are. Its
-    /// faults are those of `add`.
+    /// Enters what an entry defines, its weight and its length, and leaves the entries as they are.
+    /// It fails as `add` does.
     fn enter(&mut self, alloc: Global, entry: &Entry) -> Result<(), LineFault>
         requires draft { IsDraft self.old }
         requires entry { IsEntry entry.now }

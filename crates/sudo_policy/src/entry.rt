@@ -32,7 +32,7 @@ pub enum CmndItem {
 }
 
 /// Who may run which command, on which hosts, as whom and when. What a later command of a list
-/// inherits is written in.
+/// inherits is filled in.
 #[derive(Debug, Drop)]
 pub struct Rule {
     /// The users whom it is about.
@@ -41,9 +41,9 @@ pub struct Rule {
     pub hosts: Items<Signed<Item<HostName>>>,
     /// The targets that the command may run as.
     pub runas: Items<Signed<Item<Name>>>,
-    /// The first moment at which it takes part; absent, there is no bound.
+    /// The first moment at which it takes part; `None` means no bound.
     pub not_before: Option<Moment>,
-    /// The last moment at which it takes part; absent, there is no bound.
+    /// The last moment at which it takes part; `None` means no bound.
     pub not_after: Option<Moment>,
     /// Whether no password is asked for.
     pub nopasswd: bool,

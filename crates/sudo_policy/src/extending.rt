@@ -85,8 +85,9 @@ fn add_both(
 
 /// The policy with these rules after its entries.
 ///
-/// `UnknownAlias` comes where a rule uses an alias that the base lacks, else `TooLarge` where the
-/// whole is past a limit, and `NoMemory` where memory runs out. There is no text, so the line is 0.
+/// Fails with `UnknownAlias` if a rule uses an alias that the base lacks, else with `TooLarge` if
+/// the whole is past a limit, and with `NoMemory` if memory runs out. There is no text, so the line
+/// is 0.
 pub fn extend(alloc: Global, base: &Policy, rules: Vec<Rule>) -> Result<Policy, ReadFault>
     requires { AllByRecursion IsRule rules.items }
     ensures found { IfOk result (λ p. p ≡ reading.with_rules base.now rules.items) }

@@ -1,4 +1,4 @@
-//! Why a text is no policy.
+//! Why a text is not a policy.
 
 ghost use Rattle.std.specs.Prelude.{◌≡◌};
 ghost use Rattle.sudo_policy.specs.declared.fault.LineFault.TheVariants.{NoMemory};
@@ -14,7 +14,7 @@ use sudo_words::{CmndFault, WordFault};
 pub enum LineFault {
     /// A word is not of the form that its place asks for.
     BadWord,
-    /// A word or mark stands where the grammar has none, or one is missing.
+    /// A word or mark stands where the grammar allows none, or one is missing.
     Unexpected,
     /// An alias is used that no line above defines.
     UnknownAlias,
@@ -22,9 +22,9 @@ pub enum LineFault {
     AliasTwice,
     /// A reserved word stands in the place of an alias's name.
     Reserved,
-    /// A time is none, or out of range.
+    /// A time is malformed, or out of range.
     BadMoment,
-    /// The form is one of sudoers that the desk leaves out.
+    /// A form of sudoers(5) that the desk leaves out.
     LeftOut,
     /// The policy is past a limit.
     TooLarge,
@@ -71,12 +71,12 @@ impl<T: Drop> From<AllocFailed<T>> for LineFault {
     }
 }
 
-/// What is wrong with a text that is no policy. It is shown as its code and name.
+/// What is wrong with a text that is not a policy. It is shown as its code and name.
 #[derive(Clone, Copy, Debug, PartialEq, Eq)]
 pub enum FaultKind {
     /// The text has more than 16 MiB.
     TooLong,
-    /// A byte is neither a tab, a newline nor a printed one of ASCII.
+    /// A byte is not a tab, a newline or a printable ASCII character.
     BadByte,
     /// A line is wrong, or an entry.
     Line(LineFault),
@@ -103,7 +103,7 @@ impl Error for FaultKind {}
 /// UnknownAlias line 3`.
 #[derive(Clone, Copy, Debug, PartialEq, Eq)]
 pub struct ReadFault {
-    /// The line.
+    /// The line, from 1; 0 where there is no text.
     pub line: usize,
     /// What is wrong.
     pub kind: FaultKind,

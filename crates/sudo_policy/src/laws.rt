@@ -1,5 +1,5 @@
-//! The laws, each the contract of a function that does nothing. Those of policies' texts stand
-//! here.
+//! The laws, each the contract of a function that does nothing. Those of policies' texts are
+//! written here, and the others are re-exported.
 
 ghost use Rattle.std.specs.Prelude.{◌≡◌, ℕ, List};
 ghost use Rattle.sudo_policy.specs.declared.entry.Entry.{Entry as Entered};
@@ -20,7 +20,7 @@ pub fn canon_spells()
     ensures { (es : List Entered) → IsPolicy es → Spells (canon es) es }
 {}
 
-/// Two policies of one canonical text are one policy.
+/// Two policies with the same canonical text are the same policy.
 pub fn canon_is_one()
     ensures { (a b : List Entered) → IsPolicy a → IsPolicy b → canon a ≡ canon b → a ≡ b }
 {}

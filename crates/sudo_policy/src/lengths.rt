@@ -12,7 +12,7 @@ ghost use Rattle.sudo_policy.specs.Printing.{signed_text, tail_text, who_text};
 use crate::entry::{CmndItem, Entry, Item, Rule, Signed};
 use sudo_words::{AliasName, Form, Moment, Word, cmnd_len};
 
-/// The most bytes that a text has, also the canonical one of a policy: 16 MiB.
+/// The most bytes of a text, and of the canonical text of a policy: 16 MiB.
 pub const MOST_TEXT_BYTES: usize = 16_777_216;
 
 /// One more than that: a greater length is counted as this.
@@ -29,7 +29,7 @@ fn plus(first: usize, second: usize) -> usize
 pub trait Lengthy: Sized {
     ghost text: { Self → List ℕ };
 
-    /// What is known of one.
+    /// What must hold of one.
     ghost holds: { Self → Type 0 };
 
     /// How long its text is.

@@ -104,8 +104,8 @@ fn push_tag(out: &mut String, nopasswd: bool) -> Result<(), AllocError>
     Ok(())
 }
 
-/// Adds a command's text. One without a rule for its arguments is its head, which needs no text of
-/// its own.
+/// Adds a command's text. A command without a rule for its arguments is its head alone, for which
+/// no string is made.
 pub fn push_command(alloc: Global, out: &mut String, cmnd: &Cmnd) -> Result<(), NoMemory>
     requires { IsLawful cmnd.now }
     ensures { OnOk result (string_bytes out.new ≡ string_bytes out.old ++ cmnd_text cmnd.now) }
@@ -246,7 +246,7 @@ fn push_line(alloc: Global, out: &mut String, entry: &Entry) -> Result<(), NoMem
     Ok(())
 }
 
-/// All entries, one a line, in room for so many bytes at first.
+/// All entries, one per line, with room reserved for so many bytes at first.
 fn printed(alloc: Global, entries: &[Entry], room: usize) -> Result<String, NoMemory>
     requires { AllByRecursion IsEntry entries.now }
     ensures { IfOk result (λ s. string_bytes s ≡ canon entries.now) }
@@ -267,9 +267,9 @@ pub fn print_policy(alloc: Global, policy: &Policy) -> Result<String, NoMemory>
     printed(alloc, policy.entries(), policy.text_len())
 }
 
-/// The text of the entries, which has this length, one a line. The second half of them is printed
-/// by itself and given back before the first half is printed: so the whole text never stands beside
-/// all entries.
+/// The text of the entries, one per line, which has this length. The second half of them is printed
+/// by itself and freed before the first half is printed, so that the whole text is never in memory
+/// beside all entries.
 fn printed_in_halves(alloc: Global, entries: Vec<Entry>, len: usize) -> Result<String, NoMemory>
     requires { AllByRecursion IsEntry entries.items }
     ensures { IfOk result (λ s. string_bytes s ≡ canon entries.items) }
@@ -285,8 +285,8 @@ fn printed_in_halves(alloc: Global, entries: Vec<Entry>, len: usize) -> Result<S
     Ok(out)
 }
 
-/// The policy's canonical text, as `print_policy` prints it. The policy is given back on the way,
-/// which takes less memory at once.
+/// The policy's canonical text, as `print_policy` prints it. The policy is freed on the way, so
+/// that less memory is used at once.
 pub fn print_owned(alloc: Global, policy: Policy) -> Result<String, NoMemory>
     ensures text { IfOk result (λ s. string_bytes s ≡ canon policy) }
     ensures read_back { IfOk result (λ s. Spells (string_bytes s) policy) }

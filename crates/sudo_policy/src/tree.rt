@@ -1,4 +1,4 @@
-//! What a line says, before what a command inherits is written in.
+//! What a line says, before what a command inherits is filled in.
 
 use crate::entry::{CmndItem, Item, Signed};
 use sudo_words::{AliasName, HostName, Items, Moment, Name};
@@ -12,7 +12,7 @@ pub struct Definition<T> {
     pub list: Items<Signed<T>>,
 }
 
-/// A command of a user specification, with what it gives of its own.
+/// A command of a user specification, with the settings that it gives itself.
 #[derive(Drop)]
 pub struct CmndSpec {
     /// The targets in parentheses, if it has any.
@@ -39,7 +39,7 @@ pub struct Part {
 /// What holds after some commands of a list, for those that follow.
 #[derive(Drop)]
 pub struct Settings {
-    /// The targets that were given last, `root` before any.
+    /// The targets that were given last, or `root` if none were.
     pub runas: Items<Signed<Item<Name>>>,
     /// The date of `NOTBEFORE` that was given last.
     pub not_before: Option<Moment>,

@@ -11,7 +11,7 @@ use Rattle.sudo_syntax.proofs.Leads.{Leads}
 abbrev pub AreArgs : List (List ℕ) → Type 0
 AreArgs args = AllByRecursion (λ arg. is_arg arg ≡ true) args
 
--- lawful arguments, and no other behind them
+-- lawful arguments, and no other argument after them
 pub record Fit (args : List (List ℕ)) (r : List Tok) : Type 0 where
   pub each : AreArgs args
   pub few : length args ≤ 16

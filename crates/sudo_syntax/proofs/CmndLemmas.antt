@@ -83,14 +83,14 @@ head_no_tag commands.All tag is e = no_all_tag tag e
 head_no_tag (commands.Path file rule) tag is e = no_slash_tag tag (subst BeginsSlash e (file_slash file is.0))
 head_no_tag (commands.Dir dir) tag is e = no_slash_tag tag (subst BeginsSlash e (dir_slash dir is.0))
 
--- no tag's word begins a command
+-- a command does not begin with a tag's word
 pub cmnd_no_tag : (i : CmndItem) (tag : Bool) → IsCmndItem i → head_of i ≡ tag_word tag → ⊥
 cmnd_no_tag (cmnds.Alias name) tag is e = no_alias_tag tag (subst (λ (w : List ℕ). is_alias_name w ≡ true) e is)
 cmnd_no_tag (cmnds.Cmnd c) tag is e = head_no_tag c tag is.head e
 
--- ---- what is said of the arguments
+-- ---- the rule for the arguments
 
--- what ends a command begins with no argument
+-- what ends a command does not begin with an argument
 pub ends_no_arg : (rest : List Tok) → EndsBy comma rest → NoArg rest
 ends_no_arg [] h = λ text next e. absurd cc
 ends_no_arg (word a n t ∷ ts) h = absurd h

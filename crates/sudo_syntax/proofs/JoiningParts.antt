@@ -192,7 +192,7 @@ listed_append m Is a ts next [] ys rest h k = absurd h
 listed_append m Is a ts next (x ∷ xs) ys rest (mid, is, more) k =
     (mid, is, more_append m Is mid xs ys (mark a m ∷ next) rest more (listed_more m Is a next ys rest k))
 
--- ---- blanks before the first token are of no account
+-- ---- blanks before the first token do not matter
 
 record Frees {X : Type 0} (Is : List Tok → X → List Tok → Type 0) : Type 0 where
   spaces : (ts : List Tok) (x : X) (rest : List Tok) → Is ts x rest → Is (spaced ts) x rest

@@ -34,7 +34,7 @@ first_behind : (front line : List ℕ) (rest : List (List ℕ)) (body : List ℕ
 first_behind [] line rest body more j = inl (refl, j)
 first_behind (b ∷ front) line rest body more j = inr (omega arith, body, more, refl, j)
 
--- a line that is neither a body nor goes on stands in no text
+-- a line that neither is a body nor goes on is in no text
 pub stands_nowhere : (front line : List ℕ) (rest : List (List ℕ)) → ((body : List ℕ) → IsBody line body → ⊥)
     → ((part : List ℕ) → IsContinued line part → ⊥) → (es : List Entry) → SpellsAfter front (line ∷ rest) es → ⊥
 stands_nowhere front line rest no_body no_part es (joined, j, s) =
@@ -81,7 +81,7 @@ leads_ends front line body rest here is s one = record {
       (first.1, first.3 ∙ ap (λ (h : List Entry). h ++ first.1) (one first.0 first.2), first.4);
 }
 
--- where a fault of a line that ends is memory's wherever the entries so far and those of the line are a policy, so it is for all that follow
+-- `P`, which holds if the entries so far and those of a line that ends are a policy, holds if these and those of all that follow are
 pub ends_stuck : (front line body : List ℕ) (rest : List (List ℕ)) (out : List Entry) (P : Type 0) → IsBody line body
     → ((es : List Entry) → SpellsLine (front ++ body) es → IsPolicy (out ++ es) → P)
     → (es : List Entry) → SpellsAfter front (line ∷ rest) es → IsPolicy (out ++ es) → P
@@ -170,7 +170,7 @@ pub leads_nowhere : (lines : List (List ℕ)) (out : List Entry) (front : List �
     → Leads [] lines out front [] → 0 < length front → (es : List Entry) → SpellsBy lines es → ⊥
 leads_nowhere lines out front l some es h = let a = l.only es (spells_all lines es h) in nothing_behind front a.0 some a.2
 
--- where a fault of the line is memory's wherever the entries so far and the line's and those of the rest are a policy, so it is for all lines
+-- `P`, which holds if the entries so far and those of the rest are a policy, holds if those of all lines are
 pub leads_stuck : (lines : List (List ℕ)) (out : List Entry) (front : List ℕ) (rest : List (List ℕ)) (P : Type 0) → Leads [] lines out front rest
     → ((es : List Entry) → SpellsAfter front rest es → IsPolicy (out ++ es) → P) → (es : List Entry) → SpellsBy lines es → IsPolicy es → P
 leads_stuck lines out front rest P l then es h policy =

@@ -16,7 +16,7 @@ use Rattle.sudo_syntax.specs.private.Fronts.{NoMark, EndsBy, Defines}
 use Rattle.sudo_policy.specs.Grammar.{More, Listed, Hosts, SpellsDef, SpellsPart, begins_spaced}
 use Rattle.sudo_syntax.proofs.Leads.{Leads, leads_on}
 
--- what no `m` begins does not begin with `m`
+-- tokens with `NoMark m` do not begin with the mark `m`
 pub no_mark : (m : ℕ) (ts : List Tok) → NoMark m ts → (a : Bool) (next : List Tok) → ts ≡ mark a m ∷ next → ⊥
 no_mark m [] n a next e = absurd cc
 no_mark m (word b k text ∷ ts) n a next e = absurd cc

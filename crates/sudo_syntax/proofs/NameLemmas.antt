@@ -9,7 +9,7 @@ use Rattle.sudo_policy.specs.Printing.{item_text}
 use Rattle.sudo_policy.specs.Policy.{IsItem}
 use Rattle.sudo_syntax.specs.private.Fronts.{begins_upper}
 
--- `ALL` is no alias
+-- `ALL` is not an alias
 pub all_reserved : is_alias_name (codes "ALL") ≡ true → ⊥
 unfolding is_reserved
 all_reserved h = false≢true h

@@ -166,7 +166,7 @@ no_word b n w ts mid [] [] h k = cc
 no_word b n w ts mid [] (p ∷ parts) h k = let is = k.3 in cc
 no_word b n w ts mid (s ∷ specs) parts h k = let is = h.3 in cc
 
--- the command is a file with arguments, of which the word is the first
+-- the command is a file with arguments, and the word is the first of them
 record HasArgs (c : List ℕ) (tail : List Tok) : Type 0 where
   args : List (List ℕ)
   rest : List Tok

@@ -1,4 +1,4 @@
--- Two more signs are none, and the last tag holds.
+-- Two more signs change nothing, and the last tag counts.
 use Rattle.std.proofs.Common.{◌≡◌, ℕ, ◌+◌, ◌%◌, ◌==◌, Bool, List, [], ◌∷◌, ◌++◌, Option, Some, refl, sym, ap, ◌∙◌, arith}
 use Rattle.std.specs.Option.{option_or}
 use Rattle.sudo_policy.specs.declared.entry.Signed.{Signed}

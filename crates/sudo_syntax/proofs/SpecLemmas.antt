@@ -11,14 +11,14 @@ use Rattle.sudo_syntax.specs.private.Fronts.{EndsBy, NoMark, NoTag, NoDate}
 use Rattle.sudo_syntax.proofs.ListLemmas.{no_mark}
 use Rattle.sudo_syntax.proofs.CmndLemmas.{cmnd_no_tag, args_no_equals}
 
--- a command is no tag
+-- a command is not a tag
 pub cmnd_closes_tags : (ts : List Tok) (s : Signed CmndItem) (rest : List Tok) → SpellsCmnd ts s rest → NoTag ts
 cmnd_closes_tags ts s rest h = λ a b tag next e.
     let two = sym h.toks ∙ e in
     let head : head_of s.item ≡ tag_word tag = cc in
     cmnd_no_tag s.item tag h.item head
 
--- and no date
+-- nor a date
 cmnd_no_date : (ts : List Tok) (s : Signed CmndItem) (rest : List Tok) → EndsBy comma rest → SpellsCmnd ts s rest → NoDate ts
 cmnd_no_date ts s rest f h = λ a name time next e.
     let two = sym h.toks ∙ e in

@@ -10,7 +10,7 @@ use Rattle.sudo_syntax.proofs.Leads.{Leads}
 abbrev pub Ends : Option Bool → List Tok → Type 0
 Ends v r = NoTag r
 
--- behind tags of which the last said this
+-- after tags, the last of which said this
 abbrev pub Left : Option Bool → List Tok → Option Bool → List Tok → Type 0
 Left said ts v r = (tags : List Bool) × SpellsTags ts tags r × (v ≡ option_or (last_tag tags) said)
 

@@ -54,7 +54,7 @@ lex_word bytes blanks s bs behind w rest c d f some gap g = lex_word_at bytes bl
 
 -- ---- no token
 
--- behind the `!` no word stands
+-- no word comes after the `!`
 behind_none : (s bs behind : List ℕ) → IsCut is_bang s bs behind → goes_on behind ≡ false
     → (n : ℕ) (w rest : List ℕ) → 0 < length w → is_word_text w ≡ true → s ≡ (bangs n ++ w) ++ rest → ⊥
 behind_none s bs behind d stop n [] rest some h e = omega arith
@@ -74,7 +74,7 @@ lex_none bytes blanks s bs behind c x xs e m d stop (mark a k ∷ ts) h =
     let same : x ≡ k = cc in
     absurd (false≢true (sym m ∙ ap is_mark same ∙ h.4))
 
--- where no word is, none goes on
+-- if the word cut off is empty, the bytes do not go on with one
 pub no_word : (s w rest : List ℕ) → IsWordCut s w rest → length w ≡ 0 → goes_on s ≡ false
 no_word s [] rest c e = ap goes_on c.whole ∙ c.stops
 no_word s (y ∷ w) rest c e = absurd (omega arith)

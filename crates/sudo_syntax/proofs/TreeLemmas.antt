@@ -74,7 +74,7 @@ no_item kind n items.All is e = n.0 e
 no_item kind n (items.Name w) is e = false≢true (sym n.1 ∙ ap is_name (sym e) ∙ is)
 no_item kind n (items.Alias w) is e = false≢true (sym n.2 ∙ ap is_alias_name (sym e) ∙ is)
 
--- ---- a line of one kind begins with no other's word
+-- ---- a line of one kind does not begin with another kind's word
 
 aliases_begin : {X : Type 0} (kind other : List ℕ) (Is : List Tok → Signed X → List Tok → Type 0) (ts : List Tok) (defs : List (Definition X))
     → (kind ≡ other → ⊥) → SpellsAliases kind Is ts defs → NoKind other ts
@@ -131,7 +131,7 @@ by_cmnds R ts (lines.Hosts defs) h here there = there (aliases_begin hosts_kind 
 by_cmnds R ts (lines.Cmnds defs) h here there = here defs h
 by_cmnds R ts (lines.UserSpec users parts) h here there = there (user_spec_begin cmnds_kind (all_cmnds, refl, refl) ts users parts h)
 
--- a line that begins with none of the words
+-- a line that does not begin with any of the words
 pub by_user_spec : (R : Line → Type 0) (ts : List Tok) (l : Line) → SpellsTree ts l
     → NoKind users_kind ts → NoKind runas_kind ts → NoKind hosts_kind ts → NoKind cmnds_kind ts
     → ((users : List (Signed (Item (List ℕ)))) (parts : List Part) → SpellsUserSpec ts users parts → R (lines.UserSpec users parts)) → R l

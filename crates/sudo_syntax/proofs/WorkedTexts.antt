@@ -410,7 +410,7 @@ bin_spell =
     spelled bin_text (bin_text ∷ []) (entries_of bin_line) refl (plain bin_text [] [] refl refl refl) (one_line bin_text (entries_of bin_line)
     (spells_line bin_text (word false 0 (codes "ann")) bin_toks bin_line (lexed (word false 0 (codes "ann") ∷ bin_toks) [] refl) bin_tree)) refl
 
--- ---- dates, of which the second command inherits one
+-- ---- dates, one of which the second command inherits
 
 five_january : (clock : List ℕ) (seconds : ℕ) → IsClockText clock seconds → moments.Spells (codes "20260105" ++ clock ++ codes "Z") (86_400 * 20_458 + seconds)
 unfolding date_of date_from_year date_from_month

@@ -11,17 +11,17 @@ use Rattle.sudo_policy.specs.Lines.{lines_of, is_no_hash, is_before_comment}
 use Rattle.sudo_policy.specs.Lines.{is_comment, IsContinued}
 use Rattle.sudo_policy.specs.Spelling.{Spells}
 
--- a text may have these bytes, and so many
+-- only bytes that a text may have, and not too many
 abbrev pub IsText : Text → Type 0
 IsText text = (length text ≤ most_text_bytes) × Each is_text_byte text
 
--- each spells what the other spells, where both may be texts
+-- each spells what the other spells, if both may be texts
 abbrev pub SpellAlike : Text → Text → Type 0
 SpellAlike text other =
     IsText text → IsText other → (es : List Entry)
     → (Spells text es → Spells other es) × (Spells other es → Spells text es)
 
--- The texts have the same lines, but that in one place the first has these and the other those.
+-- The texts have the same lines, except that in one place the first has these and the other those.
 pub record DifferIn (text other : Text) (these those : List Text) : Type 0 where
   pub before : List Text
   pub after : List Text

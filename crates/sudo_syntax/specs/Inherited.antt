@@ -1,4 +1,4 @@
--- What holds of each command of a list, wherever it stands (sudoers(5), "Cmnd_Spec_List").
+-- What holds for each command of a list, at any place (sudoers(5), "Cmnd_Spec_List").
 use Rattle.std.specs.Prelude.{◌≡◌, false, List, [], ◌∷◌, ◌++◌, length}
 use Rattle.std.specs.Prelude.{map, Option, Some, None, unwrap_or}
 use Rattle.std.specs.List.{AllByRecursion}
@@ -13,13 +13,13 @@ use Rattle.sudo_policy.specs.Inheritance.{root, part_rules}
 abbrev pub NoneGiven : {X : Type 0} → List (Option X) → Type 0
 NoneGiven given = AllByRecursion (λ o. o ≡ None) given
 
--- the last one given, if any is: those after it are not
+-- the last one given, if any: none is given after it
 abbrev pub LastGiven : {X : Type 0} → List (Option X) → Option X → Type 0
 LastGiven given None = NoneGiven given
 LastGiven {X} given (Some x) =
     (before after : List (Option X)) × (given ≡ before ++ Some x ∷ after) × NoneGiven after
 
--- the same, or what holds where none is given
+-- the same, or the default if none is given
 abbrev pub LastGivenOr : {X : Type 0} → X → List (Option X) → X → Type 0
 LastGivenOr {X} default given held =
     (last : Option X) × LastGiven given last × (held ≡ unwrap_or last default)
@@ -32,7 +32,7 @@ pub record Inherits (specs : List CmndSpec) (rule : Rule) : Type 0 where
   pub not_after : LastGiven (map (λ s. s.not_after) specs) rule.not_after
   pub nopasswd : LastGivenOr false (map (λ s. s.nopasswd) specs) rule.nopasswd
 
--- The command that stands after these in a part has a rule at its own place among the part's
+-- The command that comes after these in a part has a rule at its own place among the part's
 -- entries: with the part's users and hosts and the command itself, and what it inherits from the
 -- commands up to and including it.
 pub record HasRule (users : Names) (part : Part) (before : List CmndSpec)

@@ -1,4 +1,4 @@
--- What only private clauses and proofs cite: no public contract speaks of it.
+-- What only private clauses and proofs cite, and no public contract.
 -- the tokens of a line, and what stands at their front
 pub mod Tokens
 pub mod Fronts

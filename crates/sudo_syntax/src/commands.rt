@@ -28,7 +28,7 @@ use sudo_words::{
     read_arg,
 };
 
-/// The argument that a word is.
+/// The argument that a word spells.
 fn arg_of(alloc: Global, text: &str) -> Result<Arg, LineFault>
     ensures found { IfOk result (λ a. text.now ≡ arg_text a) }
     ensures only { (a : List ℕ) → is_arg a ≡ true → text.now ≡ arg_text a
@@ -41,7 +41,7 @@ fn arg_of(alloc: Global, text: &str) -> Result<Arg, LineFault>
     }
 }
 
-/// Adds the argument that a word is.
+/// Adds the argument that a word spells.
 fn push_arg(alloc: Global, args: &mut Vec<Arg>, text: &str) -> Result<(), LineFault>
     ensures found { OnOk result
         ((a : List ℕ) × (args.new.items ≡ args.old.items ++ a ∷ []) × (text.now ≡ arg_text a)
@@ -78,7 +78,8 @@ fn args_at<'a, 'b>(
     Ok((Items::new(args), read.1))
 }
 
-/// What the arguments listed at the front say, and what follows them.
+/// The rule of the arguments listed at the front, and what follows them. Any are allowed if none is
+/// listed.
 fn listed_at<'a, 'b>(
     alloc: Global,
     tokens: &'b [Token<'a>],
@@ -97,7 +98,7 @@ fn listed_at<'a, 'b>(
     Ok((ArgRule::Exactly(args), rest))
 }
 
-/// What is said of the arguments at the front, and what follows it.
+/// The rule for the arguments at the front, and what follows it.
 fn rule_at<'a, 'b>(
     alloc: Global,
     tokens: &'b [Token<'a>],
@@ -114,7 +115,7 @@ fn rule_at<'a, 'b>(
     }
 }
 
-/// The lawful command of this head and this rule.
+/// The lawful command with this head and this rule.
 fn cmnd_of(alloc: Global, head: &str, rule: ArgRule) -> Result<Cmnd, LineFault>
     ensures found { IfOk result (λ c. IsLawful c × (head_text c ≡ head.now) × (rule_of c ≡ rule)) }
     ensures only { (c : Command) → IsLawful c → head.now ≡ head_text c
@@ -127,7 +128,7 @@ fn cmnd_of(alloc: Global, head: &str, rule: ArgRule) -> Result<Cmnd, LineFault>
     }
 }
 
-/// The command or alias of this head and the tokens after it, and what follows it.
+/// The command or alias with this head and the tokens after it, and what follows it.
 fn cmnd_item_at<'a, 'b>(
     alloc: Global,
     head: &str,

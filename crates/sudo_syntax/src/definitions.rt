@@ -67,8 +67,8 @@ impl Spelled for Definition<CmndItem> {
     }
 }
 
-/// The definitions that the tokens spell after the word of their kind, where it stands at the
-/// front.
+/// The definitions that the tokens spell after the word of their kind, or `None` if that word is
+/// not at the front.
 pub(crate) fn aliases_of<T: Drop>(
     alloc: Global,
     kind: &str,

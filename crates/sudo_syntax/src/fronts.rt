@@ -11,7 +11,7 @@ ghost use Rattle.sudo_syntax.specs.private.Tokens.{mark_byte, tok, toks};
 
 use crate::token::{Mark, Token, TokenKind};
 
-/// The word that the token is, where it is one without `!` before it.
+/// The token's word, or `None` if it is a mark or has `!` before it.
 fn plain_word<'a>(token: &Token<'a>) -> Option<&'a str>
     ensures { MatchOption result ((a : Bool) (text : List ℕ) → tok token.now ≢ lex.word a 0 text)
         (λ text. tok token.now ≡ lex.word token.now.spaced 0 text.now) }
@@ -58,7 +58,7 @@ pub(crate) fn word_at<'a, 'b>(tokens: &'b [Token<'a>]) -> Option<(usize, &'a str
     }
 }
 
-/// What follows the mark, where it stands at the front.
+/// What follows the mark, or `None` if it is not at the front.
 pub(crate) fn after_mark<'a, 'b>(mark: Mark, tokens: &'b [Token<'a>]) -> Option<&'b [Token<'a>]>
     ensures found { MatchOption result (NoMark (mark_byte mark) (toks tokens.now))
         (λ rest. (a : Bool) × (toks tokens.now ≡ lex.mark a (mark_byte mark) ∷ toks rest.now)) }
@@ -70,7 +70,7 @@ pub(crate) fn after_mark<'a, 'b>(mark: Mark, tokens: &'b [Token<'a>]) -> Option<
     }
 }
 
-/// What follows `""` with blanks before and none between, where it stands at the front.
+/// What follows `""` at the front, with blanks before and none between; `None` if it is not there.
 pub(crate) fn after_empty<'a, 'b>(tokens: &'b [Token<'a>]) -> Option<&'b [Token<'a>]>
     ensures found { MatchOption result ((next : List Tok)
         → toks tokens.now ≢ lex.mark true quote ∷ lex.mark false quote ∷ next)
@@ -146,7 +146,7 @@ pub(crate) fn head_at<'a, 'b>(
     }
 }
 
-/// What follows this word, where it stands at the front.
+/// What follows this word, or `None` if it is not at the front.
 pub(crate) fn after_word<'a, 'b>(kind: &str, tokens: &'b [Token<'a>]) -> Option<&'b [Token<'a>]>
     ensures { MatchOption result (NoKind kind.now (toks tokens.now))
         (λ rest. (a : Bool) × (toks tokens.now ≡ lex.word a 0 kind.now ∷ toks rest.now)) }

@@ -86,7 +86,7 @@ pub(crate) fn rest_as<T: Spelled>(
     Ok(list)
 }
 
-/// A form of names: none begins with an upper-case letter, as `ALL` and the aliases do.
+/// A form of names that never begin with an upper-case letter, unlike `ALL` and the aliases.
 pub(crate) trait NameForm: Form {
     ghost low: { (w : List ℕ) → Self.has w ≡ true → begins_upper w ≡ false };
 }
@@ -103,7 +103,7 @@ impl NameForm for HostForm {
     ghost low = { host_low };
 }
 
-/// The word of a form that the text is.
+/// The text as a word of a form.
 pub(crate) fn word_of<F: Form>(alloc: Global, text: &str) -> Result<Word<F>, LineFault>
     ensures found { IfOk result (λ w. (w ≡ text.now) × (F.has text.now ≡ true)) }
     ensures only { F.has text.now ≡ true
@@ -116,7 +116,7 @@ pub(crate) fn word_of<F: Form>(alloc: Global, text: &str) -> Result<Word<F>, Lin
     }
 }
 
-/// `ALL`, the one of this name, or an alias.
+/// The item that the text spells: `ALL`, a name or an alias.
 fn item_of<F: NameForm>(alloc: Global, text: &str) -> Result<Item<Word<F>>, LineFault>
     ensures found { IfOk result (λ x. IsItem F.has x × (text.now ≡ item_text x)) }
     ensures only { (i : Said (List ℕ)) → IsItem F.has i → text.now ≡ item_text i

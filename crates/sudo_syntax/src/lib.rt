@@ -1,5 +1,5 @@
-//! Policies' texts, read: lines, comments and continuations, and what commands inherit. What
-//! policies are, and how they are printed, stands in `sudo_policy`, which this crate re-exports.
+//! Reads the texts of policies: lines, comments and continuations, and what commands inherit. What
+//! policies are, and how they are printed, is in `sudo_policy`; this crate re-exports parts of it.
 #![tactic(auto)]
 
 mod commands;

@@ -20,7 +20,7 @@ fn root(alloc: Global) -> Result<Items<Signed<Item<Name>>>, LineFault>
     ensures found { IfOk result (λ x. x ≡ inheritance.root) }
     ensures only { IfErr result (λ e. e ≡ fault.NoMemory) }
 {
-    // `root` is a name: where it is not read, memory ran out.
+    // `root` is a name, so if it is not read, memory ran out.
     let Ok(name) = Name::read(alloc, "root") else {
         return Err(LineFault::NoMemory);
     };
@@ -32,7 +32,7 @@ fn root(alloc: Global) -> Result<Items<Signed<Item<Name>>>, LineFault>
     Ok(Items::new(items))
 }
 
-/// What holds before the first command of a list.
+/// The settings before the first command of a list.
 fn first_settings(alloc: Global) -> Result<Settings, LineFault>
     ensures found { IfOk result (λ x. x ≡ inheritance.first_settings) }
     ensures only { IfErr result (λ e. e ≡ fault.NoMemory) }
@@ -45,7 +45,7 @@ fn first_settings(alloc: Global) -> Result<Settings, LineFault>
     })
 }
 
-/// What holds after a command, and the command.
+/// The settings after a command, and the command.
 fn with_spec(held: Settings, spec: CmndSpec) -> (Settings, Signed<CmndItem>)
     ensures settings { result.0 ≡ inheritance.with_spec held spec }
     ensures cmnd { result.1 ≡ spec.cmnd }
@@ -59,7 +59,7 @@ fn with_spec(held: Settings, spec: CmndSpec) -> (Settings, Signed<CmndItem>)
     (settings, spec.cmnd)
 }
 
-/// The rule of a command, where these settings hold: the lists are copied.
+/// The rule of a command under these settings, with copies of the lists.
 fn copy_rule(
     users: &Items<Signed<Item<Name>>>,
     hosts: &Items<Signed<Item<HostName>>>,
@@ -80,7 +80,7 @@ fn copy_rule(
     })
 }
 
-/// The rule of a command, where these settings hold: the lists are its own.
+/// The rule of a command under these settings, which takes the lists.
 fn rule_with(
     users: Items<Signed<Item<Name>>>,
     hosts: Items<Signed<Item<HostName>>>,
@@ -114,7 +114,7 @@ fn targets_of(
     }
 }
 
-/// What holds after the first command of a list, and the command. `root` is made only where the
+/// The settings after the first command of a list, and the command. `root` is made only if the
 /// command gives no target.
 fn first_spec(alloc: Global, spec: CmndSpec) -> Result<(Settings, Signed<CmndItem>), LineFault>
     ensures found { IfOk result
@@ -137,7 +137,7 @@ fn first_spec(alloc: Global, spec: CmndSpec) -> Result<(Settings, Signed<CmndIte
     Ok((settings, cmnd))
 }
 
-/// Adds the rule of a command that stands alone in its list.
+/// Adds the rule of a command that is alone in its list.
 fn add_only(
     alloc: Global,
     draft: &mut Draft,
@@ -157,8 +157,8 @@ fn add_only(
     draft.add(alloc, Entry::Rule(rule_with(users, hosts, settings, cmnd)))
 }
 
-/// Adds the rule of a command where these settings hold before it, and gives what holds after it:
-/// the lists are copied.
+/// Adds the rule of a command, with copies of the lists, where these settings hold before it, and
+/// returns the settings after it.
 fn add_copy(
     alloc: Global,
     draft: &mut Draft,
@@ -182,8 +182,8 @@ fn add_copy(
     Ok(settings)
 }
 
-/// Adds one rule for each command before the last, and gives what holds after them. Each is added
-/// before the next is made, so that the limits of a policy bound what is copied.
+/// Adds one rule for each command before the last, and returns the settings after them. Each is
+/// added before the next is made, so that the limits of a policy bound what is copied.
 fn add_front(
     alloc: Global,
     draft: &mut Draft,
@@ -256,7 +256,7 @@ fn add_specs(
     add_last(alloc, draft, users, hosts, held, last)
 }
 
-/// Adds the rules of a part: the users are copied.
+/// Adds the rules of a part, with a copy of the users.
 fn add_part(
     alloc: Global,
     draft: &mut Draft,
@@ -274,7 +274,7 @@ fn add_part(
     add_specs(alloc, draft, users, hosts, specs.into_vec())
 }
 
-/// Adds the rules of each part before the last: the users are copied.
+/// Adds the rules of each part before the last, with copies of the users.
 fn add_front_parts(
     alloc: Global,
     draft: &mut Draft,

@@ -26,22 +26,22 @@ pub fn inheritance()
         → length (part_rules users part) ≡ length part.specs }
 {}
 
-/// A comment may be left out: of two texts that have the same lines, but for a comment after one of
-/// them, each spells what the other spells.
+/// A comment may be left out: two texts that have the same lines, but for a comment after one of
+/// them, spell the same.
 pub fn comments()
     ensures { (text other line note : List ℕ) → MayHaveNote line note →
         DifferIn text other ((line ++ hash ∷ note) ∷ []) (line ∷ []) → SpellAlike text other }
 {}
 
-/// A line that goes on spells what one line spells, with a blank in place of the backslash and the
-/// newline; the next line is no backslash alone.
+/// A line that goes on and the next line spell what one line spells, with a blank in place of the
+/// backslash and the newline. The next line may not be a backslash alone.
 pub fn continuations()
     ensures { (text other front next : List ℕ) → GoesOnWith front next
         → DifferIn text other ((front ++ backslash ∷ []) ∷ next ∷ []) ((front ++ space ∷ next) ∷ [])
         → SpellAlike text other }
 {}
 
-/// Two more `!` directly before an item or a command change nothing that it spells.
+/// Two more `!` directly before an item or a command do not change what it spells.
 pub fn signs()
     ensures items { (form : List ℕ → Bool) (spaced : Bool) (n : ℕ) (text : List ℕ)
         (ts : List Tok) (s : AnySigned (AnyItem (List ℕ))) (rest : List Tok)
@@ -54,7 +54,7 @@ pub fn signs()
         rest → SpellsCmnd (word spaced (n + 2) text ∷ ts) s rest) }
 {}
 
-/// Of several tags before a command only the last counts.
+/// If a command has several tags before it, only the last counts.
 pub fn tags()
     ensures { (ts : List Tok) (s : CmndSpec) (rest : List Tok)
         (spelled : SpellsCmndSpec ts s rest) (before : List Bool) (tag : Bool)

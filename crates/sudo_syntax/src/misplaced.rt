@@ -1,4 +1,4 @@
-//! The fault that fits words and marks which the grammar has not.
+//! The faults of words and marks that the grammar does not allow where they are.
 
 use crate::token::{Mark, Token, TokenKind};
 use sudo_policy::LineFault;
@@ -9,7 +9,7 @@ fn begins_left_out(text: &str) -> bool {
     text.starts_with("Defaults") || text.starts_with('@') || text == "Cmd_Alias"
 }
 
-/// Whether the word is one of an address: digits, dots and slashes.
+/// Whether the word is made of what addresses have: digits, dots and slashes.
 fn is_address(text: &[u8]) -> bool {
     text.iter()
         .all(|b| b.is_ascii_digit() || *b == b'.' || *b == b'/')
@@ -36,7 +36,7 @@ fn is_alias_shape(text: &[u8]) -> bool {
         && text.iter().all(|b| b.is_ascii_uppercase() || b.is_ascii_digit() || *b == b'_')
 }
 
-/// Whether sudoers keeps the word for itself: it has the shape of an alias's name and is none.
+/// Whether sudoers keeps the word for itself: it has the shape of an alias's name but is not one.
 fn is_reserved(text: &[u8]) -> bool {
     is_alias_shape(text) && !AliasForm::test(text)
 }
@@ -56,14 +56,14 @@ pub(crate) fn bad_word(text: &str) -> LineFault {
 /// The options and tags that the desk has.
 const KNOWN: [&str; 4] = ["NOTBEFORE", "NOTAFTER", "PASSWD", "NOPASSWD"];
 
-/// Whether the word is no command that the desk has: it begins a digest, or names one of sudo's own
-/// commands, alone or as a path does.
+/// Whether the word is not a command that the desk has: it begins a digest, or names one of sudo's
+/// own commands, by its bare name or by a path.
 fn is_no_file(text: &str) -> bool {
     let bytes = text.as_bytes();
     is_keyword(bytes) || is_sudoedit(bytes) || text == "list"
 }
 
-/// What is wrong with a word that begins no command.
+/// What is wrong with a word that does not begin a command.
 pub(crate) fn bad_cmnd(text: &str) -> LineFault {
     if KNOWN.contains(&text) {
         LineFault::Unexpected
@@ -74,7 +74,7 @@ pub(crate) fn bad_cmnd(text: &str) -> LineFault {
     }
 }
 
-/// What is wrong with an option that is none of the two dates, or given twice.
+/// What is wrong with an option that is neither of the two dates, or is given twice.
 pub(crate) fn bad_option(name: &str) -> LineFault {
     if KNOWN.contains(&name) || !is_reserved(name.as_bytes()) {
         LineFault::Unexpected
@@ -83,7 +83,7 @@ pub(crate) fn bad_option(name: &str) -> LineFault {
     }
 }
 
-/// What is wrong with tokens that the grammar has not in their place: quoted words are left out.
+/// What is wrong with tokens that the grammar does not allow there: quoted words are left out.
 pub(crate) fn misplaced(tokens: &[Token<'_>]) -> LineFault {
     match tokens {
         [
@@ -97,7 +97,7 @@ pub(crate) fn misplaced(tokens: &[Token<'_>]) -> LineFault {
     }
 }
 
-/// What is wrong with tokens after targets, where no `)` stands: a group after `:` is left out.
+/// What is wrong with tokens after targets, where a `)` is missing: a group after `:` is left out.
 pub(crate) fn unclosed(tokens: &[Token<'_>]) -> LineFault {
     match tokens {
         [

@@ -57,7 +57,7 @@ fn is_comment(text: &[u8]) -> bool
     !begins_with_digit(text) && !text.starts_with(b"include") && !ends_in_backslash(text)
 }
 
-/// Whether a comment may follow: it begins a line, or stands after a blank.
+/// Whether a comment may follow these bytes: it begins a line, or comes after a blank.
 fn is_before_comment(body: &[u8]) -> bool
     ensures { result ≡ lines.is_before_comment body.now }
 {
@@ -85,7 +85,8 @@ fn before_backslash(line: &[u8]) -> Option<&[u8]>
     line.strip_suffix(b"\\")
 }
 
-/// What a line without a `#` says: a backslash at its end is one of a line that goes on.
+/// What a line without a `#` says: a backslash at its end means that it goes on, if it may do so
+/// there.
 fn without_comment(line: &[u8]) -> Result<Piece<'_>, LineFault>
     requires { Each lines.is_no_hash line.now }
     ensures found { IfOk result (IsPiece line.now) }
@@ -99,7 +100,7 @@ fn without_comment(line: &[u8]) -> Result<Piece<'_>, LineFault>
     }
 }
 
-/// What is wrong with a `#` that begins no comment, and that this text follows.
+/// What is wrong with a `#` that does not begin a comment, by the text that follows it.
 fn bad_comment(text: &[u8]) -> LineFault {
     if ends_in_backslash(text) {
         LineFault::Unexpected

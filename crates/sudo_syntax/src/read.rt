@@ -42,7 +42,7 @@ fn fault_after(front: &[u8], kind: FaultKind) -> ReadFault
     }
 }
 
-/// Tests that a text is of at most 16 MiB, and of the bytes that a text may have.
+/// Tests that a text has at most 16 MiB, and only bytes that a text may have.
 fn check_bytes(text: &[u8]) -> Result<(), ReadFault>
     ensures ok { OnOk result
         ((length text.now ≤ most_text_bytes) × Each lex.is_text_byte text.now) }
@@ -65,7 +65,7 @@ fn check_bytes(text: &[u8]) -> Result<(), ReadFault>
     }
 }
 
-/// Adds what a line stands for, where the line is joined with those that continue it.
+/// Adds what a line stands for, once it is joined with the lines that continue it.
 fn add_joined(alloc: Global, draft: &mut Draft, line: &[u8]) -> Result<(), LineFault>
     requires { IsDraft draft.old }
     ensures found { OnOk result ((here : List Entered) × SpellsLine line.now here
@@ -82,8 +82,8 @@ fn add_joined(alloc: Global, draft: &mut Draft, line: &[u8]) -> Result<(), LineF
     add_line(alloc, draft, line)
 }
 
-/// Adds what a line of the text stands for. Before the line stands the front that the lines before
-/// it left; where the line goes on, it adds to that front, and else the front is empty afterwards.
+/// Adds what a line of the text stands for. The front that the lines before it left goes before it.
+/// If the line goes on, it is added to that front; otherwise the front is empty afterwards.
 fn add_piece(
     alloc: Global,
     draft: &mut Draft,
@@ -106,7 +106,7 @@ fn add_piece(
         }
         Piece::Ends(body) => {
             if pending.is_empty() {
-                // A line that is not continued is read where it stands.
+                // A line that continues no other is read in place.
                 return add_joined(alloc, draft, body);
             }
             pending.extend_from_slice(body)?;
@@ -117,8 +117,8 @@ fn add_piece(
     }
 }
 
-/// Where a fault is that came up at a line: there, where its comment or its continuation is wrong,
-/// and else where the line begins that is continued there.
+/// The line number of a fault that came up at a line: its own, if its comment or its continuation
+/// is wrong, and otherwise that of the line where the joined line begins.
 fn fault_line(line: &[u8], begins: usize, here: usize) -> usize
     ensures { (result ≡ begins) ⊎ (result ≡ here) }
 {
@@ -129,7 +129,7 @@ fn fault_line(line: &[u8], begins: usize, here: usize) -> usize
     }
 }
 
-/// Adds what the lines of a text stand for. Each is read where it stands in the text: no list of
+/// Adds what the lines of a text stand for. Each is read in place in the text: no list of
 /// them is made.
 fn add_lines(alloc: Global, draft: &mut Draft, text: &[u8]) -> Result<(), ReadFault>
     requires draft { IsDraft draft.old }
@@ -181,14 +181,14 @@ fn policy_of(alloc: Global, text: &[u8]) -> Result<Policy, ReadFault>
 
 /// The policy that a text spells (sudoers(5), "SUDOERS FILE FORMAT"), as far as the desk reads it.
 ///
-/// Faults: `TooLong` where the text is over 16 MiB, else `BadByte` where a byte stands in it that
+/// Faults: `TooLong` where the text is over 16 MiB, else `BadByte` where it has a byte that
 /// no text may have, else the first fault of a line, with its number from 1; `NoMemory` where
 /// memory runs out.
 pub fn read_policy(alloc: Global, text: &[u8]) -> Result<Policy, ReadFault>
-    // What is read is spelled so.
+    // What is read is what the text spells.
     ensures found { IfOk result (λ p. Spells text.now p) }
-    // What is spelled so is read, unless memory runs out: so no other fault comes where a policy is
-    // spelled.
+    // What the text spells is read, unless memory runs out: a text that spells a policy gives no
+    // other fault.
     ensures only { (es : List Entered) → Spells text.now es
         → MatchResult result (λ p. p ≡ es) (λ f. f.kind ≡ Line NoMemory) }
     // `TooLong` comes exactly where the text is too long.

@@ -44,7 +44,7 @@ fn gives(option: &str, name: &str, bound: &Option<Moment>) -> bool
     option == name && bound.is_none()
 }
 
-/// The bounds with the one that an option gives, which none gave before.
+/// The bounds and the one that an option gives, which must not have been given before.
 fn with_bound(bounds: Bounds, option: &str, time: &str) -> Result<Bounds, LineFault>
     ensures found { IfOk result (λ b.
         AddsBound bounds.not_before bounds.not_after option.now time.now b.not_before b.not_after) }
@@ -92,7 +92,7 @@ pub(crate) fn bounds_at<'a, 'b>(
     Ok(read)
 }
 
-/// Whether a tag's word says that no password is asked for.
+/// Whether a tag's word says that no password is asked for; `None` if the word is not a tag's.
 fn tag_of(name: &str) -> Option<bool>
     ensures { MatchOption result ((tag : Bool) → name.now ≡ tag_word tag
         → ⊥) (λ tag. name.now ≡ tag_word tag) }
@@ -137,7 +137,7 @@ fn lacks_word(tokens: &[Token<'_>]) -> bool
     word_at(tokens).is_none()
 }
 
-/// The targets in parentheses at the front, if any stand there, and what follows them.
+/// The targets in parentheses at the front, if there are any, and what follows them.
 fn runas_at<'a, 'b>(
     alloc: Global,
     tokens: &'b [Token<'a>],

@@ -29,7 +29,7 @@ pub(crate) enum Mark {
     Opening,
     /// `)`, after targets.
     Closing,
-    /// `"`, of which two say that no argument is allowed.
+    /// `"`; two of them say that no argument is allowed.
     Quote,
 }
 
@@ -67,7 +67,7 @@ pub(crate) enum TokenKind<'a> {
     Word {
         /// How many `!` stand directly before it.
         bangs: usize,
-        /// Its bytes as they stand.
+        /// Its bytes as they are in the line.
         text: &'a str,
     },
     /// A mark.
@@ -111,15 +111,15 @@ fn bang_len(bytes: &[u8]) -> usize
     bytes.iter().take_while(|b| **b == b'!').count()
 }
 
-/// How many bytes at the front a text may have.
+/// How many bytes at the front are bytes that a text may have.
 fn text_len(bytes: &[u8]) -> usize
     ensures { result ≡ length (take_while lex.is_text_byte bytes.now) }
 {
     bytes.iter().take_while(|b| is_text_byte(**b)).count()
 }
 
-/// Whether a text may have each of the bytes. Each is looked at, also after one that no text has:
-/// so many are tested at once.
+/// Whether a text may have each of the bytes. All are looked at, even after one that no text may
+/// have, so that many are tested at once.
 pub(crate) fn is_text(bytes: &[u8]) -> bool
     ensures { result ≡ list_all lex.is_text_byte bytes.now }
 {
@@ -151,8 +151,8 @@ fn cut_bangs(bytes: &[u8]) -> (&[u8], &[u8])
     bytes.split_at(bang_len(bytes))
 }
 
-/// What follows a byte of a word, or a backslash and the byte that it escapes, where such a part of
-/// a word stands at the front.
+/// What follows a byte of a word, or a backslash and the byte that it escapes, if such a part of a
+/// word is at the front.
 fn behind_part(bytes: &[u8]) -> Option<&[u8]>
     ensures found { IfSome result (λ rest. (part : List ℕ) × IsBehindPart bytes.now part rest.now) }
     ensures none { result ≡ None → lex.goes_on bytes.now ≡ false }
@@ -188,12 +188,12 @@ fn text_of(word: &[u8]) -> &str
     requires { lex.is_word_text word.now ≡ true }
     ensures { result.now ≡ word.now }
 {
-    // So they are UTF-8, which is proved of this call and not tested.
+    // So they are UTF-8, which is proved for this call and not tested.
     unsafe { str::from_utf8_unchecked(word) }
 }
 
-/// What is wrong where no word begins with this byte, which is no `!`: wildcards, quotes, escapes
-/// and comments are left out, marks and blanks may not follow a `!`, and no other byte has a place.
+/// What is wrong where this byte, which is not `!`, begins no word: wildcards, quotes, escapes and
+/// comments are left out, marks and blanks may not follow a `!`, and no other byte is allowed.
 fn stray(byte: u8) -> LineFault {
     match byte {
         b'*' | b'?' | b'[' | b']' | b'"' | b'\\' | b'#' => LineFault::LeftOut,
@@ -202,7 +202,7 @@ fn stray(byte: u8) -> LineFault {
     }
 }
 
-/// What is wrong with bytes that begin with no word.
+/// What is wrong with bytes that do not begin with a word.
 fn no_word(bytes: &[u8]) -> LineFault {
     match bytes {
         [] => LineFault::Unexpected,

@@ -49,8 +49,8 @@ pub fn worked_refusals()
     ensures blank { SpellsNone (codes "! ann db1 = ALL") }
 {}
 
-/// Worked weights: 16 aliases of which each has the one above it twice, and a rule of the last, are
-/// a policy that weighs 65,539; 17 weigh 131,075, and their text spells no policy.
+/// Worked weights: 16 aliases that each have the one above twice, and a rule for the last, are a
+/// policy that weighs 65,539; with 17 the weight is 131,075, and the text spells no policy.
 pub fn worked_weights()
     ensures text { canon (doubled 2)
         ≡ codes "User_Alias X1 = a, a\nUser_Alias X2 = X1, X1\nX2 db1 = (root) ALL\n" }

@@ -1,4 +1,4 @@
--- A text is one command's, and so are a head and a rule.
+-- A text belongs to one command, and so do a head and a rule.
 use Rattle.std.proofs.Common.{◌≡◌, ℕ, List, [], ◌∷◌, ◌++◌, true, false, eqb, map, refl, sym, ap, ap₂, ◌∙◌}
 use Rattle.std.specs.Prelude.{codes, All as AllOf}
 use Rattle.std.specs.List.{slice_split}
@@ -52,7 +52,7 @@ same_form (Dir dir) All h k e r = absurd (no_dir_all dir h e)
 same_form (Dir dir) (Path file rule) h k e r = absurd (no_file_dir file dir k h (sym e))
 same_form (Dir dir) (Dir other) h k e r = ap (λ (d : List ℕ). Dir d) e
 
--- no two commands have one head and one rule
+-- no two commands have the same head and rule
 pub same_command : (c d : Cmnd) → IsLawful c → IsLawful d → head_text c ≡ head_text d → rule_of c ≡ rule_of d → c ≡ d
 same_command c d x y e r = same_form c d (head_form c x.head) (head_form d y.head) e r
 
@@ -62,7 +62,7 @@ cmnd_words c x =
     ap (λ (t : List ℕ). slice_split (λ (b : ℕ). eqb b 32) (head_text c ++ t)) (words_text (rule_of c))
     ∙ cut_words (head_text c) (words_of (rule_of c)) (head_no_space c x.head) (words_no_space (rule_of c) x.args)
 
--- no text is two commands'
+-- no text is that of two commands
 pub one_command : (c d : Cmnd) → IsLawful c → IsLawful d → cmnd_text c ≡ cmnd_text d → c ≡ d
 one_command c d x y e =
     let both : head_text c ∷ words_of (rule_of c) ≡ head_text d ∷ words_of (rule_of d) =

@@ -100,7 +100,7 @@ cut_date text date clock zone day e d =
 pub parted : (text front rest : List ℕ) (t : ℕ) → front ≡ take 8 text → rest ≡ drop 8 text → (s : Spells text t) → (front ≡ s.date) × (rest ≡ s.clock ++ s.zone)
 parted text front rest t f r s = let cut = cut_date text s.date s.clock s.zone s.day s.text_is s.date_is in (f ∙ cut.0, r ∙ cut.1)
 
--- what ends a time is `Z`, or five bytes of which the last is a digit
+-- what ends a time is `Z`, or five bytes, the last a digit
 abbrev IsNumeric : List ℕ → Type 0
 IsNumeric end = (length end ≡ 5) × (get_or end 4 0 < 90)
 

@@ -20,7 +20,7 @@ four_front m n r s below low e =
     let in_century = two_front (m % 100) (n % 100) r s (omega arith) (omega arith) century.1 in
     (omega (arith, century.0, in_century.0), in_century.1)
 
--- a date's text is of one day
+-- a date's text gives one day
 pub one_day : (text : List ℕ) (m n : ℤ) → IsDateText text m → IsDateText text n → m ≡ n
 one_day text m n a b =
     let long = days_in_month_bounds (pos a.year) a.month in
@@ -43,7 +43,7 @@ pair_front h k m n r s a b c d e =
 one_time : (s t : ℕ) → s < 86_400 → t < 86_400 → hour s ≡ hour t → minute s ≡ minute t → second s ≡ second t → s ≡ t
 one_time s t a b h m z = omega arith
 
--- a time of day's text is of one time of day
+-- a time of day's text gives one time of day
 pub one_clock : (text : List ℕ) (s t : ℕ) → IsClockText text s → IsClockText text t → s ≡ t
 one_clock text s t (low, inl a) (high, inl b) =
     let front = pair_front (hour s) (hour t) (minute s) (minute t) (two (second s))
@@ -69,7 +69,7 @@ one_distance text m n a b =
     let both = pair_front (m / 60) (n / 60) (m % 60) (n % 60) [] [] (omega (arith, a.0)) (omega (arith, b.0)) (omega arith) (omega arith) (sym a.1 ∙ b.1) in
     omega (arith, both.0, both.1)
 
--- what ends a time is of one offset
+-- what ends a time gives one offset
 pub heads_differ : (end a b : List ℕ) (m n : ℕ) → {P : Type 0} → m < n → end ≡ m ∷ a → end ≡ n ∷ b → P
 heads_differ end a b m n low e f =
     let same : m ≡ n = ap (λ (l : List ℕ). get_or l 0 0) (sym e ∙ f) in

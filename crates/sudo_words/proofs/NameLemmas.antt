@@ -1,4 +1,4 @@
--- Names of users, targets and hosts: of their shape, and no keyword; and files that are `sudoedit`.
+-- Names of users, targets and hosts: they have their shape and are not keywords; and files that are `sudoedit`.
 use Rattle.std.proofs.Common.{◌≡◌, ℕ, ◌-◌, true, not, List, ◌++◌, length, take, refl, ◌↔◌}
 use Rattle.std.specs.Prelude.{codes}
 use Rattle.std.proofs.lemmas.Bool.{and_parts, both_ways}

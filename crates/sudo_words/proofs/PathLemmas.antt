@@ -1,4 +1,4 @@
--- Paths: which bytes stand in them, and that no file's path is a directory's.
+-- Paths: which bytes they have, and that no file has the path of a directory.
 use Rattle.std.proofs.Common.{◌≡◌, ℕ, ◌-◌, ◌<◌, true, false, eqb, leb, not, ◌&&◌, List, [], ◌∷◌}
 use Rattle.std.proofs.Common.{◌++◌, length, take, drop, refl, sym, ap, subst, ◌∙◌, inl, inr, arith}
 use Rattle.std.specs.Prelude.{codes}
@@ -82,7 +82,7 @@ onto_append : (x : ℕ) (parts more : List (List ℕ)) → 0 < length parts → 
 onto_append x [] more h = absurd (omega arith)
 onto_append x (part ∷ parts) more h = refl
 
--- behind a slash at the end stands an empty part
+-- after a slash at the end comes an empty part
 split_end : (w : List ℕ) → slice_split (λ b. eqb b 47) (w ++ 47 ∷ []) ≡ slice_split (λ b. eqb b 47) w ++ ([] ∷ [])
 split_end [] = refl
 split_end (b ∷ bs) =

@@ -1,4 +1,4 @@
--- The words of a command's text: no space stands in them, so cutting the text at its spaces gives them back.
+-- The words of a command's text: they have no space, so cutting the text at its spaces gives them back.
 use Rattle.std.proofs.Common.{◌≡◌, ℕ, true, false, eqb, List, [], ◌∷◌, ◌++◌, map, refl, sym, ap, subst, ◌∙◌, arith}
 use Rattle.std.specs.Prelude.{codes}
 use Rattle.std.specs.List.{AllByRecursion, flat_map, join_with_byte, slice_split}
@@ -74,7 +74,7 @@ words_text Any = refl
 words_text Empty = refl
 words_text (Exactly args) = args_text args
 
--- ---- words are of one rule
+-- ---- words are those of one rule
 
 no_quoted : (a : List ℕ) → is_arg a ≡ true → arg_text a ≡ codes "\"\"" → ⊥
 no_quoted a h e =
@@ -92,7 +92,7 @@ same_args (x ∷ xs) (y ∷ ys) h k e =
     let rest : map arg_text xs ≡ map arg_text ys = cc in
     ap (λ (a : List ℕ). a ∷ xs) (same_arg x y h.0 k.0 first) ∙ ap (λ (t : List (List ℕ)). y ∷ t) (same_args xs ys h.1 k.1 rest)
 
--- one argument at least, which is not `""`
+-- at least one argument, and not `""`
 pub no_empty_args : (args : List (List ℕ)) → IsArgRule (Exactly args) → map arg_text args ≡ [] → ⊥
 no_empty_args [] h e = omega (arith, h.1)
 no_empty_args (a ∷ args) h e = absurd cc

@@ -23,7 +23,7 @@ last_day : IsDateText (codes "20991231") (pos 47_481)
 unfolding date_of date_from_year date_from_month
 last_day = date_text_is 47_481 (lit≤ tt)
 
--- the day before the first is none of a moment
+-- the day before the first has number -1
 day_before : IsDateText (codes "19691231") (negsuc 0)
 day_before =
     let count = days_from_civil-day_count (pos 1969) 12 31 in

@@ -1,4 +1,4 @@
--- The names of the bytes that sudoers gives a meaning (sudoers(5), "SUDOERS FILE FORMAT").
+-- The names of the bytes to which sudoers gives a meaning (sudoers(5), "SUDOERS FILE FORMAT").
 use Rattle.std.specs.Prelude.{ℕ}
 use Rattle.std.specs.Str.{byte}
 
@@ -27,14 +27,14 @@ comma = byte ","
 abbrev pub colon : ℕ
 colon = byte ":"
 
--- round targets
+-- around targets
 abbrev pub opening : ℕ
 opening = byte "("
 
 abbrev pub closing : ℕ
 closing = byte ")"
 
--- twice where no argument is allowed
+-- written twice where no argument is allowed
 abbrev pub quote : ℕ
 quote = byte "\""
 

@@ -1,5 +1,5 @@
--- Commands of a sudoers text: which invocations they match, which of them are lawful, and how each
--- is written (sudoers(5), "Cmnd_List" and "Command arguments").
+-- Commands of a sudoers text: which invocations they match, which are lawful, and how each is
+-- written (sudoers(5), "Cmnd_List" and "Command arguments").
 use Rattle.std.specs.Prelude.{◌≡◌, ℕ, ◌≤◌, Bool, true, false, ◌&&◌, ◌||◌, ◌==◌}
 use Rattle.std.specs.Prelude.{if◌then◌else◌, List, [], ◌∷◌, ◌++◌, length, take, drop, codes}
 use Rattle.std.specs.List.{AllByRecursion, flat_map}
@@ -12,14 +12,14 @@ use Rattle.sudo_words.specs.declared.cmnd.Cmnd.TheVariants.{All, Path, Dir}
 use Rattle.sudo_words.specs.declared.cmnd.ArgRule.{ArgRule}
 use Rattle.sudo_words.specs.declared.cmnd.ArgRule.TheVariants.{Any, Empty, Exactly}
 
--- What a path's rule says of the arguments: any are allowed, none, or exactly these.
+-- Which arguments a path's rule allows: any, none, or exactly these.
 abbrev pub allows : ArgRule → List (List ℕ) → Bool
 allows Any args = true
 allows Empty args = length args == 0
 allows (Exactly wanted) args = pointwise bytes_eq args wanted
 
--- A file directly within the directory, whose path ends in a slash: the directory and one component
--- (`directory_and_component` says so).
+-- A path is directly in a directory if it is the directory's path, which ends in a slash, and one
+-- component (`directory_and_component` says so).
 abbrev pub is_directly_in : List ℕ → List ℕ → Bool
 is_directly_in dir path =
     bytes_eq (take (length dir) path) dir && is_component (drop (length dir) path)
@@ -32,7 +32,7 @@ matches (Dir dir) path args = is_directly_in dir path
 
 -- ---- texts: a path, and its arguments after single spaces
 
--- `,`, `:` and `=` stand in an argument's text after a backslash
+-- an argument's text has a backslash before `,`, `:` and `=`
 abbrev pub is_escaped : ℕ → Bool
 is_escaped b = (b == comma) || (b == colon) || (b == equals)
 
@@ -52,7 +52,7 @@ rule_text Any = []
 rule_text Empty = codes " \"\""
 rule_text (Exactly args) = flat_map spaced_arg args
 
--- a command is its head, which is `ALL`, a file or a directory, and what it says of the arguments
+-- a command is its head, which is `ALL`, a file or a directory, and its rule for the arguments
 abbrev pub head_text : Cmnd → List ℕ
 head_text All = codes "ALL"
 head_text (Path file rule) = file
@@ -82,14 +82,14 @@ most_args = 16
 abbrev pub most_cmnd_bytes : ℕ
 most_cmnd_bytes = 1024
 
--- a path keeps its limit, and names no file that sudo takes for its own command `sudoedit`
+-- a path keeps its limit, and is not a file that sudo takes for its own command `sudoedit`
 abbrev pub IsHead : Cmnd → Type 0
 IsHead All = Unit {0}
 IsHead (Path file rule) =
     (is_file_path file ≡ true) × (length file ≤ most_path_bytes) × (is_sudoedit file ≡ false)
 IsHead (Dir dir) = (is_dir_path dir ≡ true) × (length dir ≤ most_path_bytes)
 
--- at least one argument, and not too many, where they are listed
+-- where arguments are listed, at least one, and not too many
 abbrev pub IsArgRule : ArgRule → Type 0
 IsArgRule Any = Unit {0}
 IsArgRule Empty = Unit {0}

@@ -18,8 +18,8 @@ abbrev pub is_letter_or_digit : ℕ → Bool
 is_letter_or_digit b = is_lower b || is_upper b || is_digit b
 
 -- ---- keywords: `sudoedit` begins an Edit_Spec, and the others a Digest_Spec (sudoers(5),
--- "Aliases"). sudo reads such a word so in the place of
--- a name too, and then refuses the whole file: no user, target or host has one as its name.
+-- "Aliases"). sudo also reads a keyword so where a name is expected, and then refuses the whole
+-- file: no user, target or host has one as its name.
 
 abbrev pub keywords : List (List ℕ)
 keywords = codes "sudoedit" ∷ codes "sha224" ∷ codes "sha256" ∷ codes "sha384" ∷ codes "sha512" ∷ []
@@ -27,7 +27,7 @@ keywords = codes "sudoedit" ∷ codes "sha224" ∷ codes "sha256" ∷ codes "sha
 unfoldable pub is_keyword : List ℕ → Bool
 is_keyword w = list_any (λ k. bytes_eq k w) keywords
 
--- ---- users and targets: `[a-z_][a-z0-9._-]*`, up to 32 bytes, and no keyword
+-- ---- users and targets: `[a-z_][a-z0-9._-]*`, up to 32 bytes, and not a keyword
 
 abbrev pub is_name_byte : ℕ → Bool
 is_name_byte b = is_lower b || is_digit b || (b == 46) || (b == 95) || (b == 45)
@@ -50,13 +50,12 @@ abbrev pub is_label : List ℕ → Bool
 is_label [] = false
 is_label (b ∷ bs) = is_lower b && list_all is_host_byte bs && nat_le (length (b ∷ bs)) 32
 
--- ---- hosts: the same form, and no keyword
+-- ---- hosts: the same form, and not a keyword
 
 abbrev pub is_host_name : List ℕ → Bool
 is_host_name w = is_label w && not (is_keyword w)
 
--- ---- aliases: `[A-Z][A-Z0-9_]*`, up to 32 bytes, and none of the words that sudoers keeps for
--- itself
+-- ---- aliases: `[A-Z][A-Z0-9_]*`, up to 32 bytes, and not a word that sudoers keeps for itself
 
 abbrev pub is_alias_byte : ℕ → Bool
 is_alias_byte b = is_upper b || is_digit b || (b == 95)

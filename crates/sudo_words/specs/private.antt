@@ -1,3 +1,3 @@
--- What only private clauses and proofs cite: no public contract speaks of it.
+-- What only private clauses and proofs cite, and no public contract.
 -- words of a command's text
 pub mod Pieces

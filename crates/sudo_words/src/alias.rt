@@ -68,7 +68,7 @@ fn is_alias_shape(text: &[u8]) -> bool
     }
 }
 
-/// The form of an alias's name: `[A-Z][A-Z0-9_]*`, up to 32 bytes, and no reserved word.
+/// The form of an alias's name: `[A-Z][A-Z0-9_]*`, up to 32 bytes, and not a reserved word.
 #[derive(Clone, Copy, Debug)]
 pub struct AliasForm;
 

@@ -31,5 +31,5 @@ impl Form for ArgForm {
     }
 }
 
-/// An argument of a command, by its value: no backslash stands in it.
+/// An argument of a command, as its value: without the backslashes of its text.
 pub type Arg = Word<ArgForm>;

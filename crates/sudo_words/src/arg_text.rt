@@ -1,4 +1,4 @@
-//! Arguments as texts of sudoers have them: each `,`, `:` and `=` stands after a backslash.
+//! Arguments as sudoers texts write them: with a backslash before each `,`, `:` and `=`.
 
 ghost use Rattle.std.specs.Prelude.{◌≡◌, ◌<◌, ◌++◌, ℕ, List, true, IfOk, IfSome};
 ghost use Rattle.std.specs.Prelude.{IsSome, MatchResult, OnOk, string_bytes};
@@ -12,7 +12,7 @@ use crate::arg::{Arg, is_arg_byte};
 use crate::fault::WordFault;
 use std::alloc::{AllocError, Global};
 
-/// Whether the byte stands after a backslash in an argument's text (sudoers(5), "Other special
+/// Whether an argument's text has a backslash before the byte (sudoers(5), "Other special
 /// characters and reserved words").
 pub fn is_escaped(byte: u8) -> bool
     ensures { result ≡ command.is_escaped byte }
@@ -20,7 +20,7 @@ pub fn is_escaped(byte: u8) -> bool
     byte == b',' || byte == b':' || byte == b'='
 }
 
-/// The byte of an argument that a text begins with, and what stands after it.
+/// The byte of an argument that the front of a text spells, and what follows it.
 fn next_byte(text: &[u8]) -> Option<(u8, &[u8])>
     ensures found { IfSome result
         (λ p. (may_stand p.0 ≡ true) × (text.now ≡ escaped_byte p.0 ++ p.1.now)) }
@@ -42,7 +42,8 @@ fn next_byte(text: &[u8]) -> Option<(u8, &[u8])>
     }
 }
 
-/// The bytes that the text stands for, which are bytes of an argument.
+/// The bytes of an argument that the text spells, however many; `BadWord` if it is not the text of
+/// such bytes.
 fn unescaped(alloc: Global, text: &[u8]) -> Result<String, WordFault>
     ensures found { IfOk result (λ s. text.now ≡ arg_text (string_bytes s)) }
     ensures only { (a : List ℕ) → list_all may_stand a ≡ true → text.now ≡ arg_text a
@@ -61,7 +62,7 @@ fn unescaped(alloc: Global, text: &[u8]) -> Result<String, WordFault>
     }
 }
 
-/// The argument that the text is, with its backslashes; `BadWord` where it is none's.
+/// The argument that the text spells, with its backslashes; `BadWord` if it spells none.
 pub fn read_arg(alloc: Global, text: &str) -> Result<Arg, WordFault>
     ensures found { IfOk result (λ a. (is_arg a ≡ true) × (text.now ≡ arg_text a)) }
     ensures only { (a : List ℕ) → is_arg a ≡ true → text.now ≡ arg_text a

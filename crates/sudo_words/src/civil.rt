@@ -6,7 +6,7 @@ ghost use Rattle.sudo_words.specs.Moment.{date_of};
 
 use jiff::civil::Date;
 
-/// The calendar's days from its first, -9999-01-01, to 1970-01-01.
+/// The number of days from the calendar's first, -9999-01-01, to 1970-01-01.
 const EPOCH: u32 = 4_371_587;
 
 /// A date from 1970-01-01 to 2099-12-31, in numbers.
@@ -20,8 +20,8 @@ pub(crate) struct Civil {
     ghost day_digits: { day < 100 },
 }
 
-/// The day number of the date, where the calendar has it. Its numbers are of so many digits that
-/// they fit the calendar's signed types.
+/// The day number of the date, or `None` if the calendar has no such date. The limits on year,
+/// month and day let them fit the calendar's signed types.
 pub(crate) fn day_number(year: u16, month: u8, day: u8) -> Option<i32>
     requires year_digits { year < 10000 }
     requires month_digits { month < 100 }

@@ -9,12 +9,12 @@ use crate::arg::Arg;
 use crate::items::Items;
 use crate::path::{DirPath, FilePath, is_component};
 
-/// What a path's rule says of the arguments (sudoers(5), "Command arguments").
+/// Which arguments a path's rule allows (sudoers(5), "Command arguments").
 #[derive(Clone, Debug, Drop)]
 pub enum ArgRule {
-    /// Any are allowed.
+    /// Any arguments are allowed.
     Any,
-    /// None is allowed.
+    /// No argument is allowed.
     Empty,
     /// Exactly these are allowed, in this order.
     Exactly(Items<Arg>),

@@ -25,10 +25,10 @@ use crate::lawful::is_lawful;
 use crate::path::{DirPath, FilePath};
 use std::alloc::{AllocError, Global};
 
-/// Stands where no argument is allowed.
+/// Written in place of arguments where none is allowed.
 const NO_ARGS: &str = "\"\"";
 
-/// The words of a text, which single spaces part.
+/// The words of a text, split at each space.
 fn words(alloc: Global, text: &str) -> Result<Vec<&str>, AllocError>
     ensures { IfOk result (λ v. map (λ w. w.now) v.items ≡ slice_split (λ b. b == space) text.now) }
 {
@@ -82,7 +82,7 @@ fn ends_in_slash(head: &[u8]) -> bool
     }
 }
 
-/// The command of this head, with any arguments.
+/// The command with this head that allows any arguments.
 fn with_any(alloc: Global, head: &str) -> Result<Cmnd, CmndFault>
     ensures found { IfOk result (λ c. (head_text c ≡ head.now) × (rule_of c ≡ AnyArguments)) }
     ensures only { (c : Command) → IsHead c → head.now ≡ head_text c
@@ -97,7 +97,8 @@ fn with_any(alloc: Global, head: &str) -> Result<Cmnd, CmndFault>
     Ok(Cmnd::Path(FilePath::read(alloc, head)?, ArgRule::Any))
 }
 
-/// The command of this head and this rule, of any length. `ALL` and directories take any arguments.
+/// The command with this head and this rule, of any length. `ALL` and directories allow any
+/// arguments.
 fn headed(alloc: Global, head: &str, rule: ArgRule) -> Result<Cmnd, CmndFault>
     ensures found { IfOk result (λ c. (head_text c ≡ head.now) × (rule_of c ≡ rule)) }
     ensures only { (c : Command) → IsHead c → head.now ≡ head_text c
@@ -109,7 +110,7 @@ fn headed(alloc: Global, head: &str, rule: ArgRule) -> Result<Cmnd, CmndFault>
     }
 }
 
-/// The lawful command of this head and this rule; `BadCmnd` where there is none.
+/// The lawful command with this head and this rule; `BadCmnd` if there is none.
 pub fn command_of(alloc: Global, head: &str, rule: ArgRule) -> Result<Cmnd, CmndFault>
     ensures found { IfOk result (λ c. IsLawful c × (head_text c ≡ head.now) × (rule_of c ≡ rule)) }
     ensures only { (c : Command) → IsLawful c → head.now ≡ head_text c
@@ -123,7 +124,7 @@ pub fn command_of(alloc: Global, head: &str, rule: ArgRule) -> Result<Cmnd, Cmnd
     }
 }
 
-/// The lawful command that the text is; `BadCmnd` where it is none's.
+/// The lawful command that the text spells; `BadCmnd` if it spells none.
 pub fn read_cmnd(alloc: Global, text: &str) -> Result<Cmnd, CmndFault>
     ensures found { IfOk result (λ c. IsLawful c × (text.now ≡ cmnd_text c)) }
     ensures only { (c : Command) → IsLawful c → text.now ≡ cmnd_text c

@@ -33,15 +33,15 @@ impl Day {
         Day { number }
     }
 
-    /// The days from 1970-01-01 to it.
+    /// The number of days from 1970-01-01 to it.
     pub fn number(&self) -> u32
         ensures { result ≡ self.now }
     {
         self.number
     }
 
-    /// The day from 1970-01-01 to 2099-12-31 whose date the text is, `yyyymmdd`, or `None` where it
-    /// is none's. It takes no memory.
+    /// The day from 1970-01-01 to 2099-12-31 that the text spells as `yyyymmdd`, or `None` if it
+    /// spells no such day. It takes no memory.
     pub fn read(text: &str) -> Option<Day>
         ensures found { IfSome result (λ d. IsDay d × IsDateText text.now (pos d)) }
         ensures only { (d : ℕ) → IsDay d → IsDateText text.now (pos d) → result ≡ Some d }

@@ -7,7 +7,7 @@ ghost use Rattle.sudo_words.specs.Decimal.{is_decimal};
 /// The most digits of a number.
 const MOST_DIGITS: usize = 9;
 
-/// The number that 1 to 9 digits write, or `None` where the bytes are no such digits.
+/// The number that 1 to 9 digits write, or `None` if the bytes are anything else.
 pub fn decimal_of(value: &[u8]) -> Option<u64>
     ensures { result ≡ (if is_decimal value.now then Some (digits_value 10 value.now) else None) }
 {

@@ -1,4 +1,4 @@
-//! Why there is no word, no command or no text.
+//! Why a word or a command is not read, or a text is not printed.
 
 ghost use Rattle.std.specs.Prelude.{◌≡◌};
 ghost use Rattle.sudo_words.specs.declared.fault.CmndFault.TheVariants as cmnd;
@@ -8,7 +8,7 @@ use std::alloc::{AllocError, AllocFailed};
 use std::error::Error;
 use std::fmt;
 
-/// Memory ran out: a growth was refused. It is shown as its name.
+/// Memory ran out: an allocation was refused. It is shown as its name.
 #[derive(Clone, Copy, Debug, PartialEq, Eq)]
 pub struct NoMemory;
 
@@ -37,10 +37,10 @@ impl<T: Drop> From<AllocFailed<T>> for NoMemory {
     }
 }
 
-/// Why a text was read as no word. It is shown as its name.
+/// Why a text was not read as a word. It is shown as its name.
 #[derive(Clone, Copy, Debug, PartialEq, Eq)]
 pub enum WordFault {
-    /// The text has not the word's form.
+    /// The text does not have the word's form.
     BadWord,
     /// Memory ran out.
     NoMemory,
@@ -78,10 +78,10 @@ impl<T: Drop> From<AllocFailed<T>> for WordFault {
     }
 }
 
-/// Why a text was read as no command. It is shown as its name.
+/// Why a text was not read as a command. It is shown as its name.
 #[derive(Clone, Copy, Debug, PartialEq, Eq)]
 pub enum CmndFault {
-    /// The text is no lawful command's.
+    /// The text, or the head and the rule, are not those of a lawful command.
     BadCmnd,
     /// Memory ran out.
     NoMemory,

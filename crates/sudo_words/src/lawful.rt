@@ -1,4 +1,4 @@
-//! Which commands policies hold.
+//! Which commands a policy may hold.
 
 ghost use Rattle.std.specs.Prelude.{◌≡◌, ◌↔◌, ◌≤◌, IsTrue, MatchOption, count_by, length, true};
 ghost use Rattle.std.specs.List.{AllByRecursion, flat_map};
@@ -51,7 +51,7 @@ fn args_length(args: &[Arg]) -> usize
     total
 }
 
-/// The length of the rule's text; `None` where it lists no argument, or too many.
+/// The length of the rule's text; `None` if it lists no argument, or too many.
 fn rule_length(rule: &ArgRule) -> Option<usize>
     ensures { MatchOption result (¬ IsArgRule rule.now)
         (λ n. IsArgRule rule.now × (n ≡ length (rule_text rule.now)) × (n ≤ 2064)) }
@@ -69,8 +69,8 @@ fn rule_length(rule: &ArgRule) -> Option<usize>
     }
 }
 
-/// Whether policies hold the command: `ALL`, a directory, or a file with any arguments, with none,
-/// or with 1 to 16 that are listed; its path has at most 255 bytes, and its text at most 1,024. No
+/// Whether a policy may hold the command: `ALL`, a directory, or a file with any arguments, none,
+/// or 1 to 16 that are listed; its path has at most 255 bytes, and its text at most 1,024. No
 /// file is `sudoedit`. It takes no memory.
 pub fn is_lawful(cmnd: &Cmnd) -> bool
     ensures { IsTrue result ↔ IsLawful cmnd.now }

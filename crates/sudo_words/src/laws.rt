@@ -1,5 +1,5 @@
-//! The laws, each the contract of a function that does nothing. Those of commands and their
-//! texts stand here.
+//! The laws, each the contract of a function that does nothing. Those of names, paths, commands
+//! and commands' texts are written here.
 
 ghost use Rattle.std.specs.Prelude.{◌≡◌, ◌↔◌, ◌++◌, ℕ, List, true, false, codes};
 ghost use Rattle.sudo_words.specs.Command.{IsLawful, cmnd_text, is_directly_in};
@@ -11,13 +11,13 @@ ghost use Rattle.sudo_words.specs.declared.cmnd.Cmnd.{Cmnd as Command};
 // the texts of moments
 pub use crate::moment_laws::{one_moment, stamp_is_stamp, stamp_spells, worked_moments};
 
-/// No text is that of two commands.
+/// No two lawful commands have the same text.
 pub fn one_command()
     ensures { (c d : Command) → IsLawful c → IsLawful d → cmnd_text c ≡ cmnd_text d → c ≡ d }
 {}
 
-/// What is directly in a directory has the directory's path and one component after it, and
-/// whatever has that is in it.
+/// A path is directly in a directory exactly where it is the directory's path and one component
+/// after it.
 pub fn directory_and_component()
     ensures { (dir path : List ℕ) → (is_directly_in dir path ≡ true)
         ↔ ((component : List ℕ) × (path ≡ dir ++ component) × (is_component component ≡ true)) }
@@ -43,8 +43,8 @@ pub fn worked_paths()
     ensures directory { IsLawful (Dir (codes "/opt/sudoedit/")) }
 {}
 
-/// Worked names: a keyword is no user's, target's or host's name, but one with more after it is,
-/// and a label may be one.
+/// Worked names: a keyword is not the name of a user, target or host, but a keyword with more after
+/// it may be, and a label may be a keyword.
 pub fn worked_names()
     ensures sudoedit { (is_name (codes "sudoedit") ≡ false)
         × (is_host_name (codes "sudoedit") ≡ false) }

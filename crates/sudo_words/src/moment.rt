@@ -23,7 +23,7 @@ const STAMP_LENGTH: usize = 15;
 /// It is read from Generalized Time (RFC 4517, section 3.3.13) in one of the forms
 /// `yyyymmddHHMMSSZ`, `yyyymmddHHMMZ` and `yyyymmddHHZ`, and printed in the first, which is
 /// canonical. `+hhmm` or `-hhmm` may stand in place of `Z`, for a clock that is so far ahead of UTC
-/// or behind it. Fractions and offsets of hours alone, which that syntax has too, are not read.
+/// or behind it. Fractions and offsets in hours alone are also part of that syntax, but not read.
 #[derive(Clone, Copy, Debug, PartialEq, Eq, PartialOrd, Ord)]
 pub struct Moment {
     secs: u32,
@@ -55,7 +55,7 @@ impl Moment {
         moment_at(date(front)?, clock(time)?, offset(end)?)
     }
 
-    /// The moment whose canonical text this is, or `None` where it is no moment's. It takes no
+    /// The moment whose canonical text this is, or `None` if it is the text of none. It takes no
     /// memory.
     pub fn read_stamp(text: &str) -> Option<Moment>
         ensures found { IfSome result (λ t. IsStamp text.now t) }
@@ -116,8 +116,8 @@ fn digit(number: u8) -> u8
     b'0' + number
 }
 
-/// The bytes of the canonical text: a date's and a time of day's numbers in two digits each, and
-/// `Z`.
+/// The bytes of the canonical text: four digits for the year, two each for the month, the day and
+/// the parts of the time of day, and `Z`.
 fn stamp_bytes(moment: Moment) -> [u8; 15]
     ensures { result ≡ stamp moment }
 {

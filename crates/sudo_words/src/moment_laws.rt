@@ -8,7 +8,7 @@ pub fn one_moment()
     ensures { (text : List ℕ) (s t : ℕ) → Spells text s → Spells text t → s ≡ t }
 {}
 
-/// What is printed is a moment's canonical text, the only one, and has 15 bytes.
+/// What a moment prints is its canonical text, the only one, and has 15 bytes.
 pub fn stamp_is_stamp()
     ensures stamp { (t : ℕ) → IsMoment t → IsStamp (stamp t) t }
     ensures only { (text : List ℕ) (t : ℕ) → IsStamp text t → text ≡ stamp t }
@@ -22,9 +22,9 @@ pub fn stamp_spells()
         → length text ≡ 15 → text ≡ front ++ codes "Z" → IsStamp text t }
 {}
 
-/// Times by clocks ahead of UTC and behind it: at 09:00:00 UTC, at the first moment by a date
-/// before it, at the last; and some that are none, for they lie before the first moment or past the
-/// last, or their offset is of 24 hours, or of hours alone.
+/// Times by clocks ahead of UTC and behind it. Two are 09:00:00 UTC, one is the first moment, by a
+/// date before it, and two are the last. The rest spell no moment: they lie before the first or
+/// past the last, or their offset is 24 hours, or is in hours alone.
 pub fn worked_moments()
     ensures ahead { Spells (codes "20260105100000+0100") 1_767_603_600 }
     ensures behind { Spells (codes "2026010504-0500") 1_767_603_600 }

@@ -44,7 +44,7 @@ fn is_name_shape(text: &[u8]) -> bool
     }
 }
 
-/// The form of a user's or a target's name: `[a-z_][a-z0-9._-]*`, up to 32 bytes, and no keyword.
+/// The form of a user's or target's name: `[a-z_][a-z0-9._-]*`, up to 32 bytes, and not a keyword.
 #[derive(Clone, Copy, Debug)]
 pub struct UserForm;
 
@@ -59,7 +59,7 @@ impl Form for UserForm {
 /// The name of a user, or of the target that a command runs as.
 pub type Name = Word<UserForm>;
 
-/// The form of a label, as of a ceiling: `[a-z][a-z0-9-]*`, up to 32 bytes.
+/// The form of a label, such as a ceiling's name: `[a-z][a-z0-9-]*`, up to 32 bytes.
 #[derive(Clone, Copy, Debug)]
 pub struct LabelForm;
 
@@ -76,10 +76,10 @@ impl Form for LabelForm {
     }
 }
 
-/// A label of the desk, as the name of a ceiling.
+/// A label of the desk, such as a ceiling's name.
 pub type Label = Word<LabelForm>;
 
-/// The form of a host's name: a label's, and no keyword.
+/// The form of a host's name: that of a label, and not a keyword.
 #[derive(Clone, Copy, Debug)]
 pub struct HostForm;
 

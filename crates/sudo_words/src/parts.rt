@@ -68,7 +68,7 @@ fn distance(text: &[u8]) -> Option<u16>
     }
 }
 
-/// The minutes ahead of UTC of what ends a time, `Z`, `+hhmm` or `-hhmm`.
+/// How many minutes ahead of UTC the end of a time says: `Z`, `+hhmm` or `-hhmm`.
 pub(crate) fn offset(text: &[u8]) -> Option<i32>
     ensures found { IfSome result (λ o. IsOffsetText text.now o) }
     ensures only { (o : ℤ) → IsOffsetText text.now o → result ≡ Some o }
@@ -81,7 +81,7 @@ pub(crate) fn offset(text: &[u8]) -> Option<i32>
     }
 }
 
-/// What stands before the end of a time, and the end, which says its offset from UTC.
+/// A time without its end, and the end, which says its offset from UTC.
 pub(crate) fn split_offset(text: &[u8]) -> Option<(&[u8], &[u8])>
     ensures found { IfSome result (λ parts. text.now ≡ parts.0.now ++ parts.1.now) }
     ensures only { (front end : List ℕ) (o : ℤ) → text.now ≡ front ++ end → IsOffsetText end o

@@ -24,7 +24,7 @@ fn is_dots(part: &[u8]) -> bool
     part == b".".as_slice() || part == b"..".as_slice()
 }
 
-/// Whether the bytes are a component: not empty, `.` or `..`.
+/// Whether the bytes are a component: one or more path bytes, but not `.` or `..`.
 pub(crate) fn is_component(part: &[u8]) -> bool
     ensures { result ≡ word.is_component part.now }
 {

@@ -12,7 +12,7 @@ use std::marker::{Model, PhantomData};
 pub trait Form {
     ghost has: { List ℕ → Bool };
 
-    /// Whether the text is one.
+    /// Whether the text is a word of the form.
     fn test(text: &[u8]) -> bool
         ensures { result ≡ has text.now };
 }
@@ -35,7 +35,7 @@ impl<F: Form> Model for Word<F> {
 }
 
 impl<F: Form> Word<F> {
-    /// The word that the text is; `BadWord` where it has not the form.
+    /// The text as a word; `BadWord` if it does not have the form.
     pub fn read(alloc: Global, text: &str) -> Result<Word<F>, WordFault>
         ensures found { IfOk result (λ w. (w ≡ text.now) × (F.has text.now ≡ true)) }
         ensures only { F.has text.now ≡ true
@@ -50,7 +50,7 @@ impl<F: Form> Word<F> {
         })
     }
 
-    /// The word that the text is, which it keeps; `BadWord` where it has not the form.
+    /// The text as a word, without a copy; `BadWord` if it does not have the form.
     pub fn from_string(text: String) -> Result<Word<F>, WordFault>
         ensures found { IfOk result
             (λ w. (w ≡ string_bytes text) × (F.has (string_bytes text) ≡ true)) }

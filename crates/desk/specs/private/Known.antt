@@ -7,12 +7,12 @@ use Rattle.desk_store.specs.Keeping.{IsKnownOf}
 use Rattle.desk.specs.declared.opening.Origin.{Origin}
 use Rattle.desk.specs.declared.opening.Origin.TheVariants.{Made}
 
--- While the keeper is up, it is what is known of the set. Nothing need be known.
+-- While the keeper is up, this is known of the set, unless nothing is known.
 abbrev pub IsKnown : (Up : Type 0) → (Message → Type 0) → Option Gathered → Type 0
 IsKnown Up S None = Unit {0}
 IsKnown Up S (Some g) = Up → IsKnownOf S g
 
--- Of a desk that was made it is what is known of no messages.
+-- At first something is known only of a desk that was made: what is gathered from no messages.
 abbrev pub IsKnownAtFirst : Origin → Option Gathered → Type 0
 IsKnownAtFirst origin None = Unit {0}
 IsKnownAtFirst origin (Some g) = (origin ≡ Made) × AreGathered [] g

@@ -6,7 +6,7 @@ use Rattle.clap.specs.declared.builder.Command.{Command}
 use Rattle.clap.specs.declared.builder.Command.TheViews.{out-Command as fields_of}
 use Rattle.clap.specs.declared.builder.arg.Arg.{Arg}
 
--- the argument has this rule, of its own command alone
+-- the argument has this rule, and is not global
 abbrev pub HasRule : Arg → Rule → Type 0
 HasRule arg rule = (rule_of arg ≡ rule) × (arg.global ≡ false)
 

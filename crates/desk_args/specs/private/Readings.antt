@@ -7,8 +7,8 @@ use Rattle.desk_args.specs.declared.fault.JobFault.{JobFault}
 use Rattle.desk_args.specs.declared.fault.JobFault.TheVariants.{BadWord, NoMemory}
 use Rattle.desk_args.specs.declared.task.Job.{Job}
 
--- What is read is the job that the line says, unless memory runs out, and a bad word comes of a
--- value that is not of its form.
+-- What is read is the job that the line says, unless memory runs out, and `BadWord` comes only
+-- where a value is not of its form.
 pub record IsReading (line : Option (Text × List Row)) (read : Result Job JobFault) : Type 0 where
   pub found : IfOk read (λ j. Says line j)
   pub only : (j : Job) → Says line j → MatchResult read (λ k. k ≡ j) (λ e. e ≡ NoMemory)

@@ -125,7 +125,7 @@ fn places(alloc: Global) -> Result<Places, Fail> {
     })
 }
 
-/// The exit status, what stands on the output, and what on the standard error.
+/// The exit status, what is on the output, and what is on the standard error.
 fn ended(alloc: Global, job: &Job, texts: &[&str], wrong: Wrong) -> Result<String, Fail> {
     let mut files = files_of(alloc, texts, wrong)?;
     let mut input = input_of(wrong);
@@ -154,7 +154,7 @@ fn shown(alloc: Global, status: u8, out: &[u8], err: &[u8]) -> Result<String, Fa
     Ok(format!(in alloc; "{status}|{written}|{said}.")?)
 }
 
-/// The same of each thing that goes wrong, one after the other.
+/// The same for each thing that goes wrong, one after the other.
 fn all_ended(alloc: Global, job: &Job, texts: &[&str], wrongs: &[Wrong]) -> Result<String, Fail> {
     let mut said = String::new(alloc);
     for wrong in wrongs {

@@ -20,8 +20,8 @@ use Rattle.desk_commands.specs.declared.refusal.Refusal.TheVariants as reasons
 use Rattle.desk_args.specs.declared.task.Job.{Job}
 use Rattle.desk_args.specs.declared.task.Store.{Store}
 
--- It has an answer, and what is to be said beside it stands on the standard error; or it is refused
--- for a reason that it may be refused for.
+-- It has an answer, and what is to be said beside it was said on the standard error; or it is
+-- refused for a reason that it may be refused for.
 pub record IsOutcome (job : Job) (files : List (List ℕ))
     (k : Kept) (input : Option (List ℕ)) (result : Result Answer Refusal)
     (err_before err_after : Option (List ℕ)) : Type 0 where
@@ -29,7 +29,7 @@ pub record IsOutcome (job : Job) (files : List (List ℕ))
       (string_bytes a.text) said × Appends err_before err_after said)
   pub cause : IfErr result (IsCause job files k input)
 
--- What a job leaves that is refused for a cause: at the keeper, and on the standard error before
+-- What a job leaves if it is refused for a cause: at the keeper, and on the standard error before
 -- the line that says so.
 pub record IsLeft (job : Job) (files : List (List ℕ)) (k : Kept) (Same : Type 0)
     (input err_before err_after : Option (List ℕ)) : Type 0 where
@@ -54,7 +54,7 @@ EndsParts roster_file base_file (reasons.Policy fault) =
     HoldsRoster roster_file × IsFaultOf base_file fault
 EndsParts roster_file base_file reason = ⊥
 
--- Taking lines may end for this. No line that is refused ends it.
+-- Taking lines may end for this. A line that is refused does not end it.
 abbrev pub EndsTaking : (Failed : Type 0) → Refusal → Type 0
 EndsTaking Failed reasons.FileFailed = Unit {0}
 EndsTaking Failed reasons.NoMemory = Unit {0}

@@ -13,7 +13,7 @@ use Rattle.desk_schema.specs.Parts.{name_of}
 use Rattle.desk_schema.specs.Shapes.{FindsPart}
 use Rattle.desk_opening.specs.private.Selecting.{ShowsPart}
 
--- the statement that takes all rows of the table out
+-- the statement that deletes all rows of the table
 abbrev pub delete_of : Part → List ℕ
 delete_of Desk = codes "DELETE FROM desk"
 delete_of Messages = codes "DELETE FROM messages"
@@ -22,7 +22,7 @@ delete_of Marks = codes "DELETE FROM marks"
 delete_of Verdicts = codes "DELETE FROM verdicts"
 delete_of Parked = codes "DELETE FROM parked"
 
--- rows of this table alone may be gone
+-- only rows of this table may be gone
 pub record Deletes (part : Part) (old new : Database) : Type 0 where
   pub schema : new.schema ≡ old.schema
   pub others : KeepsBut (name_of part) old new

@@ -1,4 +1,4 @@
--- What the transaction that moves an older desk makes of its tables.
+-- What the transaction that moves an older desk does to its tables.
 use Rattle.std.specs.Prelude.{◌≡◌, ◌≢◌, IsTrue, List, ℕ, [], ◌∷◌, codes}
 use Rattle.std.specs.List.{AllByRecursion}
 use Rattle.sqlite.specs.Table.{Table}
@@ -33,7 +33,7 @@ pub record Emptied (old new : State) : Type 0 where
   pub mode : IsTrue new.in_transaction
   pub empties : IsOld old.now.schema → IsMigratable old.now.schema → EmptiesAll old.now new.now
 
--- The tables are a desk's of today, and have no row but the messages that were there.
+-- The tables are those of a desk of today, and have no rows but the messages that were there.
 pub record Prepares (old new : Database) : Type 0 where
   pub tidy : IsTidy new
   pub desk : table_in new (codes "desk") ≡ []
@@ -51,7 +51,7 @@ pub record Prepared (old new : State) : Type 0 where
   pub mode : IsTrue new.in_transaction
   pub prepares : IsOld old.now.schema → IsMigratable old.now.schema → Prepares old.now new.now
 
--- The older desk became one of today, where the messages are those that it has.
+-- The older desk became one of today, if these are its messages.
 pub record Moved (roster : List ℕ) (messages : List Message) (old new : State) : Type 0 where
   pub mode : IsTrue new.in_transaction
   pub migrates : IsOldDesk old.now → IsMigratable old.now.schema

@@ -132,7 +132,7 @@ is_verdict_row messages r = list_any (λ m. shows_verdict r m && counts messages
 abbrev pub is_parked_row : List Message → Row → Bool
 is_parked_row messages r = list_any (λ m. shows_parked r m && waits messages m) messages
 
--- the message has its row in the table, where it has one there
+-- the message has its row in the table, if it is to have one there
 abbrev pub has_name_row : (names : List Row) → Message → Bool
 has_name_row names (Request q) = list_any (is_of_name q.by q.no) names
 has_name_row names (Verdict v) = true
@@ -146,7 +146,7 @@ has_parked_row messages parked m = not (waits messages m) || list_any (λ r. sho
 
 -- ---- tables beside messages
 
--- the rows of the table are those that the messages come to
+-- the rows of the table are those that follow from the messages
 abbrev pub are_rows_of : Part → List Message → List Row → Bool
 are_rows_of Desk messages rows = true
 are_rows_of Messages messages rows = true
@@ -159,11 +159,11 @@ are_rows_of Verdicts messages rows =
 are_rows_of Parked messages rows =
     list_all (is_parked_row messages) rows && list_all (has_parked_row messages rows) messages
 
--- and each has a rowid of its own
+-- the same, and each row has a rowid of its own
 abbrev pub is_kept : Part → List Message → List Row → Bool
 is_kept part messages rows = are_rows_of part messages rows && list_all (is_keyed rows) rows
 
--- so of the three tables that follow from the messages
+-- the same for the three tables that follow from the messages
 abbrev pub are_kept : List Message → (names verdicts parked : List Row) → Bool
 are_kept messages names verdicts parked = is_kept Names messages names
     && (is_kept Verdicts messages verdicts && is_kept Parked messages parked)

@@ -1,4 +1,4 @@
--- What is judged of the rows that were read.
+-- How the rows that were read are judged.
 use Rattle.std.specs.Prelude.{◌≡◌, ◌⊎◌, true, Bool, ℕ, List, Option}
 use Rattle.std.specs.Prelude.{Some, None, Contains, IsUtf8, string_bytes}
 use Rattle.sqlite.specs.Order.{Row}

@@ -77,7 +77,7 @@ pub record AreAsked (messages : List Message) (asked : List Asked) : Type 0 wher
   pub all : (q : RequestFields) → Contains messages (Request q)
       → (a : Asked) × Contains asked a × IsFrom q a
 
--- the names that have a request, and those that have two, each found by halving
+-- the names that have a request, and those that have two, each list in order for a binary search
 pub record IsIndex (messages : List Message) (names disputed : List Name) : Type 0 where
   pub names_rise : IsSorted name_cmp names
   pub disputed_rise : IsSorted name_cmp disputed

@@ -13,7 +13,7 @@ use Rattle.desk_opening.specs.private.Compare.{is_number}
 
 -- ---- the desk's row
 
--- the roster's text, of rows that show an id 1, this schema and the roster
+-- the roster's text, if there is exactly one row, and it shows the id 1, this schema and the roster
 abbrev pub shown_mark : ℕ → List Row → Option (List ℕ)
 shown_mark version [] = None
 shown_mark version (r ∷ []) =
@@ -22,14 +22,14 @@ shown_mark version (r ∷ s ∷ rs) = None
 
 -- ---- the messages
 
--- the value is no text of a message
+-- the value is not the text of a message that is short enough to be read
 abbrev pub IsForeign : Value → Type 0
 IsForeign v = (text : List ℕ) → v ≡ Text text → ¬ IsWritten text
 
 abbrev pub body : Message → Value
 body m = Text (wire m)
 
--- a message whose text is of the length that is read
+-- a message whose text is short enough to be read: of at most 16,384 bytes
 pub record IsKeepable (m : Message) : Type 0 where
   pub message : IsMessage m
   pub short : length (wire m) ≤ 16_384
@@ -39,13 +39,13 @@ pub record AreBodies (rows : List Row) (messages : List Message) : Type 0 where
   pub texts : map (λ r. column r 0) rows ≡ map body messages
   pub only : (m : Message) → Contains messages m → IsKeepable m
 
--- one of the first columns is no text of a message
+-- one of the first columns is not the text of such a message
 abbrev pub HasForeign : List Row → Type 0
 HasForeign rows = (r : Row) × Contains rows r × IsForeign (column r 0)
 
 -- ---- the rows of the other three
 
--- they are those of the messages, and each has its own rowid
+-- they are those of the set's messages, and each has its own rowid
 pub record AreHeld (S : Message → Type 0) (N V P : List Row) : Type 0 where
   pub rows : AreRows S (IsRow N) (IsRow V) (IsRow P)
   pub names : IsKeyed N

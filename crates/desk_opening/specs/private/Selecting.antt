@@ -17,7 +17,7 @@ select_of Marks = codes "SELECT rowid, asker, no, person, kind, at FROM marks"
 select_of Verdicts = codes "SELECT rowid, asker, no, person, kind, at FROM verdicts"
 select_of Parked = codes "SELECT rowid, body, asker, no FROM parked"
 
--- what is shown of a row
+-- the columns of a row that the statement shows
 abbrev pub shown_of : Part → Row → Row
 shown_of Desk r = column r 0 ∷ column r 2 ∷ column r 3 ∷ []
 shown_of Messages r = column r 1 ∷ []
@@ -31,12 +31,12 @@ shown_of Parked r = column r 0 ∷ column r 1 ∷ column r 2 ∷ column r 3 ∷ 
 abbrev pub ShowsPart : Part → Database → List Row → Type 0
 ShowsPart part db rows = IsPermutation (map (shown_of part) (table_in db (name_of part))) rows
 
--- of the two tables that hold what was given
+-- the same for the two tables that hold what was given
 pub record ShowsTexts (db : Database) (desk messages : List Row) : Type 0 where
   pub desk_is : ShowsPart Desk db desk
   pub messages_are : ShowsPart Messages db messages
 
--- of the three tables whose rows follow from the messages
+-- the same for the three tables whose rows follow from the messages
 pub record ShowsRows (db : Database) (names verdicts parked : List Row) : Type 0 where
   pub names_are : ShowsPart Names db names
   pub verdicts_are : ShowsPart Verdicts db verdicts

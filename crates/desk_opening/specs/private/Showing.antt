@@ -19,19 +19,19 @@ pub record ShowsName (r : Row) (shown : NameRow) : Type 0 where
   pub is : r ≡ id ∷ name_row shown.request shown.is_disputed
   pub keepable : IsKeepable (Request shown.request)
 
--- that of a verdict whose request is there
+-- the row, with its rowid, is that of a verdict whose request is there
 pub record ShowsVerdict (r : Row) (v : VerdictFields) : Type 0 where
   pub id : Value
   pub is : r ≡ id ∷ verdict_row v
   pub lawful : IsVerdict v
 
--- that of a verdict that waits
+-- the row, with its rowid, is that of a verdict that waits
 pub record ShowsParked (r : Row) (v : VerdictFields) : Type 0 where
   pub id : Value
   pub is : r ≡ id ∷ parked_row v
   pub keepable : IsKeepable (Verdict v)
 
--- each row shows what stands in the same place
+-- each row shows what is at the same place in the list
 abbrev pub AreShown : {X : Type 0} → (Row → X → Type 0) → List Row → List X → Type 0
 AreShown Shows [] [] = ⊤
 AreShown Shows [] (x ∷ xs) = ⊥

@@ -1,8 +1,8 @@
--- What a desk's tables have beside columns and keys: nothing.
+-- A desk's tables have nothing besides columns and keys.
 use Rattle.std.specs.Prelude.{◌≡◌, false, []}
 use Rattle.sqlite.specs.Table.{Table}
 
--- no check, no reference and no default that is computed
+-- no check, no reference, no computed default and no AUTOINCREMENT
 pub record IsBare (table : Table) : Type 0 where
   pub checks : table.checks ≡ []
   pub references : table.references ≡ []

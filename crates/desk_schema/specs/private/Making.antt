@@ -1,4 +1,4 @@
--- What the statements that make a desk leave of a connection.
+-- What the statements that make a desk do to a connection.
 use Rattle.std.specs.Prelude.{◌≡◌, ◌+◌, ◌^◌, ◌++◌, IsTrue, nat_le}
 use Rattle.std.specs.Prelude.{ℕ, false, List, [], ◌∷◌, None, codes}
 use Rattle.std.specs.List.{AllByRecursion, position_from}
@@ -57,7 +57,7 @@ pub record HasEmpty (db : Database) (part : Part) : Type 0 where
   pub empty : db.trees tree ≡ []
   pub alone : IsUnreferred db.schema tree
 
--- these parts were made, and these are open still; the tables that were there keep their rows
+-- the first parts were made, the rest is still open; the tables that were there keep their rows
 pub record Grows (made rest : List Part) (old new : Database) : Type 0 where
   pub has : AllByRecursion (HasEmpty new) made
   pub open' : AllByRecursion (IsOpen new.schema) rest
@@ -74,11 +74,11 @@ pub record GrownWhole (old new : State) : Type 0 where
   pub mode : IsTrue new.in_transaction
   pub grows : IsReady old.now.schema → GrowsWhole old.now new.now
 
--- a desk of this roster text, with no message
+-- a desk with this roster text and no message
 abbrev pub fresh : List ℕ → Content
 fresh roster = record { roster = roster; texts = set.empty }
 
--- a desk of the roster text was made, with no message, in trees that obey the schema that they list
+-- a desk with the roster text and no message was made, in trees that obey the schema that they list
 pub record Makes (roster : List ℕ) (new : Database) : Type 0 where
   pub sound : IsDatabase new
   pub desk : IsDeskDatabase new
@@ -95,8 +95,8 @@ pub record Filled (roster : List ℕ) (old new : State) : Type 0 where
   pub founds : IsReady old.now.schema → Founds roster old.now new.now
   pub beside : IsReady old.now.schema → KeepsBeside old.now new.now
 
--- Whatever database has these trees: it is a desk of the roster text, with no message, beside the
--- tables that were there.
+-- Any database with these trees is a desk with the roster text and no message, beside the tables
+-- that were there.
 abbrev pub FoundsAt : List ℕ → Database → Trees → Type 0
 FoundsAt roster old trees =
     (db : Database) → db.trees ≡ trees → IsDatabase db → Founds roster old db

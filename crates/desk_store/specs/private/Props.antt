@@ -1,4 +1,4 @@
--- That a connection rests has one proof at most, so a ghost field can hold it.
+-- There is at most one proof that a connection rests, so a ghost field can hold it.
 use Rattle.std.proofs.Common.{ap}
 use base.Stored.{Coded-set}
 use mathlib.Core.Bool.{Bool-set}

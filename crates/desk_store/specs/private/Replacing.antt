@@ -1,4 +1,4 @@
--- What a call that replaces the roster's text leaves of a connection.
+-- What a call that replaces the roster's text does to a connection.
 use Rattle.std.specs.Prelude.{◌≡◌, ◌⊎◌, List, ℕ, OnOk, OnErr, Result}
 use Rattle.sqlite.specs.Tree.{Trees}
 use Rattle.sqlite.specs.Effect.{Database, IsDatabase}
@@ -12,12 +12,12 @@ use Rattle.desk_opening.specs.Opened.{IsKept, IsOldDesk}
 abbrev pub IsEither : Database → Type 0
 IsEither db = IsKept db ⊎ IsOldDesk db
 
--- a desk of today, of the other roster text, and with the messages that there were
+-- a desk of today, with the other roster text and the messages that were there
 pub record Becomes (roster : List ℕ) (old new : Database) : Type 0 where
   pub desk : IsKept new
   pub content : content_of new ≡ with_roster roster (content_of old)
 
--- whatever database has these trees
+-- any database with these trees is that desk
 abbrev pub BecomesAt : List ℕ → Database → Trees → Type 0
 BecomesAt roster old trees =
     (db : Database) → db.trees ≡ trees → IsDatabase db → Becomes roster old db

@@ -1,4 +1,4 @@
--- What a database keeps of a desk stays where the database is the same. For private clauses.
+-- A database that stays the same keeps the same of a desk. For private clauses.
 use Rattle.std.specs.Prelude.{◌≡◌}
 use Rattle.std.proofs.Common.{refl, sym, ◌∙◌, subst, ap}
 use Rattle.sqlite.specs.Effect.{Database}

@@ -8,7 +8,7 @@ use Rattle.desk_schema.specs.Shapes.{IsVacant}
 use Rattle.desk_opening.specs.Opened.{IsKept, IsOldDesk}
 use Rattle.desk_store.specs.Crash.{MayShow}
 
--- The second database keeps of a desk what the first does, whatever its schema has beside.
+-- The second database keeps the same of a desk as the first, whatever else its schema has.
 pub record IsAgain (a b : Database) : Type 0 where
   pub empty : IsVacant a.schema → IsVacant b.schema
   pub desk : IsKept a → IsKept b

@@ -16,7 +16,7 @@ use Rattle.desk_tables.specs.Stored.{is_stray, recorded, texts_of, tree_of}
 use Rattle.desk_tables.specs.Kept.{IsTidy, table_in}
 use Rattle.desk_tables.specs.private.Changes.{Tells}
 
--- of a step of a transaction, before and after it, where the disk is honest
+-- `Does` relates the states before and after a step of a transaction, if the disk is honest
 abbrev pub InStep : (old new : State) → (State → State → Type 0) → Type 0
 InStep old new Does = HasCleanDisk new → IsTrue old.in_transaction → Does old new
 
@@ -35,7 +35,7 @@ abbrev pub KeepsBut : List ℕ → Database → Database → Type 0
 KeepsBut name old new = AllByRecursion (λ (t : Table). t.tree ≢ tree_of old.schema name
     → new.trees t.tree ≡ old.trees t.tree) old.schema.tables
 
--- The rows of this table alone were changed, in trees that obey the schema that they list.
+-- Only the rows of this table were changed, in trees that obey the schema that they list.
 pub record Alters (name : List ℕ) (Rows : RowSet → RowSet → Type 0)
     (old new : Database) : Type 0 where
   pub sound : IsDatabase new
@@ -44,12 +44,12 @@ pub record Alters (name : List ℕ) (Rows : RowSet → RowSet → Type 0)
   pub others : KeepsBut name old new
   pub tidy : IsTidy new
 
--- what a statement makes of a desk's tables
+-- a statement changed only the rows of this table, inside a transaction that goes on
 pub record Wrote (name : List ℕ) (Rows : RowSet → RowSet → Type 0) (old new : State) : Type 0 where
   pub inside : IsInside old new
   pub alters : IsTidy old.now → Alters name Rows old.now new.now
 
--- The text was put to the messages.
+-- The text was added to the messages.
 pub record AddsText (text : List ℕ) (old new : Database) : Type 0 where
   pub sound : IsDatabase new
   pub schema : new.schema ≡ old.schema
@@ -104,7 +104,7 @@ pub record FindsParked (name : RequestName) (rows : List Row) (old new : State) 
   pub same : IsTidy old.now → new.now ≡ old.now
   pub shows : IsTidy old.now → ShowsParked name (IsRow (table_in old.now (codes "parked"))) rows
 
--- The desk's row alone was changed, and is as told.
+-- Only the rows of `desk` were changed, and `Row'` holds for them.
 pub record Marks (Row' : List Row → Type 0) (old new : Database) : Type 0 where
   pub sound : IsDatabase new
   pub schema : new.schema ≡ old.schema

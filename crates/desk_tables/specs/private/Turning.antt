@@ -1,4 +1,4 @@
--- What several statements of a transaction make of a desk's tables.
+-- What several statements of a transaction do to a desk's tables.
 use Rattle.std.specs.Prelude.{◌≡◌, ◌⊎◌, map, Some, IsTrue, Bool, true, false, List, ℕ, codes}
 use Rattle.std.specs.FinSet as set
 use Rattle.sqlite.specs.declared.types.Value.{Value}
@@ -22,12 +22,12 @@ use Rattle.desk_tables.specs.Kept.{HasRows, HoldsText, IsDeskDatabase, IsTidy, S
 abbrev pub Stays : List Row → List Row → Type 0
 Stays old new = new ≡ old
 
--- what is said of the rows' values
+-- `Rows` relates the values of the rows
 abbrev pub Rowwise : (RowSet → RowSet → Type 0) → List Row → List Row → Type 0
 Rowwise Rows old new = Rows (IsRow old) (IsRow new)
 
--- The three tables of rows were changed as told; the roster's row and the messages are as they
--- were.
+-- The three tables of rows were changed as `N`, `V` and `P` say; the roster's row and the messages
+-- are as they were.
 pub record Turns (N V P : List Row → List Row → Type 0) (old new : Database) : Type 0 where
   pub sound : IsDatabase old → IsDatabase new
   pub schema : new.schema ≡ old.schema
@@ -39,7 +39,7 @@ pub record Turns (N V P : List Row → List Row → Type 0) (old new : Database)
   pub messages : table_in new (codes "messages") ≡ table_in old (codes "messages")
   pub spares : Spares old new
 
--- and the transaction goes on
+-- the same, in a transaction that goes on
 pub record Turned (N V P : List Row → List Row → Type 0) (old new : State) : Type 0 where
   pub mode : IsTrue new.in_transaction
   pub turns : IsTidy old.now → Turns N V P old.now new.now
@@ -48,18 +48,18 @@ pub record Turned (N V P : List Row → List Row → Type 0) (old new : State) :
 abbrev pub ShowsVerdict : Row → VerdictFields → Type 0
 ShowsVerdict x v = IsMessage (Verdict v) × (column x 0 ≡ Text (wire (Verdict v)))
 
--- the verdict that the row shows was put to the verdicts
+-- the verdict that the row shows was added to the verdicts
 abbrev pub JoinsOne : Row → RowSet → RowSet → Type 0
 JoinsOne x old new = (v : VerdictFields) × ShowsVerdict x v × Gains (verdict_row v) old new
 
--- the verdict of each of these rows, and no other, was put to the verdicts
+-- the verdict of each of these rows, and no other, was added to the verdicts
 pub record JoinsAll (rows : List Row) (old new : RowSet) : Type 0 where
   pub each : (r : List Value) → new r → old r
       ⊎ ((v : VerdictFields) × (x : Row) × Has rows x × ShowsVerdict x v × (r ≡ verdict_row v))
   pub kept : (r : List Value) → old r → new r
   pub joined : (x : Row) → Has rows x → (v : VerdictFields) × ShowsVerdict x v × new (verdict_row v)
 
--- the request's row stands in place of whatever row its name had, and tells whether there was one
+-- the request's row replaced the row of its name, if any, and tells whether there was one
 abbrev pub Renames : RequestFields → RowSet → RowSet → Type 0
 Renames q old new = (told : Bool) × Names q told old new
 
@@ -81,8 +81,8 @@ pub record JoinedParked (name : RequestName) (old new : State) : Type 0 where
   pub mode : IsTrue new.in_transaction
   pub joins : IsTidy old.now → JoinsParked name old.now new.now
 
--- What a message that is new to the messages makes of the rows: where they were those of the
--- messages without it, they are those of the messages with it.
+-- A new message was settled: if the rows were those of the messages without it, they are now those
+-- of the messages with it.
 pub record Settles (m : Message) (old new : Database) : Type 0 where
   pub sound : IsDatabase old → IsDatabase new
   pub schema : new.schema ≡ old.schema
@@ -104,7 +104,7 @@ pub record Receives (text : List ℕ) (old new : Database) : Type 0 where
   pub content : content_of new ≡ with_text text (content_of old)
   pub spares : Spares old new
 
--- One that was there changes nothing.
+-- The message was taken in; if it was there already, nothing changed.
 pub record Received (text : List ℕ) (old new : State) : Type 0 where
   pub mode : IsTrue new.in_transaction
   pub receives : IsDatabase old.now → IsDeskDatabase old.now → Receives text old.now new.now
@@ -114,7 +114,7 @@ pub record Received (text : List ℕ) (old new : State) : Type 0 where
 abbrev pub texts_in : List Message → Texts
 texts_in messages = set.from_list (map wire messages)
 
--- Where the three tables were empty, they have the rows of these messages.
+-- If the three tables were empty, they now have the rows of these messages.
 pub record Refills (messages : List Message) (old new : Database) : Type 0 where
   pub sound : IsDatabase old → IsDatabase new
   pub schema : new.schema ≡ old.schema
@@ -165,7 +165,7 @@ pub record Replaces (roster : List ℕ) (old new : Database) : Type 0 where
   pub content : content_of new ≡ with_roster roster (content_of old)
   pub spares : Spares old new
 
--- where the messages are those of the desk
+-- the same, if these are the desk's messages
 pub record Replaced (roster : List ℕ) (messages : List Message) (old new : State) : Type 0 where
   pub mode : IsTrue new.in_transaction
   pub replaces : IsDeskDatabase old.now

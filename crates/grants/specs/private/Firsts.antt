@@ -10,16 +10,16 @@ use Rattle.roster.specs.Fields.{CeilingFields, RosterFields}
 use Rattle.grants.specs.Verdicts.{may_give}
 use Rattle.grants.specs.declared.marks.Mark.{Mark}
 
--- the verdict of the kind that a mark keeps counts, on what the asker asked for
+-- the verdict of the kind that the mark keeps counts on what the asker asked for
 abbrev pub has_counting : RosterFields Cmnd → CeilingFields Cmnd
     → VerdictKind → (asker : List ℕ) → Mark → Bool
 has_counting f c kind asker mark = may_give f c kind mark.person asker mark.at
 
--- the mark is one of these people's
+-- one of these people gave the mark
 abbrev pub is_of : (people : List (List ℕ)) → Mark → Bool
 is_of people mark = list_any (λ person. bytes_eq person mark.person) people
 
--- the mark passes, and is none of these people's
+-- the mark passes, and none of these people gave it
 abbrev pub is_of_another : (Mark → Bool) → (others : List (List ℕ)) → Mark → Bool
 is_of_another test others mark = not (is_of others mark) && test mark
 
@@ -28,7 +28,8 @@ abbrev pub is_sooner : Mark → Option Mark → Bool
 is_sooner mark None = true
 is_sooner mark (Some other) = nat_lt mark.at other.at
 
--- the first of this mark and of those that pass; of two of one moment the one that stands first
+-- the earliest of this mark and of those that pass; of two at one moment, the one that comes first
+-- in the list
 abbrev pub earliest_from : Option Mark → (Mark → Bool) → List Mark → Option Mark
 earliest_from first test [] = first
 earliest_from first test (mark ∷ more) =
@@ -49,6 +50,6 @@ after_others test others (suc more) marks =
     option_and_then (λ first. after_others test (others ++ first.person ∷ []) more marks)
     (earliest_of (is_of_another test others) marks)
 
--- the moment by which n people have a mark that passes, n being 1 at least
+-- the moment by which n people have a mark that passes, for n of at least 1
 abbrev pub nth_of : (Mark → Bool) → ℕ → List Mark → Option ℕ
 nth_of test n marks = after_others test [] (n - 1) marks

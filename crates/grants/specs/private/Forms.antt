@@ -11,7 +11,7 @@ use Rattle.sudo_words.specs.declared.cmnd.Cmnd.TheVariants.{All, Path, Dir}
 use Rattle.sudo_words.specs.declared.cmnd.ArgRule.{ArgRule}
 use Rattle.sudo_words.specs.declared.cmnd.ArgRule.TheVariants.{Any, Empty, Exactly}
 
--- the one allows no arguments that the other does not
+-- the inner rule allows no arguments that the outer does not
 abbrev pub rule_inside : (inner outer : ArgRule) → Bool
 rule_inside r Any = true
 rule_inside Empty Empty = true
@@ -29,7 +29,7 @@ abbrev pub is_all : Cmnd → Bool
 is_all All = true
 is_all c = false
 
--- the path up to its last slash, which it keeps; nothing where it has none
+-- the path up to and including its last slash; empty if it has none
 pub record IsDirOf (path dir : List ℕ) : Type 0 where
   pub end : ℕ
   pub within : end ≤ length path

@@ -11,7 +11,7 @@ use Rattle.messages.specs.Fields.{RequestFields}
 
 -- ---- texts
 
--- Before the command of a line: who may run it, on which host and as whom; and when.
+-- What comes before the command in a line: who may run it, on which host and as whom; and when.
 abbrev pub who : List ℕ → RequestFields → List ℕ
 who host q = q.by ++ codes " " ++ host ++ codes " = (" ++ q.runas
 
@@ -25,7 +25,7 @@ lines_text rules = canon (map entries.Rule rules)
 
 -- ---- which lines are left
 
--- whether what has this last moment is left
+-- whether a line with this last moment is left
 abbrev pub is_left : Option ℕ → ℕ → Bool
 is_left None last = true
 is_left (Some moment) last = nat_le moment last
@@ -33,6 +33,6 @@ is_left (Some moment) last = nat_le moment last
 abbrev pub names : RequestFields → List ℕ → Bool
 names q host = list_any (λ h. bytes_eq h host) q.hosts
 
--- It names the host, and asks for a moment at which a line would be left.
+-- It names the host, and asks for a window that ends late enough for a line to be left.
 abbrev pub may_have : Option ℕ → List ℕ → RequestFields → Bool
 may_have after host q = is_left after q.until && names q host

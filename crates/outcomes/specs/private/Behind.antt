@@ -1,4 +1,4 @@
--- The lines that are left of a host's, as the summaries' requests give them in turn.
+-- The lines of a host that are left, as the summaries' requests give them in turn.
 use Rattle.std.specs.Prelude.{◌≡◌, ℕ, ◌≤◌, List, ◌++◌, filter, length, map, Option}
 use Rattle.std.specs.List.{AllByRecursion}
 use Rattle.sudo_words.specs.declared.cmnd.Cmnd.{Cmnd}
@@ -14,12 +14,12 @@ use Rattle.grants.specs.declared.outcome.Status.{Status}
 use Rattle.outcomes.specs.LinesLeft.{stays}
 use Rattle.outcomes.specs.private.InTurn.{Give}
 
--- of the rules that a request gives the host
+-- those left of the rules that a request gives the host
 abbrev pub rules_left : Option ℕ → List ℕ → RequestFields → Status → List Rule
 rules_left after host q status = filter (stays after) (rules_for host q status)
 
--- After the text stand the lines that are left of the summaries' requests in turn: each is of a
--- rule of a grant, and they are not too many.
+-- After the text come the lines that are left of the summaries' requests, in turn: each is the line
+-- of a rule of a grant, and they are not too many.
 pub record AreBehind (f : RosterFields Cmnd) (messages : List Message) (host : List ℕ)
     (after : Option ℕ) (summaries : List Kept) (old new : List ℕ) : Type 0 where
   pub rules : List Rule

@@ -36,11 +36,12 @@ pub record Gathers (messages : List Message) (summaries : BTreeMap RequestName K
 abbrev pub HasNoVerdict : List Message → Type 0
 HasNoVerdict messages = (v : VerdictFields) → ¬ Contains messages (Verdict v)
 
--- They are what is known of some set of requests.
+-- The summaries are what is known of some set of requests.
 abbrev pub AreAlone : BTreeMap RequestName Kept → Type 0
 AreAlone summaries = (messages : List Message) × HasNoVerdict messages × Gathers messages summaries
 
--- the row is of a request of the set
+-- the row is of a request of the set, and is marked as disputed if the set has another of its name,
+-- else not
 abbrev pub IsRowOf : List Message → NameRow → Type 0
 IsRowOf messages row = Contains messages (Request row.request)
     × IsMarked (λ m. Contains messages m) row.request row.is_disputed
@@ -49,8 +50,8 @@ IsRowOf messages row = Contains messages (Request row.request)
 abbrev pub NoRowOf : List NameRow → RequestName → Type 0
 NoRowOf rows name = (row : NameRow) → Contains rows row → ¬ IsNamed row.request name
 
--- at each name of a row the map has a summary of the set's messages about it, and nothing at the
--- others
+-- at the name of each row the map has a summary of the set's messages about it, and nothing at
+-- other names
 pub record GathersRows (messages : List Message) (rows : List NameRow)
     (summaries : BTreeMap RequestName Kept) : Type 0 where
   pub ordered : IsOrdered name_cmp summaries
@@ -87,7 +88,7 @@ pub record AreByName (messages : List Message) (asked : BTreeMap RequestName Kep
   pub summaries : Gathers messages asked
   pub waiting : Waits messages waited
 
--- It is what is known of some set.
+-- The maps are what is known of some set.
 abbrev pub IsByName : BTreeMap RequestName Kept
     → BTreeMap RequestName (Vec VerdictFields Global) → Type 0
 IsByName summaries waiting = (messages : List Message) × AreByName messages summaries waiting

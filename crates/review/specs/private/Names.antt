@@ -1,5 +1,5 @@
--- What a report has of the names that somebody asks under, part by part; only private clauses cite
--- it.
+-- A report's lines for the names under which somebody asks, part by part; only private clauses cite
+-- this.
 use Rattle.std.specs.Prelude.{ℕ, List, [], string_bytes}
 use Rattle.sudo_words.specs.declared.cmnd.Cmnd.{Cmnd}
 use Rattle.sudo_policy.specs.declared.entry.Entry.{Entry}
@@ -22,7 +22,7 @@ AreBarredOf f messages k = AreBarred f messages (kept_name k)
 abbrev pub AreBroadOf : RosterFields Cmnd → List Message → (at : ℕ) → Kept → List (List ℕ) → Type 0
 AreBroadOf f messages at k = AreInForce f messages at AreBroadLines (kept_name k)
 
--- Each part has the summary's lines more.
+-- The summary's lines are added to each part.
 pub record AddsName (f : RosterFields Cmnd) (base : List Entry)
     (messages : List Message) (at : ℕ) (k : Kept) (old new : Parts) : Type 0 where
   pub live :

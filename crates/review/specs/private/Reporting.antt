@@ -25,17 +25,17 @@ AddsLines IsPart old new = (lines : List (List ℕ)) × (new ≡ old ++ lines_te
 abbrev pub kept_name : Kept → RequestName
 kept_name k = name_of k.request
 
--- the first and the last moment are moments
+-- the window's start and end are moments
 abbrev pub IsSpan : Window → Type 0
 IsSpan w = IsMoment w.start × IsMoment w.end
 
--- The summary stands for the set, and the status is what the set's messages about its name come to.
+-- The summary stands for the set, and the status is that of its name by the set's messages.
 pub record IsOutcome (f : RosterFields Cmnd) (messages : List Message)
     (k : Kept) (status : Status) : Type 0 where
   pub stands : StandsFor messages k
   pub status_is : IsStatus f messages (kept_name k) status
 
--- a summary's request and its window, where it is granted and the window holds the moment
+-- a summary's request and its window, if it is granted and the window holds the moment
 abbrev pub IsInForceOf : RosterFields Cmnd → List Message → ℕ → Kept → Option InForce → Type 0
 IsInForceOf f messages at k None =
     (status : Status) × IsStatus f messages (kept_name k) status × (window_at at status ≡ None)
@@ -44,7 +44,7 @@ IsInForceOf f messages at k (Some grant) =
     × (window_at at status ≡ Some grant.window)
     × IsOnlyRequest messages (kept_name k) grant.request.now
 
--- a summary's request and its ceiling, where the name is neither disputed nor lapsed
+-- a summary's request and its ceiling, if the name is neither disputed nor lapsed
 abbrev pub IsOpenOf : RosterFields Cmnd → List Message → Kept → Option OpenRequest → Type 0
 IsOpenOf f messages k None =
     (status : Status) × IsStatus f messages (kept_name k) status × (is_open status ≡ false)
@@ -53,7 +53,7 @@ IsOpenOf f messages k (Some o) =
     × (is_open status ≡ true) × IsOnlyRequest messages (kept_name k) o.request.now
     × (o.request.now ≡ k.request) × (ceiling_at f o.request.now.ceiling ≡ Some o.ceiling.now)
 
--- what a grant is over two lists of hosts
+-- the combined need over two lists of hosts
 abbrev pub over_both : Need → Need → Need
 over_both Needed other = Needed
 over_both Needless other = other

@@ -1,5 +1,5 @@
--- Why none of a person's approvals counts, person by person, as the list of the approvals is gone
--- through; only private clauses cite it.
+-- Why none of a person's approvals counts, person by person, going through the list of approvals;
+-- only private clauses cite this.
 use Rattle.std.specs.Prelude.{ℕ, List, [], ◌∷◌, ◌++◌, Option, Some, None, if◌then◌else◌}
 use Rattle.std.specs.List.{flat_map}
 use Rattle.std.specs.Str.{bytes_eq}
@@ -9,14 +9,14 @@ use Rattle.review.specs.declared.reason.Reason.{Reason}
 use Rattle.review.specs.Barred.{barred_for}
 use Rattle.review.specs.Columns.{lines_text}
 
--- of an approval and later ones of the same person: that of the first, unless one of them counts
+-- why the first of a person's approvals does not count, unless it or one of the later ones counts
 abbrev pub both : (first later : Option Reason) → Option Reason
 both None later = None
 both (Some why) None = None
 both (Some why) (Some other) = Some why
 
--- a person's approval before those of people: one more of the first of them, or one of somebody
--- else
+-- a person's approval put before the approvals of people: one more by the first of them, or one by
+-- somebody else
 abbrev pub joined : (person : List ℕ) → Option Reason
     → List (List ℕ × Option Reason) → List (List ℕ × Option Reason)
 joined person why [] = (person, why) ∷ []
@@ -29,7 +29,7 @@ abbrev pub whys : (reason_at : (person : List ℕ) → (at : ℕ) → Option Rea
 whys reason_at [] = []
 whys reason_at (a ∷ others) = joined a.0 (reason_at a.0 a.1) (whys reason_at others)
 
--- the approvals of the approver so far, if there is one, before those of people
+-- the approvals of the approver so far, if there is one, put before those of people
 abbrev pub before : Option Approver → List (List ℕ × Option Reason) → List (List ℕ × Option Reason)
 before None ws = ws
 before (Some last) ws = joined last.person.now last.why ws

@@ -1,5 +1,5 @@
--- The orders in which a roster's commands, pairs and names are looked up by halving. For private
--- clauses.
+-- The orders in which a roster's commands, pairs and names are looked up by binary search. For
+-- private clauses.
 use Rattle.std.specs.Prelude.{ℕ, Bool, List, []}
 use Rattle.std.specs.List.Sorted.{IsPermutation, IsSorted, IsStrictlySortedBy}
 use Rattle.std.specs.Cmp.Lexicographic.{slice_cmp}
@@ -12,7 +12,7 @@ use Rattle.roster.specs.declared.commands.Kind.{Kind}
 use Rattle.roster.specs.declared.commands.Kind.TheVariants as kind
 use Rattle.roster.specs.Relations.{pair_order, text_order}
 
--- each text once
+-- in byte order, each text once
 abbrev pub AreTextsInOrder : List (List ℕ) → Type 0
 AreTextsInOrder texts = IsStrictlySortedBy text_order texts
 
@@ -59,6 +59,6 @@ cmnd_order c d = place_order (place c) (place d)
 abbrev pub AreCmndsInOrder : List Cmnd → Type 0
 AreCmndsInOrder cmnds = IsSorted cmnd_order cmnds
 
--- the command stands at this place
+-- the command has this place
 abbrev pub is_at : Place → Cmnd → Bool
 is_at p c = is_eq (place_order (place c) p)

@@ -9,33 +9,33 @@ use Rattle.roster.specs.Rules.{are_known, has_self_conflict, in_range}
 use Rattle.roster.specs.declared.fault.RosterFault.{RosterFault}
 use Rattle.roster.specs.declared.fault.RosterFault.TheVariants.{NoMemory}
 
--- What is answered is what is there, or this fault where nothing is, unless memory runs out.
+-- The result is what is there, or this fault if nothing is there, unless memory runs out.
 abbrev pub Reads : {X : Type 0} → RosterFault → Option X → Result X RosterFault → Type 0
 Reads fault there (Ok x) = there ≡ Some x
 Reads fault there (Err e) = e ≢ NoMemory → (e ≡ fault) × (there ≡ None)
 
--- What is answered is this value where the test holds, and this fault where it does not, unless
--- memory runs out.
+-- The result is this value if the test holds, and this fault if it does not, unless memory runs
+-- out.
 abbrev pub Checks : {X : Type 0} → RosterFault → Bool → X → Result X RosterFault → Type 0
 Checks fault test x (Ok y) = (test ≡ true) × (y ≡ x)
 Checks fault test x (Err e) = e ≢ NoMemory → (e ≡ fault) × (test ≡ false)
 
--- What is answered stands so to what was asked, or it is this fault where the fact does not hold,
+-- The result is a value that meets `Stands` if the fact holds, and this fault if it does not,
 -- unless memory runs out.
 abbrev pub Meets : {X : Type 0} → RosterFault → Type 0
     → (X → Type 0) → Result X RosterFault → Type 0
 Meets fault fact Stands (Ok y) = fact × Stands y
 Meets fault fact Stands (Err e) = e ≢ NoMemory → (e ≡ fault) × ¬ fact
 
--- The text is a document with a roster's keys alone, whose values have their types and say this.
+-- The text is a document with known keys only, whose values have their types and say this.
 pub record IsDraftOf (text : List ℕ) (t : RosterFields (List ℕ)) : Type 0 where
   pub document : Members
   pub toml : parse_document text ≡ Some document
   pub keys : has_known_keys document ≡ true
   pub types : fields_of document ≡ Some t
 
--- What it says names what is listed, no duty conflicts with itself, and each number and count is in
--- range.
+-- Each duty and host that is named is listed, no duty conflicts with itself, and each number, day
+-- and count is in range.
 pub record KeepsRules (text : List ℕ) (t : RosterFields (List ℕ)) : Type 0 where
   pub known : are_known t ≡ true
   pub apart : has_self_conflict t ≡ false

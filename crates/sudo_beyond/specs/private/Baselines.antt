@@ -1,4 +1,4 @@
--- What is worked out once of a policy that others are compared with; only private clauses cite it.
+-- What is worked out once for a policy that others are compared with; only private clauses cite it.
 use Rattle.std.specs.Prelude.{◌≡◌, ℕ, ◌+◌, ◌*◌, true, List, length}
 use Rattle.std.specs.Option.{is_some}
 use Rattle.sudo_policy.specs.declared.entry.Entry.{Entry}
@@ -15,15 +15,15 @@ use Rattle.sudo_beyond.specs.Beyond.{Allows, IsInScope, IsInvocation}
 use Rattle.sudo_beyond.specs.Cases.{turns}
 use Rattle.sudo_beyond.specs.private.Gathering.{listings}
 
--- how much stands in a policy of which cases of commands and of moments are made
+-- how many parts of a policy make cases of commands and of moments
 pub record IsSize (es : List Entry) (s : Size) : Type 0 where
   pub commands_are : s.commands ≡ length (commands es)
   pub listings_are : s.listings ≡ length (listings (commands es))
   pub turns_are : s.turns ≡ length (turns (rules_in es))
 
--- Where the names are fixed, at most so many cases are made of so many commands, lists of arguments
--- and moments: for each command no more than each list and two more, and one elsewhere; for each
--- moment one, and one more.
+-- Where the names are fixed, so many commands, lists of arguments and moments make at most so many
+-- cases: for each command at most one with each list and two more, and one run elsewhere; and each
+-- of these runs at each moment and at one more.
 abbrev pub most_of : (commands listings turns : ℕ) → ℕ
 most_of commands listings turns = (commands * (listings + 2) + 1) * (turns + 1)
 

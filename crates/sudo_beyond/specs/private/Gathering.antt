@@ -22,8 +22,8 @@ IsFormOfOthers form = (k : ℕ) → k < 2 ^ 64 → form (other k) ≡ true
 abbrev pub IsLawfulDir : List ℕ → Type 0
 IsLawfulDir dir = (is_dir_path dir ≡ true) × (length dir ≤ most_path_bytes)
 
--- the first other file of a directory that is none of these, and the first other argument that is
--- none of these lists
+-- the first other file of a directory that is not among these, and the first list of one other
+-- argument that is not among these lists
 abbrev pub IsFreeFile : List (List ℕ) → List ℕ → List ℕ → Type 0
 IsFreeFile taken dir path =
     (name : List ℕ) × (path ≡ dir ++ name) × IsFirstOther (λ word. has taken (dir ++ word)) name

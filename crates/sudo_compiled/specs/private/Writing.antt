@@ -18,14 +18,14 @@ use Rattle.sudo_compiled.specs.declared.plain.PlainRule.{PlainRule}
 use Rattle.sudo_compiled.specs.Compiled.{plain_answer, match_answer}
 use Rattle.sudo_compiled.specs.Compiled.{takes_part, is_about, cmnds_say}
 
--- what is written of an item: itself, or the alias that it is
+-- what an item is written out as: itself, or the alias that it is
 abbrev pub written_says : {X : Type 0} → (X → Option Bool)
     → (List ℕ → Option Bool) → Written X → Option Bool
 written_says plain alias_says (written.Own x) = plain x
 written_says plain alias_says (written.Alias name) = alias_says name.now
 
--- what is added at the end of a list answers this, whatever is asked: so the list answers it too,
--- and where it is silent what it answered before
+-- whatever is asked, what is added at the end of a list answers this: so the list answers it too,
+-- and where this is silent, what it answered before
 abbrev pub Adds : {X : Type 0} → (Invocation → X → Option Bool)
     → List (Signed X) → List (Signed X) → (Invocation → Option Bool) → Type 0
 Adds plain old new says = (i : Invocation)
@@ -33,7 +33,7 @@ Adds plain old new says = (i : Invocation)
 
 -- ---- what aliases stand for
 
--- the list that is kept of the alias of this name
+-- the list that is kept for the alias with this name
 abbrev pub list_at : {X : Type 0} → Known X → List ℕ → Option (List (Signed X))
 list_at known name = option_map (λ list. list.value.items) (get_by_text known.lists name)
 
@@ -45,7 +45,7 @@ found_says plain (Some list) = defined.list_answer plain list
 abbrev pub known_says : {X : Type 0} → (X → Option Bool) → Known X → List ℕ → Option Bool
 known_says plain known name = found_says plain (list_at known name)
 
--- what is kept stands for the aliases of these definitions: of whatever is asked it says what they
+-- what is kept stands for the aliases of these definitions: whatever is asked, it says what they
 -- say
 abbrev pub Stands : {X Y : Type 0} → (Invocation → X → Option Bool)
     → (Invocation → (List ℕ → Option Bool) → Y → Option Bool)
@@ -53,8 +53,8 @@ abbrev pub Stands : {X Y : Type 0} → (Invocation → X → Option Bool)
 Stands plain says defs known = (i : Invocation) (name : List ℕ)
     → known_says (plain i) known name ≡ aliases_say (says i) defs name
 
--- so it is of the aliases of each kind that entries define, which are listed from the last to the
--- first
+-- this holds for the aliases of each kind that the entries define; the entries are listed from the
+-- last to the first
 pub record AreKnown (above : List Entry) (known : Aliases) : Type 0 where
   pub users : Stands (λ i x. plain_answer i.user x) (λ i alias_says item.
       defined.item_answer alias_says i.user item) (user_defs above) known.users
@@ -67,7 +67,7 @@ pub record AreKnown (above : List Entry) (known : Aliases) : Type 0 where
 
 -- ---- rules
 
--- a rule is written out where it says, of whatever is asked, what the rule says by the entries'
+-- the rule as it is written out says, whatever is asked, what the rule says by the entries'
 -- definitions, and decides what it decides
 pub record IsWritten (defined_by : List Entry) (r : Rule) (w : PlainRule) : Type 0 where
   pub dates : (at : ℕ) → takes_part w at ≡ defined.takes_part r at

@@ -1,4 +1,5 @@
--- What is kept of a policy's aliases, weight and text, beside its entries. For private clauses.
+-- What is kept beside a policy's entries: its aliases, its weight and the length of its text. For
+-- private clauses.
 use Rattle.std.specs.Prelude.{◌≡◌, ℕ, ◌+◌, List, [], ◌∷◌, ◌++◌, length, reverse, Option, IfSome}
 use Rattle.std.specs.List.{flat_map}
 use Rattle.sudo_policy.specs.declared.entry.Signed.{Signed}
@@ -17,7 +18,7 @@ use Rattle.sudo_policy.specs.private.Measures.{depth_in, stopped, KnowsAll}
 use Rattle.sudo_policy.specs.Policy.{IsPolicy, weight}
 use Rattle.sudo_policy.specs.Printing.{canon}
 
--- what is kept of each alias is what it is by these definitions
+-- what is kept for each alias agrees with these definitions
 pub record IsTable {X : Type 0} (alias_of : X → Option Text)
     (defs : List (Definition X)) (m : Aliases) : Type 0 where
   pub has_those : (name : Text) → has m name ≡ is_defined defs name
@@ -34,21 +35,21 @@ pub record IsKind {X : Type 0} (def : Entry → List (Definition X))
   pub table : IsTable alias_of (flat_map def (reverse es)) m
   pub places : ArePlaces def es m
 
--- what is kept of the aliases of all kinds is what the entries define
+-- what is kept for the aliases of all kinds agrees with these entries
 pub record AreAliasKinds (es : List Entry) (s : AliasKinds) : Type 0 where
   pub users : IsKind user_def item_alias es s.users
   pub runas : IsKind runas_def item_alias es s.runas
   pub hosts : IsKind host_def item_alias es s.hosts
   pub cmnds : IsKind cmnd_def cmnd_alias es s.cmnds
 
--- each alias in the rule is there, in the kind of its place
+-- each alias in the rule is kept in the kind of its place
 pub record RuleIsKnown (s : AliasKinds) (r : Rule) : Type 0 where
   pub users : KnowsAll item_alias (has s.users) r.users
   pub hosts : KnowsAll item_alias (has s.hosts) r.hosts
   pub runas : KnowsAll item_alias (has s.runas) r.runas
   pub cmnd : KnowsAll cmnd_alias (has s.cmnds) (r.cmnd ∷ [])
 
--- what a rule weighs by the weights that are kept
+-- the weight of a rule, from the weights that are kept
 abbrev pub rule_weight_in : AliasKinds → Rule → ℕ
 rule_weight_in s r =
     list_weight item_alias (weight_in s.users) r.users
@@ -56,7 +57,7 @@ rule_weight_in s r =
     + list_weight item_alias (weight_in s.runas) r.runas
     + list_weight cmnd_alias (weight_in s.cmnds) (r.cmnd ∷ [])
 
--- the entries are a policy, and what is kept beside them is theirs
+-- the entries are a policy, and what is kept beside them agrees with them
 pub record IsWhole (es : List Entry) (s : AliasKinds) (weighs : ℕ) (text_len : ℕ) : Type 0 where
   pub policy : IsPolicy es
   pub scope : AreAliasKinds es s
@@ -66,7 +67,7 @@ pub record IsWhole (es : List Entry) (s : AliasKinds) (weighs : ℕ) (text_len :
 abbrev pub IsDraft : Draft → Type 0
 IsDraft d = IsWhole d.entries.items d.scope d.weight d.text_len
 
--- the draft has these entries more, after its own
+-- the draft has these entries added at its end
 pub record Adds (old new : Draft) (es : List Entry) : Type 0 where
   pub draft : IsDraft new
   pub entries : new.entries.items ≡ old.entries.items ++ es

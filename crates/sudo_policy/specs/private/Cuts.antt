@@ -18,7 +18,7 @@ pub record IsCut (p : ℕ → Bool) (bytes front rest : List ℕ) : Type 0 where
   pub each : Each p front
   pub stops : Stops p rest
 
--- The readings of the bytes are those of the rest, with the token before them.
+-- The bytes are read as this token and then the rest, and in no other way.
 pub record IsFirst (bytes : List ℕ) (t : Tok) (rest : List ℕ) : Type 0 where
   pub adds : (ts : List Tok) → Lexes rest ts → Lexes bytes (t ∷ ts)
   pub only : (ts : List Tok) → Lexes bytes ts

@@ -1,4 +1,4 @@
--- What is kept of the aliases of a kind, and the measures of a list by it. For private clauses.
+-- What is kept for the aliases of a kind, and what a list measures by it. For private clauses.
 use Rattle.std.specs.Prelude.{◌≡◌, ℕ, ◌+◌, ◌≤◌, min, Bool, true, false, List, Option, Some, IfSome}
 use Rattle.std.specs.List.{AllByRecursion}
 use Rattle.std.specs.Option.{is_some, option_map_or}
@@ -13,7 +13,7 @@ use Rattle.sudo_policy.specs.Limits.{most_weight, most_depth}
 use Rattle.sudo_policy.specs.Text.{Text}
 use Rattle.sudo_policy.specs.Alias.{list_weight, item_weight, depth_of, list_depth, item_depth}
 
--- a weight, or one more than the most that a policy weighs
+-- a weight, but at most one more than the greatest weight of a policy
 abbrev pub stopped : ℕ → ℕ
 stopped n = min n (most_weight + 1)
 
@@ -23,14 +23,14 @@ alias_at m name = get_by_text m.known name
 abbrev pub has : Aliases → Text → Bool
 has m name = is_some (alias_at m name)
 
--- its weight and depth as they are kept, and 0 where the name is none of these
+-- the weight and the depth that are kept for an alias, and 0 if the name is none of these
 abbrev pub weight_in : Aliases → Text → ℕ
 weight_in m name = option_map_or (λ a. a.measure.weight) (alias_at m name) 0
 
 abbrev pub depth_in : Aliases → Text → ℕ
 depth_in m name = option_map_or (λ a. a.measure.depth) (alias_at m name) 0
 
--- ---- an item, by the alias that it is, if it is one
+-- ---- an item, given by the name of its alias, if it is one
 
 abbrev pub IsItemKnown : (Text → Bool) → Option Text → Type 0
 IsItemKnown test alias = IfSome alias (λ name. test name ≡ true)
@@ -61,14 +61,14 @@ IsUnmeasured alias_of m list = KnowsAll alias_of (has m) list → ⊥
 
 -- ---- definitions
 
--- the alias is new, its list uses those that are there, and its depth is within the limit
+-- the alias is new, each alias in its list is kept, and its depth is within the limit
 pub record IsDefinable {X : Type 0} (alias_of : X → Option Text)
     (m : Aliases) (name : Text) (list : List (Signed X)) : Type 0 where
   pub new : has m name ≡ false
   pub knows : KnowsAll alias_of (has m) list
   pub shallow : depth_of alias_of (depth_in m) list ≤ most_depth
 
--- what is kept of an alias
+-- what is kept for an alias
 pub record IsKept {X : Type 0} (alias_of : X → Option Text) (m : Aliases)
     (place : ℕ) (list : List (Signed X)) (a : Alias) : Type 0 where
   pub place_is : a.place ≡ place

@@ -27,20 +27,20 @@ EndsBy m [] = Unit {0}
 EndsBy m (word a n text ∷ ts) = ⊥
 EndsBy m (mark a byte ∷ ts) = (byte ≡ m) ⊎ (byte ≡ colon)
 
--- what begins with no word after blanks
+-- what does not begin with a word after blanks
 abbrev pub NoArg : List Tok → Type 0
 NoArg ts = (text : List ℕ) (next : List Tok) → ts ≢ word true 0 text ∷ next
 
--- what begins with no word, `=` and word without blanks between
+-- what does not begin with a word, `=` and a word without blanks between
 abbrev pub NoDate : List Tok → Type 0
 NoDate ts = (a : Bool) (name time : List ℕ) (next : List Tok)
     → ts ≢ word a 0 name ∷ mark false equals ∷ word false 0 time ∷ next
 
--- what begins with no word and this mark
+-- what does not begin with a word and this mark
 abbrev pub NoHead : ℕ → List Tok → Type 0
 NoHead m ts = (a b : Bool) (name : List ℕ) (next : List Tok) → ts ≢ word a 0 name ∷ mark b m ∷ next
 
--- what begins with no tag
+-- what does not begin with a tag
 abbrev pub NoTag : List Tok → Type 0
 NoTag ts =
     (a b : Bool) (tag : Bool) (next : List Tok) → ts ≢ word a 0 (tag_word tag) ∷ mark b colon ∷ next
@@ -49,7 +49,7 @@ NoTag ts =
 abbrev pub arg_toks : List (List ℕ) → List Tok
 arg_toks args = map (λ arg. word true 0 (arg_text arg)) args
 
--- what listed arguments say, where any are allowed if none is listed
+-- the rule of listed arguments: any are allowed if none is listed
 abbrev pub rule_from : List (List ℕ) → ArgRule
 rule_from [] = rules.Any
 rule_from (arg ∷ args) = rules.Exactly (arg ∷ args)
@@ -72,7 +72,7 @@ abbrev pub Dated : (before after : Option ℕ) → List Tok
 Dated before after ts new_before new_after rest =
     (dates : List Date) × SpellsDates ts dates rest × Bounds before after dates new_before new_after
 
--- tags of which the last says this
+-- tags, the last of which says this
 abbrev pub Tagged : List Tok → Option Bool → List Tok → Type 0
 Tagged ts nopasswd rest = (tags : List Bool) × SpellsTags ts tags rest × (nopasswd ≡ last_tag tags)
 

@@ -1,4 +1,4 @@
--- No user's, target's or host's name begins with an upper-case letter, as `ALL` and the aliases do.
+-- No name of a user, target or host begins with an upper-case letter; `ALL` and all aliases do.
 use Rattle.std.specs.Prelude.{◌≡◌, ℕ, ◌<◌, ◌==◌, true, false, not, ◌||◌}
 use Rattle.std.specs.Prelude.{nat_le, List, [], ◌∷◌, length, refl}
 use Rattle.std.specs.List.{list_all}

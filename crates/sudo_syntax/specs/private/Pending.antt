@@ -1,5 +1,5 @@
--- Lines of a text of which those before are read, and the front that they left where the last of
--- them goes on. For private clauses.
+-- The lines of a text that are still to be read, and the front that the lines before them left if
+-- the last of those goes on. For private clauses.
 use Rattle.std.specs.Prelude.{◌≡◌, ◌≢◌, ◌<◌, ◌⊎◌, List, [], ◌∷◌, ◌++◌, length}
 use Rattle.sudo_policy.specs.declared.entry.Entry.{Entry}
 use Rattle.sudo_policy.specs.declared.fault.FaultKind.{FaultKind}
@@ -9,7 +9,7 @@ use Rattle.sudo_policy.specs.Text.{Text}
 use Rattle.sudo_policy.specs.Lines.{Joined}
 use Rattle.sudo_policy.specs.Spelling.{SpellsLines}
 
--- The lines are these when joined, where a front that is not empty stands before the first.
+-- The lines are these when joined, with the front before the first if the front is not empty.
 abbrev pub JoinedAfter : Text → List Text → List Text → Type 0
 JoinedAfter front lines joined =
     ((front ≡ []) × Joined lines joined) ⊎ ((0 < length front) × (body : Text)
@@ -19,8 +19,8 @@ abbrev pub SpellsAfter : Text → List Text → List Entry → Type 0
 SpellsAfter front lines es =
     (joined : List Text) × JoinedAfter front lines joined × SpellsLines joined es
 
--- The entries of the lines after the front are those of the rest after its own, with these before
--- them.
+-- The lines after the front spell these entries, followed by what the rest spell after the next
+-- front.
 pub record Leads (front : Text) (lines : List Text)
     (here : List Entry) (next : Text) (rest : List Text) : Type 0 where
   pub adds : (es : List Entry) → SpellsAfter next rest es → SpellsAfter front lines (here ++ es)

@@ -1,4 +1,4 @@
--- The tokens that the reader keeps, and how it takes one after the other from a line.
+-- The tokens that the reader keeps, and how it takes them one by one from a line.
 use Rattle.std.specs.Prelude.{◌≡◌, ℕ, ◌<◌, Bool, true, false, List, [], ◌++◌, length, map}
 use Rattle.sudo_words.specs.Bytes.{equals, comma, colon, opening, closing, quote}
 use Rattle.sudo_policy.specs.Lex.{Tok, word, mark, Lexes, is_word_text, goes_on}
@@ -28,12 +28,12 @@ tok t = kind_tok t.spaced t.kind
 abbrev pub toks : List Token → List Tok
 toks ts = map tok ts
 
--- no token stands in the bytes
+-- the bytes have no token
 pub record IsLast (bytes : List ℕ) : Type 0 where
   pub empty : Lexes bytes []
   pub only : (ts : List Tok) → Lexes bytes ts → ts ≡ []
 
--- the bytes are no words and marks
+-- the bytes are not words and marks
 abbrev pub NoLexing : List ℕ → Type 0
 NoLexing bytes = (ts : List Tok) → Lexes bytes ts → ⊥
 

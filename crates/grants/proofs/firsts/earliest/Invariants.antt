@@ -4,7 +4,7 @@ use Rattle.grants.specs.private.Firsts.{earliest_from, earliest_of, is_of_anothe
 use Rattle.grants.specs.private.Voters.{counting}
 use Rattle.grants.proofs.firsts.earliest.Given as goal
 
--- the first so far and of the marks to come is that of all
+-- the earliest of the first so far and the marks to come is the earliest of all
 abbrev pub invariant-loop-mark : goal.invariant-loop-mark
 invariant-loop-mark l =
     let test = is_of_another (counting l.voters) (map (λ p. p.now) l.others) in

@@ -2,7 +2,7 @@ use Rattle.std.proofs.Common.{◌≡◌, ◌≤◌, ◌==◌, false, length, dro
 use Rattle.std.specs.List.{AllByRecursion}
 use Rattle.grants.proofs.within.dir_of.Given as goal
 
--- no slash stands behind
+-- no slash comes after `end`
 abbrev pub invariant-name : goal.invariant-name
 invariant-name l = record {
   within : l.end ≤ length l.path;

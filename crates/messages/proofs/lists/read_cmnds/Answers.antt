@@ -13,7 +13,7 @@ returns-in_err-cmnd-clause-only c = λ cs each same.
     let i = c.loop-item.item-index in
     let here = view-cmnd_at c.args.items.now cs i c.item-item.result commands.All same c.loop-item-test.true c.item-item.is in
     let lawful = All-get_or IsLawful cs i commands.All here.0 each in
-    let p = err_from_is_err_and c.from_residual.result c.from_residual.ensures.1 in
+    let p = err_from_is_err_and c.from_residual-in_err-cmnd.result c.from_residual-in_err-cmnd.ensures.1 in
     rw (p.1, p.2) (c.in_err-cmnd.ensures.only (get_or cs i commands.All) lawful here.1)
 
 pub loop-item-preserved : goal.loop-item-preserved

@@ -11,7 +11,7 @@ returns-in_err-host-clause-only c = λ hs each same.
     let i = c.loop-item.item-index in
     let here = view-at c.args.items.now hs i c.item-item.result same c.loop-item-test.true c.item-item.is in
     let host = All-get_or (λ (h : List ℕ). is_host_name h ≡ true) hs i [] here.0 each in
-    let p = err_from_is_err_and c.from_residual.result c.from_residual.ensures.1 in
+    let p = err_from_is_err_and c.from_residual-in_err-host.result c.from_residual-in_err-host.ensures.1 in
     rw (p.1, p.2) (c.in_err-host.ensures.only (get_or hs i []) host here.1)
 
 pub loop-item-preserved : goal.loop-item-preserved

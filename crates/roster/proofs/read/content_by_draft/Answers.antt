@@ -6,7 +6,7 @@ use Rattle.roster.proofs.Rising.{ordered_in_texts}
 use Rattle.roster.proofs.Texts.{roster_text}
 use Rattle.roster.proofs.read.content_by_draft.Goals as goal
 
--- a value that is answered where a test passes
+-- a value that is returned if a test passes
 if_passed : {U E X : Type 0} (r : Result U E) (x : X) (A : Type 0) (P : X → Type 0) → (A → P x) → IfOk r (λ _. A) → IfOk (result_and r (Ok x)) P
 if_passed (Ok u) x A P f passed = f passed
 if_passed (Err e) x A P f passed = search

@@ -2,7 +2,7 @@ use Rattle.std.proofs.Common.{◌≤◌, ◌-◌, length, Less, Greater}
 use Rattle.roster.proofs.Rising.{Compare}
 use Rattle.roster.proofs.relations.entry_of.Given as goal
 
--- the entries below are before the name, and those above behind it
+-- the entries below are before the name, and those above are after it
 abbrev pub invariant-halves : goal.invariant-halves
 invariant-halves g l = record {
   ends : l.low ≤ l.high;

@@ -20,7 +20,7 @@ taken : {X Z : Type 0} (s : IntoIter X Z) (xs : List X) (t : IntoIter X Z)
 taken {X} {Z} s [] t y = ap (into_iter_items {X = X} {Z = Z}) y
 taken s (x ∷ xs) t y = y.1.0 ∙ ap (λ ys. x ∷ ys) (taken y.0 xs t y.2)
 
--- the rules so far and one more, in front of the rest
+-- the rules so far and one more, before the rest
 rules_split : (base : List Entry) (seen rest : List Rule) (rule : Rule)
     → reading.with_rules base (seen ++ rule ∷ rest) ≡ (reading.with_rules base seen ++ entries.Rule rule ∷ []) ++ map entries.Rule rest
 rules_split base seen rest rule =

@@ -1,7 +1,7 @@
 use Rattle.std.proofs.Common.{◌≡◌, ℤ, pos, Option, Some, None}
 use Rattle.sudo_words.proofs.day.Day.read.Goals as goal
 
--- what is no number is not this one
+-- `None` is not this number
 no_number : {P : Type 0} (n : ℤ) → ◌≡◌ {A = Option ℤ} None (Some n) → P
 no_number n e = absurd cc
 

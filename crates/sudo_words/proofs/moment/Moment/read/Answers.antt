@@ -4,7 +4,7 @@ use Rattle.std.proofs.lemmas.Option.{IfSome_then}
 use Rattle.sudo_words.proofs.MomentLemmas.{day_fits, offset_fits, parted}
 use Rattle.sudo_words.proofs.moment.Moment.read.Goals as goal
 
--- what is no number is not this one
+-- `None` is not this number
 no_number : {P : Type 0} (n : ℤ) → ◌≡◌ {A = Option ℤ} None (Some n) → P
 no_number n e = absurd cc
 

@@ -1,0 +1,57 @@
+use Rattle.std.proofs.Common.{◌&&◌, ◌∙◌}
+use Rattle.sqlite.specs.Effect.{Database}
+use Rattle.desk_schema.specs.declared.part.Part.TheVariants as part
+use Rattle.desk_schema.specs.Shapes.{FindsPart}
+use Rattle.desk_opening.proofs.ReadLemmas.{still, then_reads}
+use Rattle.desk_opening.proofs.ThreeReads.{three_leave_up, three_read, three_show}
+use Rattle.desk_opening.proofs.kept.keeps_rows.Goals as goal
+
+pub rows_of-requires-clause-found : goal.rows_of-requires-clause-found
+rows_of-requires-clause-found g c up = (c.requires.common up).names
+
+pub keeps_part-requires-clause-rests : goal.keeps_part-requires-clause-rests
+keeps_part-requires-clause-rests g c = c.in_ok-rows.ensures.reads.rests
+
+pub keeps_part-requires-clause-found : goal.keeps_part-requires-clause-found
+keeps_part-requires-clause-found g c = still (λ (d : Database). FindsPart d.schema part.Verdicts) c.in_ok-rows.ensures.reads c.requires.verdicts
+
+pub keeps_part-requires-2-clause-rests : goal.keeps_part-requires-2-clause-rests
+keeps_part-requires-2-clause-rests g c = c.in_ok-verdicts.ensures.reads.rests
+
+pub keeps_part-requires-2-clause-found : goal.keeps_part-requires-2-clause-found
+keeps_part-requires-2-clause-found g c =
+    let both = then_reads c.rows_of.ensures.reads c.in_ok-rows.ensures.up c.keeps_part.ensures.reads in
+    still (λ (d : Database). FindsPart d.schema part.Parked) both (λ up. (c.requires.common up).parked)
+
+pub returns-in_err-names-clause-reads : goal.returns-in_err-names-clause-reads
+returns-in_err-names-clause-reads g c = c.rows_of.ensures.reads
+
+pub returns-in_err-verdicts-clause-reads : goal.returns-in_err-verdicts-clause-reads
+returns-in_err-verdicts-clause-reads g c = then_reads c.rows_of.ensures.reads c.in_ok-rows.ensures.up c.keeps_part.ensures.reads
+
+pub returns-in_err-parked-clause-reads : goal.returns-in_err-parked-clause-reads
+returns-in_err-parked-clause-reads g c =
+    three_read c.rows_of.ensures.reads c.in_ok-rows.ensures.up c.keeps_part.ensures.reads c.in_ok-verdicts.ensures.up c.keeps_part-2.ensures.reads
+
+pub returns-clause-reads : goal.returns-clause-reads
+returns-clause-reads g c =
+    three_read c.rows_of.ensures.reads c.in_ok-rows.ensures.up c.keeps_part.ensures.reads c.in_ok-verdicts.ensures.up c.keeps_part-2.ensures.reads
+
+pub returns-clause-up : goal.returns-clause-up
+returns-clause-up g c =
+    three_leave_up c.rows_of.ensures.reads c.in_ok-rows.ensures.up c.keeps_part.ensures.reads c.in_ok-verdicts.ensures.up c.keeps_part-2.ensures.reads
+    c.in_ok-parked.ensures.up
+
+pub returns-clause-kept : goal.returns-clause-kept
+returns-clause-kept g c up =
+    let two = c.keeps_part-2.ensures.reads.was_up up in
+    let n = c.in_ok-names.ensures.kept (c.keeps_part.ensures.reads.was_up two) in
+    let v = c.in_ok-verdicts.ensures.kept two in
+    let p = c.in_ok-parked.ensures.kept up in (
+      n.0,
+      v.0,
+      p.0,
+      three_show c.rows_of.ensures.reads c.in_ok-rows.ensures.up c.keeps_part.ensures.reads
+          c.in_ok-verdicts.ensures.up c.keeps_part-2.ensures.reads n.1 v.1 p.1 up,
+      c.all_three.ensures ∙ (λ i. n.2 i && (v.2 i && p.2 i)),
+    )
