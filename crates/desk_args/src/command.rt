@@ -15,7 +15,7 @@ use clap::{Arg, ArgAction, ArgMatches, Command};
 use std::alloc::{AllocError, Global};
 
 /// The program's version, and the toolchain that it is proved with.
-const VERSION: &str = "0.14.2\nproved with rattle-kit-13f logic dac8208d650f15bf";
+const VERSION: &str = "0.14.3\nproved with rattle-kit-13f logic dac8208d650f15bf";
 
 /// The text below each help.
 const ENDS: &str =
