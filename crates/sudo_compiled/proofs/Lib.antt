@@ -1,3 +1,5 @@
 pub mod WrittenLists
 pub mod Answering
 pub mod Taking
+pub mod Covering
+pub mod Everything

@@ -1,11 +1,12 @@
 -- Lists as they are written out, sign by sign.
-use Rattle.std.proofs.Common.{◌≡◌, ℕ, ◌+◌, ◌<◌, Bool, true, false, not, cond, if◌then◌else◌, Option, Some}
+use Rattle.std.proofs.Common.{◌≡◌, ℕ, ◌+◌, ◌<◌, Bool, true, false, not, ◌||◌, cond, if◌then◌else◌, Option, Some}
 use Rattle.std.proofs.Common.{None, List, [], ◌∷◌, ◌++◌, length, take, get_or, map, refl, sym, ap, ◌∙◌}
 use Rattle.std.specs.Prelude.{Result, Ok, Err, OnOk, IfOk}
 use Rattle.std.specs.Map.{update}
 use Rattle.std.specs.Option.{option_or, option_map}
 use Rattle.std.specs.Str.{bytes_eq}
-use Rattle.std.proofs.Math.Path.{fun_ext}
+use Rattle.std.proofs.lemmas.Bool.{and_parts}
+use Rattle.std.proofs.lemmas.Slice.Eq.{bytes_eq-Decides}
 use Rattle.sudo_policy.specs.declared.entry.Signed.{Signed}
 use Rattle.sudo_policy.specs.declared.tree.Definition.{Definition}
 use Rattle.sudo_decide.specs.declared.invocation.Invocation.{Invocation}
@@ -13,8 +14,10 @@ use Rattle.sudo_decide.specs.Decision.{signed_answer, list_answer}
 use Rattle.sudo_decide.specs.Kinds.{aliases_say, list_says_by}
 use Rattle.sudo_decide.proofs.AnswerLemmas.{list_answer-push, list_answer-take_more}
 use Rattle.sudo_compiled.specs.declared.known.Known.{Known}
+use Rattle.sudo_compiled.specs.declared.used.NameSet.{NameSet}
 use Rattle.sudo_compiled.specs.private.Kept.{turned}
-use Rattle.sudo_compiled.specs.private.Writing.{Adds, Stands, list_at, found_says, known_says}
+use Rattle.sudo_compiled.specs.private.Used.{AgreeAt, has, is_item_used, is_list_used}
+use Rattle.sudo_compiled.specs.private.Writing.{Adds, SaysByDefinitions, Stands, list_at, found_says, known_says}
 
 or_assoc : {X : Type 0} (a b c : Option X) → option_or (option_or a b) c ≡ option_or a (option_or b c)
 or_assoc None b c = refl
@@ -93,6 +96,11 @@ turned_list says negated (x ∷ xs) =
     ∙ ap (option_or (signed_answer negated (list_answer says xs))) (signed_turned x.negated negated (says x.item))
     ∙ sym (signed_or negated (list_answer says xs) (signed_answer x.negated (says x.item)))
 
+agree_at : (names : NameSet) (f g : List ℕ → Option Bool) → ((n : List ℕ) → has names n ≡ true → f n ≡ g n)
+    → (alias : Option (List ℕ)) → is_item_used names alias ≡ true → AgreeAt f g alias
+agree_at names f g same None used = tt
+agree_at names f g same (Some n) used = same n used
+
 -- ---- one more alias
 
 found_cond : {X : Type 0} (plain : X → Option Bool) (b : Bool) (list : List (Signed X)) (o : Option (List (Signed X)))
@@ -104,22 +112,64 @@ if_same : (b : Bool) (x y u v : Option Bool) → x ≡ u → y ≡ v → (if b t
 if_same true x y u v e f = e
 if_same false x y u v e f = f
 
--- what is kept says about a list what the definitions say about it
-pub stands_list : {X Y : Type 0} (plain : Invocation → X → Option Bool) (says : Invocation → (List ℕ → Option Bool)
-    → Y → Option Bool) (defs : List (Definition Y)) (known : Known X) (list : List (Signed Y)) (i : Invocation)
-    → Stands plain says defs known → list_answer (says i (known_says (plain i) known)) list ≡ list_says_by (says i) defs list
-stands_list plain says defs known list i stands = ap (λ (f : List ℕ → Option Bool). list_answer (says i f) list) (fun_ext (λ name. stands i name))
+-- ---- aliases that are used
 
-pub stands_more : {X Y : Type 0} (plain : Invocation → X → Option Bool) (says : Invocation → (List ℕ → Option Bool) → Y
-    → Option Bool) (defs : List (Definition Y)) (old new : Known X) (name : List ℕ) (list : List (Signed Y)) (written : List (Signed X))
+-- a list depends on its own aliases alone
+lists_agree : {X : Type 0} (alias_of : X → Option (List ℕ)) (says : (List ℕ → Option Bool) → X → Option Bool) (names : NameSet) (f g : List ℕ → Option Bool)
+    → ((item : X) → AgreeAt f g (alias_of item) → says f item ≡ says g item) → ((n : List ℕ) → has names n ≡ true → f n ≡ g n)
+    → (list : List (Signed X)) → is_list_used alias_of names list ≡ true → list_answer (says f) list ≡ list_answer (says g) list
+lists_agree alias_of says names f g local same [] used = refl
+lists_agree alias_of says names f g local same (x ∷ xs) used =
+    let parts = and_parts (is_item_used names (alias_of x.item)) (is_list_used alias_of names xs) used in
+    let here = local x.item (agree_at names f g same (alias_of x.item) parts.0) in
+    ap (λ (a : Option Bool). option_or a (signed_answer x.negated (says f x.item))) (lists_agree alias_of says names f g local same xs parts.1)
+    ∙ ap (λ (a : Option Bool). option_or (list_answer (says g) xs) (signed_answer x.negated a)) here
+
+-- what is kept says about a list of used aliases what the definitions say about it
+pub stands_list : {X Y : Type 0} (alias_of : Y → Option (List ℕ)) (plain : Invocation → X → Option Bool)
+    (says : Invocation → (List ℕ → Option Bool) → Y → Option Bool) (names : NameSet) (defs : List (Definition Y)) (known : Known X) (list : List (Signed Y))
+    → ((i : Invocation) (f g : List ℕ → Option Bool) (item : Y) → AgreeAt f g (alias_of item) → says i f item ≡ says i g item)
+    → is_list_used alias_of names list ≡ true → Stands plain says names defs known → SaysByDefinitions plain says defs known list
+stands_list alias_of plain says names defs known list local used stands = λ i.
+    lists_agree alias_of (says i) names (known_says (plain i) known) (aliases_say (says i) defs)
+    (local i (known_says (plain i) known) (aliases_say (says i) defs)) (stands i) list used
+
+pub stands_more : {X Y : Type 0} (alias_of : Y → Option (List ℕ)) (plain : Invocation → X → Option Bool)
+    (says : Invocation → (List ℕ → Option Bool) → Y → Option Bool) (names : NameSet) (defs : List (Definition Y)) (old new : Known X)
+    (name : List ℕ) (list : List (Signed Y)) (written : List (Signed X))
+    → ((i : Invocation) (f g : List ℕ → Option Bool) (item : Y) → AgreeAt f g (alias_of item) → says i f item ≡ says i g item)
     → ((i : Invocation) → list_answer (plain i) written ≡ list_answer (says i (known_says (plain i) old)) list)
     → ((n : List ℕ) → list_at new n ≡ update bytes_eq (list_at old) name (Some written) n)
-    → Stands plain says defs old → Stands plain says (record { name = name; list = list } ∷ defs) new
-stands_more plain says defs old new name list written is updates stands = λ i n.
+    → is_list_used alias_of names list ≡ true
+    → Stands plain says names defs old → Stands plain says names (record { name = name; list = list } ∷ defs) new
+stands_more alias_of plain says names defs old new name list written local is updates used stands = λ i n here.
     ap (found_says (plain i)) (updates n)
     ∙ found_cond (plain i) (bytes_eq name n) written (list_at old n)
     ∙ if_same (bytes_eq name n) (list_answer (plain i) written) (known_says (plain i) old n) (list_says_by (says i) defs list) (aliases_say (says i) defs n)
-    (is i ∙ stands_list plain says defs old list i stands) (stands i n)
+    (is i ∙ stands_list alias_of plain says names defs old list local used stands i) (stands i n here)
+
+-- an alias that is not used has another name than each that is
+apart : (names : NameSet) (name n : List ℕ) → has names name ≡ false → has names n ≡ true → (b : Bool) → bytes_eq name n ≡ b → b ≡ false
+apart names name n unused named true same =
+    let one : name ≡ n = (bytes_eq-Decides name n).0 same in
+    absurd cc
+apart names name n unused named false same = refl
+
+passed : (b : Bool) (x y : Option Bool) → b ≡ false → y ≡ (if b then x else y)
+passed true x y h = absurd cc
+passed false x y h = refl
+
+pub stands_without : {X Y : Type 0} (plain : Invocation → X → Option Bool) (says : Invocation → (List ℕ → Option Bool) → Y → Option Bool)
+    (names : NameSet) (defs : List (Definition Y)) (known : Known X) (name : List ℕ) (list : List (Signed Y)) → has names name ≡ false
+    → Stands plain says names defs known → Stands plain says names (record { name = name; list = list } ∷ defs) known
+stands_without plain says names defs known name list unused stands = λ i n here.
+    stands i n here ∙ passed (bytes_eq name n) (list_says_by (says i) defs list) (aliases_say (says i) defs n)
+    (apart names name n unused here (bytes_eq name n) refl)
+
+-- the list of an alias that is used is used
+pub then_list : (a b : Bool) → (not a || b) ≡ true → a ≡ true → b ≡ true
+then_list true b either h = either
+then_list false b either h = absurd cc
 
 pub map_cond : {X Y : Type 0} (f : X → Y) (b : Bool) (x : X) (o : Option X) → option_map f (cond b (Some x) o) ≡ cond b (Some (f x)) (option_map f o)
 map_cond f true x o = refl

@@ -1,12 +1,13 @@
 //! Compiled policies, and what they decide.
 
 ghost use Rattle.std.specs.Prelude.{◌≡◌, ◌++◌, ◌∷◌, [], List, IfOk, OnOk};
+ghost use Rattle.std.specs.List.{AllByRecursion};
 ghost use Rattle.sudo_policy.specs.declared.entry.Entry.{Entry as PolicyEntry};
 ghost use Rattle.sudo_policy.specs.declared.entry.Entry.TheVariants as entries;
 ghost use Rattle.sudo_decide.specs.declared.invocation.Invocation.{Invocation as Asked};
 ghost use Rattle.sudo_decide.specs.Decision.{Decides, DecidesBy};
 ghost use Rattle.sudo_compiled.specs.Compiled.{answer};
-ghost use Rattle.sudo_compiled.specs.private.Writing.{AreKnown, IsWritten};
+ghost use Rattle.sudo_compiled.specs.private.Writing.{Covers, CoversEntry, IsWritten};
 
 use crate::aliases::Aliases;
 use crate::among::decide_among;
@@ -39,7 +40,7 @@ impl Model for Compiled {
 /// The rule with its aliases written out.
 fn written_rule(alloc: Global, known: &Aliases, rule: &Rule) -> Result<PlainRule, NoMemory>
     ensures { IfOk result (λ w. (defined : List PolicyEntry)
-        → AreKnown defined known.now → IsWritten defined rule.now w) }
+        → Covers defined known.now rule.now → IsWritten defined rule.now w) }
 {
     let users = written_out::<Users>(alloc, &known.users, rule.users.as_slice())?;
     let hosts = written_out::<Hosts>(alloc, &known.hosts, rule.hosts.as_slice())?;
@@ -65,7 +66,8 @@ fn push_rule(
     entry: &Entry,
 ) -> Result<(), NoMemory>
     ensures { OnOk result ((defined es : List PolicyEntry) (i : Asked)
-        → AreKnown defined known.now → DecidesBy defined es i (answer rules.old.items i)
+        → CoversEntry defined known.now entry.now
+        → DecidesBy defined es i (answer rules.old.items i)
         → DecidesBy defined (es ++ entry.now ∷ []) i (answer rules.new.items i)) }
 {
     if let Entry::Rule(rule) = entry {
@@ -76,9 +78,10 @@ fn push_rule(
 
 /// The policy compiled: whatever is asked, it answers what the policy decides.
 ///
-/// Every alias is written out, once, in the order of the entries: the items of its list take its
-/// place in order, each turned over where the alias is negated. So it has at most 131,072 names
-/// and commands, the most that a policy weighs.
+/// Every alias that a rule uses is written out, once, in the order of the entries: the items of its
+/// list take its place in order, each turned over where the alias is negated. So its rules have as
+/// many names and commands as the policy weighs: at most 131,072. Aliases that no rule uses are
+/// left out, since their weight has no limit.
 pub fn compile(alloc: Global, p: &Policy) -> Result<Compiled, NoMemory>
     ensures { IfOk result (λ c. (i : Asked) → Decides p.now i (answer c i)) }
 {
@@ -98,7 +101,8 @@ fn take_rule(
     entry: Entry,
 ) -> Result<(), NoMemory>
     ensures { OnOk result ((defined es : List PolicyEntry) (i : Asked)
-        → AreKnown defined known.now → DecidesBy defined es i (answer rules.old.items i)
+        → CoversEntry defined known.now entry
+        → DecidesBy defined es i (answer rules.old.items i)
         → DecidesBy defined (es ++ entry ∷ []) i (answer rules.new.items i)) }
 {
     push_rule(alloc, rules, known, &entry)
@@ -116,7 +120,8 @@ fn give_back(rest: &mut Vec<Entry>)
 /// The rules of the entries. Each entry is freed once its rule is made.
 fn rules_of(alloc: Global, known: &Aliases, entries: Vec<Entry>) -> Result<Vec<PlainRule>, NoMemory>
     ensures { IfOk result (λ rules. (defined : List PolicyEntry) (i : Asked)
-        → AreKnown defined known.now → DecidesBy defined entries.items i (answer rules.items i)) }
+        → AllByRecursion (CoversEntry defined known.now) entries.items
+        → DecidesBy defined entries.items i (answer rules.items i)) }
 {
     let mut rules = Vec::with_capacity(alloc, entries.len())?;
     let mut rest = entries;

@@ -1,9 +1,12 @@
 //! The kinds of aliases, and how the items of their lists are written out.
 
 ghost use Rattle.std.specs.Prelude.{◌≡◌, Bool, List, ℕ, Option, IfOk};
+ghost use Rattle.std.specs.Option.{option_copied};
+ghost use Rattle.sudo_policy.specs.Alias.{item_alias, cmnd_alias};
 ghost use Rattle.sudo_decide.specs.declared.invocation.Invocation.{Invocation};
 ghost use Rattle.sudo_decide.specs.Decision.{item_answer, cmnd_answer};
 ghost use Rattle.sudo_compiled.specs.Compiled.{plain_answer, match_answer};
+ghost use Rattle.sudo_compiled.specs.private.Used.{AgreeAt, names_local, cmnds_local};
 ghost use Rattle.sudo_compiled.specs.private.Writing.{written_says};
 
 use crate::plain::Plain;
@@ -34,6 +37,17 @@ pub(crate) trait Kind {
     /// What an item that is not an alias says about it.
     ghost plain: { Invocation → Self.Plain → Option Bool };
 
+    /// The name of the alias, if the item is one.
+    ghost alias_of: { Self.Item → Option (List ℕ) };
+
+    /// What an item says depends on what its alias says, and on no other.
+    ghost local: { (i : Invocation) (f g : List ℕ → Option Bool) (item : Self.Item)
+        → AgreeAt f g (alias_of item) → says i f item ≡ says i g item };
+
+    /// The name of the alias, if the item is one.
+    fn alias<'a>(item: &'a Self::Item) -> Option<&'a AliasName>
+        ensures { option_copied result ≡ alias_of item.now };
+
     /// The item as it is written out: a copy of its own, or the alias that it is.
     fn written<'a>(
         alloc: Global,
@@ -51,6 +65,17 @@ fn copied_cmnd(cmnd: &Cmnd) -> Result<Cmnd, NoMemory>
     ensures { IfOk result (λ x. x ≡ cmnd.now) }
 {
     Ok(cmnd.clone()?)
+}
+
+/// The name of the alias, if an item of users, hosts or targets is one.
+fn alias_in<F: Form>(item: &Item<Word<F>>) -> Option<&AliasName>
+    ensures { option_copied result ≡ item_alias item.now }
+{
+    match item {
+        Item::All => None,
+        Item::Name(_) => None,
+        Item::Alias(name) => Some(name),
+    }
 }
 
 /// An item of users, hosts or targets.
@@ -80,6 +105,14 @@ impl Kind for Users {
 
     ghost plain = { λ i x. plain_answer i.user x };
 
+    ghost alias_of = { item_alias };
+
+    ghost local = { λ i f g item. names_local i.user f g item };
+
+    fn alias<'a>(item: &'a Item<Name>) -> Option<&'a AliasName> {
+        alias_in(item)
+    }
+
     fn written<'a>(alloc: Global, item: &'a Item<Name>) -> Result<Written<'a, Plain>, NoMemory> {
         written_item(alloc, item)
     }
@@ -101,6 +134,14 @@ impl Kind for Targets {
 
     ghost plain = { λ i x. plain_answer i.runas x };
 
+    ghost alias_of = { item_alias };
+
+    ghost local = { λ i f g item. names_local i.runas f g item };
+
+    fn alias<'a>(item: &'a Item<Name>) -> Option<&'a AliasName> {
+        alias_in(item)
+    }
+
     fn written<'a>(alloc: Global, item: &'a Item<Name>) -> Result<Written<'a, Plain>, NoMemory> {
         written_item(alloc, item)
     }
@@ -121,6 +162,14 @@ impl Kind for Hosts {
     ghost says = { λ i alias_says item. item_answer alias_says i.host item };
 
     ghost plain = { λ i x. plain_answer i.host x };
+
+    ghost alias_of = { item_alias };
+
+    ghost local = { λ i f g item. names_local i.host f g item };
+
+    fn alias<'a>(item: &'a Item<HostName>) -> Option<&'a AliasName> {
+        alias_in(item)
+    }
 
     fn written<'a>(
         alloc: Global,
@@ -145,6 +194,17 @@ impl Kind for Cmnds {
     ghost says = { λ i alias_says item. cmnd_answer alias_says i.path i.args item };
 
     ghost plain = { λ i x. match_answer i.path i.args x };
+
+    ghost alias_of = { cmnd_alias };
+
+    ghost local = { λ i f g item. cmnds_local i.path i.args f g item };
+
+    fn alias<'a>(item: &'a CmndItem) -> Option<&'a AliasName> {
+        match item {
+            CmndItem::Alias(name) => Some(name),
+            CmndItem::Cmnd(_) => None,
+        }
+    }
 
     fn written<'a>(_alloc: Global, item: &'a CmndItem) -> Result<Written<'a, Cmnd>, NoMemory> {
         match item {

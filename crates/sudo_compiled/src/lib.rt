@@ -13,6 +13,7 @@ mod listed;
 mod plain;
 mod rule;
 mod short;
+mod used;
 mod writing;
 
 pub use among::{bearing_on, decide_among};

@@ -1,15 +1,18 @@
 //! Lists with each alias written out: an alias item becomes its list's items in order, each with
 //! its sign turned over where the alias item is negated.
 
-ghost use Rattle.std.specs.Prelude.{◌≡◌, ◌++◌, ◌∷◌, [], if◌then◌else◌, not, List, IfOk, OnOk};
+ghost use Rattle.std.specs.Prelude.{◌≡◌, ◌++◌, ◌∷◌, [], if◌then◌else◌, not, true, List};
+ghost use Rattle.std.specs.Prelude.{IfOk, OnOk};
 ghost use Rattle.sudo_policy.specs.declared.tree.Definition.{Definition};
 ghost use Rattle.sudo_decide.specs.declared.invocation.Invocation.{Invocation};
 ghost use Rattle.sudo_decide.specs.Decision.{signed_answer, list_answer};
+ghost use Rattle.sudo_compiled.specs.private.Used.{is_alias_used};
 ghost use Rattle.sudo_compiled.specs.private.Writing.{Adds, Stands, known_says};
 
 use crate::few::Few;
 use crate::kind::{Kind, Written};
 use crate::known::Known;
+use crate::used::NameSet;
 use std::alloc::Global;
 use sudo_policy::Signed;
 use sudo_words::{AliasName, NoMemory};
@@ -146,16 +149,22 @@ pub(crate) fn written_out<K: Kind>(
     }
 }
 
-/// Adds an alias of this name and list, written out by the aliases above it.
+/// Adds an alias of this name and list, written out by the aliases above it, if it is used.
 pub(crate) fn define<K: Kind>(
     alloc: Global,
     known: &mut Known<K::Plain>,
+    used: &NameSet,
     name: &AliasName,
     list: &[Signed<K::Item>],
 ) -> Result<(), NoMemory>
-    ensures { OnOk result ((defs : List (Definition K.Item)) → Stands K.plain K.says defs known.old
-        → Stands K.plain K.says (record { name = name.now; list = list.now } ∷ defs) known.new) }
+    ensures { OnOk result ((defs : List (Definition K.Item))
+        → is_alias_used K.alias_of used.now name.now list.now ≡ true
+        → Stands K.plain K.says used.now defs known.old → Stands K.plain K.says used.now
+        (record { name = name.now; list = list.now } ∷ defs) known.new) }
 {
-    let written = written_items::<K>(alloc, known, list)?;
-    known.add(alloc, name, written)
+    if used.has(name) {
+        let written = written_items::<K>(alloc, known, list)?;
+        known.add(alloc, name, written)?;
+    }
+    Ok(())
 }
