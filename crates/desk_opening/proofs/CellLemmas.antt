@@ -1,4 +1,4 @@
--- What a message and an answer cannot be.
+-- Cells that are no part of a message's row, and answers that cannot be.
 use Rattle.std.proofs.Common.{◌≡◌, ◌≢◌, Result, Ok, Err, IfOk, MatchResult, Option, Some, None}
 use Rattle.std.specs.Option.{IfNone}
 use Rattle.messages.specs.Fields.{RequestFields, VerdictFields}

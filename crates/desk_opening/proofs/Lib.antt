@@ -9,11 +9,11 @@ pub mod RowsCompared
 pub mod KeyedCompared
 pub mod PlainRows
 pub mod KeptLemmas
--- the tests by halving
+-- the tests by binary search
 pub mod NameLemmas
 pub mod IndexLemmas
 pub mod OnceLemmas
--- what was read is so of the database
+-- what was read is in the database
 pub mod ReadingLemmas
 pub mod WholeRows
 pub mod Shown

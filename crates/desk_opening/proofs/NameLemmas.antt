@@ -1,4 +1,4 @@
--- Names in order: one is found by halving, and what has one name stands side by side.
+-- Names in order: a binary search finds one, and elements of one name are neighbours.
 use Rattle.std.proofs.Common.{◌≡◌, cond, ◌⊎◌, inl, inr, ℕ, ℤ, zero, suc, ◌+◌, ◌-◌, ◌<◌, ◌≤◌, Bool, true, false, true≢false, not, ◌&&◌}
 use Rattle.std.proofs.Common.{◌||◌, List, [], ◌∷◌, ◌++◌, length, get_or, drop, Ok, Err, refl, sym, ap, ap₂, subst, ◌∙◌, arith, ⊎_elim}
 use Rattle.std.specs.Prelude.{Result, is_ok, count_by}
@@ -20,7 +20,7 @@ use Rattle.std.proofs.lemmas.Slice.Eq.{bytes_eq-Decides}
 use Rattle.sqlite_rules.specs.Lists.{Has}
 use Rattle.desk_opening.specs.private.Names.{Asked, Name, asked_cmp, differ, differs, has_name, is_at, name_cmp, repeats}
 
--- ---- found by halving
+-- ---- binary search
 
 absent : {X : Type 0} (test : X → Bool) (xs : List X) → ((k : ℕ) (d : X) → k < length xs → test (get_or xs k d) ≡ false) → list_any test xs ≡ false
 absent test [] none = refl
@@ -71,7 +71,7 @@ module _ {X : Type 0} (name : X → Name) where
   abbrev pub comes_before : X → X → Bool
   comes_before a b = is_lt (name_cmp (name a) (name b))
 
-  -- none comes before one that stands in front of it
+  -- no element comes before one that is in front of it
   abbrev pub Rising : List X → Type 0
   Rising [] = Unit {0}
   Rising (x ∷ xs) = ((y : X) → Has xs y → comes_before y x ≡ false) × Rising xs
@@ -217,7 +217,7 @@ module _ (asker : List ℕ) (number : ℤ) where
   step_at (x ∷ y ∷ ys) zero d within = refl
   step_at (x ∷ y ∷ ys) (suc j) d within = step_at (y ∷ ys) j d (omega (arith, within))
 
--- ---- a name that stands once
+-- ---- a name that occurs once
 
 module _ (asker : List ℕ) (number : ℤ) where
   counted : (x : Name) (xs : List Name) (b : Bool) → is_at asker number x ≡ b
@@ -265,7 +265,7 @@ module _ (asker : List ℕ) (number : ℤ) where
             absurd (true≢false (sym (is_the_name x.0.now x.1 z (of.0 ∙ sym own.0) (of.1 ∙ sym own.1)) ∙ (or_false (is_at x.0.now x.1 z) _ none).0))
       ]
 
--- sorted, and no two neighbours the same: no name stands twice
+-- sorted, and no two neighbours the same: no name occurs twice
 pub each_once : (names sorted : List Name) → IsPermutation names sorted → IsSorted name_cmp sorted
     → repeats sorted ≡ false → (asker : List ℕ) (number : ℤ) → count_by (is_at asker number) names ≤ 1
 each_once names sorted same up none asker number =

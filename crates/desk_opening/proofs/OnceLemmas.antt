@@ -1,4 +1,4 @@
--- Rows whose names, or whose rowids, stand once.
+-- Rows whose names, or whose rowids, occur once.
 use Rattle.std.proofs.Common.{◌≡◌, cond, inl, inr, ℕ, ℤ, ◌+◌, ◌<◌, ◌≤◌, Bool, true, not, ◌&&◌, ◌||◌, List}
 use Rattle.std.proofs.Common.{[], ◌∷◌, ◌++◌, length, get_or, take, refl, sym, ap, subst, ◌∙◌, arith}
 use Rattle.std.specs.Prelude.{count_by}
@@ -36,7 +36,7 @@ counts_more p q names m rows i r within is same before =
     let one : cond (p m) 1 0 ≡ cond (q (get_or rows i r)) 1 0 = ap (λ (b : Bool). cond b 1 0) (same ∙ ap q is) in
     sum_by_push (λ n. cond (p n) 1 0) names m ∙ (λ j. before j + one j) ∙ sym (sum_by_more (λ x. cond (q x) 1 0) rows i r within)
 
--- ---- what stands once is one
+-- ---- what occurs once is one element
 
 module _ {X K : Type 0} (is_key : K → X → Bool) (key : X → K) (own : (x : X) → is_key (key x) x ≡ true) where
   one_of : (xs : List X) → ((k : K) → count_by (is_key k) xs ≤ 1) → (x y : X) → Has xs x → Has xs y → is_key (key x) y ≡ true → x ≡ y

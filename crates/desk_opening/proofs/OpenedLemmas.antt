@@ -1,4 +1,4 @@
--- What is judged of the rows that were read is so of the database.
+-- What was found about the rows that were read holds for the database.
 use Rattle.std.proofs.Common.{◌≡◌, ◌&&◌, ℕ, Bool, true, false, List, [], Contains, Option, None, Some, codes, unwrap_or, sym, ap, subst, ◌∙◌}
 use Rattle.std.specs.Prelude.{string_bytes}
 use Rattle.std.proofs.lemmas.Bool.{and_from, false≢true}
@@ -132,7 +132,7 @@ module _ (db : Database) (sound : IsDatabase db) (common : HasCommon db.schema) 
             ∙ and_from _ _ it.alone_is (kept_where_held all (λ m there. (are.bodies.only m there).message) N V P wide.0 wide.1 wide.2 it.held)),
       )
 
--- ---- no desk of today
+-- ---- not a desk of today
 
 -- its texts show something else
 pub other_in : (db : Database) → HasCommon db.schema → FindsPart db.schema part.Verdicts

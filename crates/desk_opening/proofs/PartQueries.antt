@@ -264,7 +264,7 @@ module _ (s : Schema) (at tree : ℕ) (parts : ShowsFive (select_of Names) (code
   abbrev five_c4 : Column
   five_c4 = number (codes "disputed")
 
-  -- the columns that were shown, and the state behind them
+  -- the columns that were shown, and the state after them
   abbrev five_d1 : List Output
   five_d1 = rowid_output ∷ []
 
@@ -334,7 +334,7 @@ module _ (s : Schema) (at tree : ℕ) (sql table : Name) (key : List ℕ) (parts
   abbrev six_c5 : Column
   six_c5 = number (codes "at")
 
-  -- the columns that were shown, and the state behind them
+  -- the columns that were shown, and the state after them
   abbrev six_d1 : List Output
   six_d1 = rowid_output ∷ []
 
@@ -402,7 +402,7 @@ module _ (s : Schema) (at tree : ℕ) (parts : ShowsFour (select_of Parked) (cod
   abbrev four_c3 : Column
   four_c3 = number (codes "no")
 
-  -- the columns that were shown, and the state behind them
+  -- the columns that were shown, and the state after them
   abbrev four_d1 : List Output
   four_d1 = rowid_output ∷ []
 

@@ -136,15 +136,15 @@ then_reads one up two = record {
   survives = λ h clean. let mid = two.was_clean clean in survives_both _ _ _ (one.survives h mid) (two.survives (up h mid) clean);
 }
 
--- what was so before a call that reads is so after it
+-- what held before a call that reads holds after it
 pub still : {a b : State} (P : Database → Type 0) → Reads a b → (IsUp a → P a.now) → IsUp b → P b.now
 still P reads was up = subst P (sym (reads.same up)) (was (reads.was_up up))
 
--- and what is so after it was so before
+-- and what holds after it held before
 pub before : {a b : State} (P : Database → Type 0) → Reads a b → IsUp b → P b.now → P a.now
 before P reads up is = subst P (reads.same up) is
 
--- what follows of an answer
+-- what follows from an answer
 pub ok_as : {A E : Type 0} (P Q : A → Type 0) → ((x : A) → P x → Q x) → (r : Result A E) → IfOk r P → IfOk r Q
 ok_as P Q each (Ok x) h = each x h
 ok_as P Q each (Err e) h = tt

@@ -1,4 +1,4 @@
--- What the rows of a desk that is kept show is shown of the messages that it holds.
+-- What the rows of a kept desk show follows from the messages that it holds.
 use Rattle.std.proofs.Common.{◌≡◌, ◌⊎◌, ◌<◌, ◌+◌, ◌≤◌, ◌&&◌, ◌==◌, inl, inr, ℕ, pos, zero, suc, Bool, true, false, true≢false, if◌then◌else◌}
 use Rattle.std.proofs.Common.{List, [], ◌∷◌, ◌++◌, length, get_or, map, take, Contains, codes, refl, sym, ap, subst, ◌∙◌, arith}
 use Rattle.std.proofs.lemmas.List.{take_all, take_more}
@@ -198,7 +198,7 @@ module _ (db : Database) (kept : IsKept db) (N V P : List Row) (rows : ShowsRows
       let written = kept.desk.only (wire m) held.1 in
       record { message = held.0; short = written.3 }
 
-  -- what a row of `names` shows, and what is so of it
+  -- what a row of `names` shows, and what holds for it
   record Named (r : Row) (shown : NameRow) : Type 0 where
     row : ShowsName r shown
     held : S (Request shown.request)

@@ -21,7 +21,7 @@ module _ {a b c d : State} (one : Reads a b) (one_up : IsUp a → HasCleanDisk b
   pub three_leave_up : (IsUp c → HasCleanDisk d → IsUp d) → IsUp a → HasCleanDisk d → IsUp d
   three_leave_up three_up was clean = three_up (up_twice was (three.was_clean clean)) clean
 
-  -- what each showed is of the database as it was at first
+  -- each showed the database as it was at first
   pub three_show : {N V P : List Row} → ShowsPart Names a.now N → ShowsPart Verdicts b.now V → ShowsPart Parked c.now P → IsUp d → ShowsRows a.now N V P
   three_show {V = V} {P = P} names verdicts parked up =
       let mid = three.was_up up in

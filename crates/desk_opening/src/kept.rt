@@ -1,4 +1,4 @@
-//! Whether the tables that follow from the messages have the rows that these come to.
+//! Whether the tables that follow from the messages have the right rows.
 //!
 //! The rows of a table are read, compared and freed before those of the next are read, so that
 //! memory holds one table's rows at a time. The orders of the messages are made after the first
@@ -28,7 +28,8 @@ use sqlite::{Alter, Connection, Row};
 use std::alloc::Global;
 use sudo_words::NoMemory;
 
-/// Whether the rows of the table are those that the messages come to, each with a rowid of its own.
+/// Whether the rows of the table are those that follow from the messages, each with a rowid of its
+/// own.
 fn is_kept(alloc: Global, part: Part, known: &Known<'_>, rows: Vec<Row>) -> Result<bool, NoMemory>
     requires { IsIndex known.now.all.now known.now.names.items known.now.disputed.items }
     ensures { IfOk result (λ kept. kept ≡ compare.is_kept part known.now.all.now rows.items) }
@@ -38,7 +39,7 @@ fn is_kept(alloc: Global, part: Part, known: &Known<'_>, rows: Vec<Row>) -> Resu
     Ok(of_messages && keyed)
 }
 
-/// The same of the table's rows in the database, which stays as it is.
+/// The same for the table's rows in the database, which stays as it is.
 fn keeps_part<S: Alter>(
     alloc: Global,
     conn: &mut Connection<S>,
@@ -67,7 +68,8 @@ fn all_three(a: bool, b: bool, c: bool) -> bool
     a && b && c
 }
 
-/// Whether the three tables have the rows that these messages come to. The database stays as it is.
+/// Whether the three tables have the rows that follow from these messages. The database stays as it
+/// is.
 pub(crate) fn keeps_rows<S: Alter>(
     alloc: Global,
     conn: &mut Connection<S>,

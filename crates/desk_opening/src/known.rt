@@ -1,4 +1,4 @@
-//! The messages, and orders in which they are found by halving.
+//! The messages, and the orders in which a binary search finds them.
 
 ghost use Rattle.std.specs.Prelude.{◌≡◌, List, ℕ, map, pos, Contains, IfOk, IfSome};
 ghost use Rattle.std.specs.List.{list_any};
@@ -15,17 +15,17 @@ use sqlite::Row;
 use std::alloc::Global;
 use sudo_words::NoMemory;
 
-/// Messages, with what is found among them by halving.
+/// Messages, in the orders in which a binary search finds them.
 #[derive(Debug, Drop)]
 pub(crate) struct Known<'a> {
     pub(crate) all: &'a [Stored],
     /// The names that have a request, in order.
     names: Vec<(&'a [u8], i64)>,
-    /// The names that have two, in order.
+    /// The names that have more than one request, in order.
     disputed: Vec<(&'a [u8], i64)>,
     /// The places of the messages, in the order of their texts.
     texts: Vec<usize>,
-    /// The places of the messages, in the order of what a verdict's row says.
+    /// The places of the messages, in the order of the rows of `verdicts`.
     verdicts: Vec<usize>,
 }
 
@@ -36,7 +36,7 @@ fn name<'a>(asker: &'a str, number: u32) -> (&'a [u8], i64)
     (asker.as_bytes(), i64::from(number))
 }
 
-/// The name and the text of a request.
+/// The name and the text of the message, if it is a request.
 fn told(stored: &Stored) -> Option<((&[u8], i64), &[u8])>
     ensures { IsTold stored.now result }
 {
@@ -178,7 +178,7 @@ impl<'a> Known<'a> {
         all.get(*self.texts.get(found)?)
     }
 
-    /// A verdict of which the row tells.
+    /// A verdict whose row in `verdicts` would say what this row says.
     pub(crate) fn with_row(&self, row: &Row) -> Option<&Stored>
         ensures { IfSome result (λ s. Contains self.now.all.now s.now) }
     {

@@ -1,4 +1,4 @@
-//! Rows whose rowids, or whose names, stand once.
+//! Whether rows have each a rowid of its own, and each name one text.
 
 ghost use Rattle.std.specs.Prelude.{◌≡◌, ◌&&◌, ℕ, ℤ, List, [], IsTrue, IfOk, count_by};
 ghost use Rattle.std.specs.List.{list_all};

@@ -1,4 +1,4 @@
-//! What rows say, as it is put in order.
+//! What rows say, in a form that can be put in order.
 
 ghost use Rattle.std.specs.Prelude.{◌≡◌};
 ghost use Rattle.sqlite.specs.Order.{column};
@@ -15,7 +15,7 @@ use sudo_words::NoMemory;
 /// A name, and what else a verdict's row says.
 pub(crate) type VerdictKey<'a> = ((&'a [u8], i64), ((&'a [u8], &'a [u8]), i64));
 
-/// The text in the column: empty where it has none.
+/// The text in the column, or an empty one if it has none.
 pub(crate) fn text_in(row: &Row, at: usize) -> &[u8]
     ensures { result.now ≡ text_in (column row.now at) }
 {
@@ -25,7 +25,7 @@ pub(crate) fn text_in(row: &Row, at: usize) -> &[u8]
     }
 }
 
-/// The number in the column: 0 where it has none.
+/// The number in the column, or 0 if it has none.
 pub(crate) fn number_in(row: &Row, at: usize) -> i64
     ensures { result ≡ number_in (column row.now at) }
 {
@@ -35,7 +35,7 @@ pub(crate) fn number_in(row: &Row, at: usize) -> i64
     }
 }
 
-/// What no row says.
+/// What stands for a message that has no row in `verdicts`.
 pub(crate) fn nowhere() -> VerdictKey<'static> {
     ((b"", 0), ((b"", b""), 0))
 }
@@ -50,7 +50,7 @@ fn key_of_verdict(verdict: &Verdict) -> VerdictKey<'_> {
     )
 }
 
-/// What the message's row, of `verdicts`, says.
+/// What the message's row in `verdicts` says.
 pub(crate) fn key_of(stored: &Stored) -> VerdictKey<'_> {
     match stored.message() {
         Message::Verdict(verdict) => key_of_verdict(verdict),
@@ -58,7 +58,7 @@ pub(crate) fn key_of(stored: &Stored) -> VerdictKey<'_> {
     }
 }
 
-/// What the row, of `verdicts`, says.
+/// What a row of `verdicts` says.
 pub(crate) fn key_in(row: &Row) -> VerdictKey<'_> {
     let name = (text_in(row, 1), number_in(row, 2));
     (
@@ -67,7 +67,7 @@ pub(crate) fn key_in(row: &Row) -> VerdictKey<'_> {
     )
 }
 
-/// The places of a list of this length.
+/// The places in a list of this length, in order.
 pub(crate) fn count_up(alloc: Global, length: usize) -> Result<Vec<usize>, NoMemory> {
     let mut places = Vec::with_capacity(alloc, length)?;
     for at in 0..length {
