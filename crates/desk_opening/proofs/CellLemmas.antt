@@ -1,4 +1,4 @@
--- Cells that are no part of a message's row, and answers that cannot be.
+-- A message is not both a verdict and a request; and answers that a call never gives.
 use Rattle.std.proofs.Common.{◌≡◌, ◌≢◌, Result, Ok, Err, IfOk, MatchResult, Option, Some, None}
 use Rattle.std.specs.Option.{IfNone}
 use Rattle.messages.specs.Fields.{RequestFields, VerdictFields}
