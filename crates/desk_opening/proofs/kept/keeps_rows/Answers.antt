@@ -1,7 +1,9 @@
-use Rattle.std.proofs.Common.{◌&&◌, ◌∙◌}
+use Rattle.std.proofs.Common.{◌&&◌, ◌∙◌, List, ap}
 use Rattle.sqlite.specs.Effect.{Database}
 use Rattle.desk_schema.specs.declared.part.Part.TheVariants as part
 use Rattle.desk_schema.specs.Shapes.{FindsPart}
+use Rattle.messages.specs.declared.message.Message.{Message}
+use Rattle.desk_opening.specs.private.Compare as compare
 use Rattle.desk_opening.proofs.ReadLemmas.{still, then_reads}
 use Rattle.desk_opening.proofs.ThreeReads.{three_leave_up, three_read, three_show}
 use Rattle.desk_opening.proofs.kept.keeps_rows.Goals as goal
@@ -45,13 +47,15 @@ returns-clause-up g c =
 pub returns-clause-kept : goal.returns-clause-kept
 returns-clause-kept g c up =
     let two = c.keeps_part-2.ensures.reads.was_up up in
-    let n = c.in_ok-names.ensures.kept (c.keeps_part.ensures.reads.was_up two) in
+    let n = c.in_ok-rows.rows.items in
+    let shown = c.in_ok-rows.ensures.shows (c.keeps_part.ensures.reads.was_up two) in
     let v = c.in_ok-verdicts.ensures.kept two in
     let p = c.in_ok-parked.ensures.kept up in (
-      n.0,
+      n,
       v.0,
       p.0,
       three_show c.rows_of.ensures.reads c.in_ok-rows.ensures.up c.keeps_part.ensures.reads
-          c.in_ok-verdicts.ensures.up c.keeps_part-2.ensures.reads n.1 v.1 p.1 up,
-      c.all_three.ensures ∙ (λ i. n.2 i && (v.2 i && p.2 i)),
+          c.in_ok-verdicts.ensures.up c.keeps_part-2.ensures.reads shown v.1 p.1 up,
+      c.all_three.ensures ∙ (λ i. c.in_ok-names.ensures i && (v.2 i && p.2 i))
+          ∙ ap (λ (ms : List Message). compare.are_kept ms n v.0 p.0) c.in_ok-known.ensures.all,
     )
