@@ -8,7 +8,7 @@ SENTENCES = {
         "write it without spaces, its members in order",
     ),
     "M3 BadField": (
-        "canonical JSON, but no message's",
+        "canonical JSON, but not a message",
         "compare its members with the table of its kind; no file is named `sudoedit`, and no person, "
         "host or target `sudoedit`, `sha224`, `sha256`, `sha384` or `sha512`: sudo would take these "
         "for its own",
