@@ -1,6 +1,7 @@
 """A real browser: ask as ann, approve as bob, see it in force, let sudo decide, revoke."""
 
 import os
+import time
 from collections.abc import Iterator
 from pathlib import Path
 
@@ -133,6 +134,8 @@ def test_a_grants_life_in_two_browsers(
     shoot(ann, "5-in-force")
     granted = fetched(site)
     sudo_allows_exactly_it(site, granted)
+    # revoked in the second of its approval, it would have been in force at no moment
+    time.sleep(1.1)
     press(ann, "#mine-1 button.revoke")
     see(ann, "Revoke ann 1?")
     press(ann, "#yes")
