@@ -1,6 +1,6 @@
 # The commands of the repository. `rt` is the toolchain's command.
 
-.PHONY: all desk demo test quick try cases gate-times edits docs contracts peers bench faults soak relays-test relays-demo tools-test several install deb pages package-test clean
+.PHONY: all desk demo test quick try cases gate-times edits docs contracts peers bench faults soak relays-test relays-demo tools-test several hosts install deb pages package-test clean
 
 all: desk
 
@@ -12,10 +12,10 @@ desk:
 try:
 	bash scripts/try.sh
 
-# A person asks by ssh and another approves; then what the desk does on the files of examples/. Over build/desk, where `make desk` has left it; else over a
+# A person asks by ssh and another approves; with V=1 also what the desk does on the files of examples/. Over build/desk, or what `make try` left; else over a
 # program that is built WITHOUT A PROOF in some three minutes, and it says so.
 demo:
-	bash scripts/demos.sh
+	V=$(V) bash scripts/demos.sh
 
 # The program on each case of cases/: files, words and inputs, with all that it answers. Then reports of random sets of messages, beside a second
 # reading of the rules; and the same of desk-audit.
@@ -43,7 +43,7 @@ gate-times:
 edits:
 	python3 scripts/edits.py $(CRATES)
 
-# What docs/WRONG_BODIES.md and docs/PROMISES.md say of the edits, made from the lines at the head of each edit; `make quick` tests that it is.
+# The counts of docs/DEFINITIONS.md, which `make quick` tests; build/edits.md, the edits by promise; and build/definitions.md, each definition that a public clause names.
 docs:
 	python3 scripts/make_docs.py
 
@@ -59,9 +59,13 @@ peers: desk
 	python3 scripts/peers_policies.py
 	python3 scripts/peers_requests.py
 	python3 scripts/peers_http.py
+	python3 scripts/peers_socket.py
 	python3 scripts/peers_patience.py
+	python3 scripts/peers_crowd.py
 	python3 scripts/peers_store.py
 	python3 scripts/peers_front.py
+	python3 scripts/peers_front_certificates.py
+	python3 scripts/peers_authority.py
 	python3 scripts/peers_monitoring.py
 
 # Time and memory: `check` and `decide` beside visudo (Debian's package sudo) on up to 16,001 rules, on 8,000 aliases with 8,000 rules, and on
@@ -81,6 +85,7 @@ faults: desk
 soak: desk
 	bash scripts/tools.sh
 	python3 scripts/peers_faults.py --whole
+	python3 scripts/peers_crowd.py --whole
 	python3 scripts/peers_kills.py
 	/usr/bin/python3 scripts/soak.py
 
@@ -89,9 +94,15 @@ soak: desk
 relays-test:
 	bash relays/test.sh
 
-# The tools (docs/LINT.md, docs/IMPORT.md): desk-lint beside the desk, and desk-import beside sudo itself, over build/desk or the program that DESK names.
+# The tools (docs/LINT.md, docs/IMPORT.md, docs/USED.md, docs/EVIDENCE.md): desk-lint beside the desk, desk-import and desk-used beside sudo itself, over build/desk or the program that DESK names.
 tools-test:
 	bash tools/test.sh
+
+# The hosts (docs/HOSTS.md): desk-host, and the sudo of Debian 11, 12, 13, sid and a 32-bit 12, with PAM and terminals, in roots that debootstrap makes
+# in ~/.cache/steelnewt-hosts (as root; some 1.3 GB, and once a minute or two each), over build/desk or the program that DESK names.
+hosts:
+	bash scripts/tools.sh
+	/usr/bin/python3 scripts/hosts.py
 
 # A grant's life by ssh: ann asks, bob approves, ann revokes.
 relays-demo:
@@ -126,6 +137,7 @@ package-test: build/desk build/desk-audit
 
 # Several desks behind a broker (docs/SEVERAL.md): the broker's package by its own tests, then three nodes of RabbitMQ and three desks on loopback while
 # messages go on and each is killed (as root; what it needs of Debian is installed). At most six minutes; `bash scripts/several.sh --short` takes two.
+# `bash scripts/several.sh --rate` only measures how many messages a second go through.
 several: desk
 	bash scripts/several.sh
 

@@ -1,21 +1,58 @@
 """A relay's settings: one file of TOML (relays/relay.example.toml)."""
 
+import os
+import re
 import tomllib
 from dataclasses import dataclass
 from datetime import tzinfo
 
-from relays.desk import Desk
+from relays.desk import Desk, base_of
 from relays.moments import zone_of
 from relays.outbox import Outbox
+from relays.reasons import Demand, demand_of
 from relays.roster import Roster
 
-KEYS = {"desk", "relay", "roster", "outbox", "zone", "numbers", "auditors", "tls", "page"}
-PAGE_KEYS = {"listen", "secret"}
+KEYS = {"desk", "relay", "roster", "outbox", "zone", "numbers", "auditors"}
+KEYS |= {"tls", "page", "why", "notify"}
+NOTIFY_KEYS = {"program", "seconds", "link"}
+PAGE_KEYS = {"listen", "secret", "signing_key"}
 TLS_KEYS = {"certificate", "key", "ca", "reader_certificate", "reader_key"}
+
+
+TWO_KEYS = (
+    "the front has the first and not the second. Make one by"
+    " (umask 077; openssl rand -hex 32 > /etc/desk/page.key), give it to desk-relay by chown, and"
+    ' write signing_key = "/etc/desk/page.key" below [page]'
+)
 
 
 class BadConfig(ValueError):
     """The settings cannot be used."""
+
+
+@dataclass(frozen=True)
+class Notify:
+    """What is run for each event, for how long at most, and what its text ends with."""
+
+    program: list[str]
+    seconds: float
+    link: str
+
+
+def notify_of(table: dict[str, object]) -> Notify:
+    """The settings below [notify]."""
+    if unknown := table.keys() - NOTIFY_KEYS:
+        raise ValueError(f"[notify] has no setting {', '.join(sorted(unknown))}")
+    program, seconds = table.get("program"), table.get("seconds", 30)
+    link = table.get("link", "")
+    words = [it for it in program if isinstance(it, str)] if isinstance(program, list) else []
+    if not words or words != program or not words[0].startswith("/"):
+        raise ValueError("[notify] program is a list: a program's whole path, and its arguments")
+    if not isinstance(seconds, int | float) or not 1 <= seconds <= 600:
+        raise ValueError("[notify] seconds is a number from 1 to 600")
+    if not isinstance(link, str) or not link.isprintable():
+        raise ValueError("[notify] link is no text of one line")
+    return Notify(words, seconds, link)
 
 
 @dataclass(frozen=True)
@@ -29,6 +66,8 @@ class Config:
     auditors: str
     tls: dict[str, str]
     page: dict[str, str]
+    demand: Demand
+    notify: Notify | None
 
     def open_outbox(self) -> Outbox:
         return Outbox(self.outbox, self.numbers)
@@ -49,17 +88,41 @@ class Config:
     def read_roster(self) -> Roster:
         return Roster.read(self.roster)
 
-    def page_place(self) -> tuple[str, int]:
-        host, _, port = self.page["listen"].rpartition(":")
+    def page_place(self) -> str | tuple[str, int]:
+        """Where the page listens: the path of a socket, or an address and a port."""
+        listen = self.page.get("listen", "")
+        if listen.startswith("unix:/"):
+            return listen.removeprefix("unix:")
+        host, _, port = listen.rpartition(":")
+        if not host or not re.fullmatch("[0-9]{1,5}", port):
+            raise BadConfig(
+                f"[page] listen = {listen!r} is no place: write unix:/run/desk-relay/page.sock"
+            )
         return host, int(port)
 
-    def page_secret(self) -> str:
-        """What only the front knows."""
-        with open(self.page["secret"], encoding="ascii") as file:
-            secret = file.read().strip()
-        if len(secret) < 32:
-            raise BadConfig(f"{self.page['secret']} has fewer than 32 characters")
-        return secret
+    def page_keys(self) -> tuple[str, str]:
+        """What only the front knows beside the page, and what the page alone signs its forms with:
+        whoever gets the one has not got the other."""
+        if "secret" not in self.page or "signing_key" not in self.page:
+            raise BadConfig(f"[page] needs secret and signing_key, two files: {TWO_KEYS}")
+        secret, signing = (key_of(self.page[name]) for name in ("secret", "signing_key"))
+        if secret == signing:
+            raise BadConfig(f"[page] secret and signing_key hold the same key: {TWO_KEYS}")
+        return secret, signing
+
+
+def key_of(path: str) -> str:
+    """A key from its file, which is nobody else's to read."""
+    try:
+        with open(path, encoding="ascii") as file:
+            key, mode = file.read().strip(), os.fstat(file.fileno()).st_mode
+    except (OSError, ValueError) as fault:
+        raise BadConfig(f"{path} cannot be read: {fault}") from None
+    if len(key) < 32:
+        raise BadConfig(f"{path} has fewer than 32 characters")
+    if mode & 0o007:
+        raise BadConfig(f"{path} may be read or written by every account: chmod 600 {path}")
+    return key
 
 
 def read_config(path: str) -> Config:
@@ -70,6 +133,9 @@ def read_config(path: str) -> Config:
         unknown = (found.keys() - KEYS) | (page.keys() - PAGE_KEYS) | (tls.keys() - TLS_KEYS)
         if unknown:
             raise BadConfig(f"{path}: no setting is named {', '.join(sorted(unknown))}")
+        if not all(isinstance(it, str) for it in (*page.values(), *tls.values())):
+            raise BadConfig(f"{path}: a setting of [page] or [tls] is no text between quotes")
+        base_of(found["desk"])
         first, last = found.get("numbers", [1, 999_999_999])
         return Config(
             desk=found["desk"],
@@ -81,8 +147,10 @@ def read_config(path: str) -> Config:
             auditors=found.get("auditors", ""),
             tls=tls,
             page=page,
+            demand=demand_of(found.get("why", {})),
+            notify=notify_of(found["notify"]) if "notify" in found else None,
         )
     except KeyError as fault:
         raise BadConfig(f"{path}: the setting {fault} is missing") from None
-    except (OSError, ValueError, TypeError) as fault:
+    except (OSError, ValueError, TypeError, AttributeError) as fault:
         raise BadConfig(f"{path}: {fault}") from None

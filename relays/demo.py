@@ -14,8 +14,6 @@ from pathlib import Path
 
 sys.path.insert(0, str(Path(__file__).resolve().parents[1]))
 
-import requests  # noqa: E402
-
 from relays.tests.site import Site  # noqa: E402
 from relays.tests.sshd import Sshd  # noqa: E402
 
@@ -47,8 +45,8 @@ def main() -> int:
                     return 1
                 print(said.replace("[y/N] ", "[y/N] y"))
                 if line.startswith("approve"):
-                    print("$ curl http://127.0.0.1:8080/v1/hosts/db1/sudoers")
-                    print(requests.get(f"{site.url}/v1/hosts/db1/sudoers", timeout=30).text)
+                    print("$ curl --unix-socket desk.sock http://desk/v1/hosts/db1/sudoers")
+                    print(site.ask("/v1/hosts/db1/sudoers"))
         finally:
             sshd.stop()
             site.close()

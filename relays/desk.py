@@ -1,6 +1,7 @@
 """The desk's HTTP interface, as a relay asks it."""
 
 import re
+import urllib.parse
 from dataclasses import dataclass
 from datetime import datetime
 
@@ -14,6 +15,15 @@ REFUSAL = re.compile(r"([A-Z][0-9]{1,2}) ([A-Za-z]+)\n")
 # What the desk says of a person's message and stays so. Other codes are this relay's own fault, or
 # the desk's trouble: the message is kept.
 STAYS = re.compile(r"[AM][0-9]")
+# A connection's fault, by a word of the library's.
+SHORT = {
+    "refused": "connection refused",
+    "timed out": "timed out",
+    "reset": "connection reset",
+    "certificate": "certificate",
+    "No such file": "there is no socket at its address",
+    "Permission denied": "this account may not open its socket: it is not in the group desk-front",
+}
 # How often a line of the report is split, where its last column has blanks.
 SPLITS = {"BROAD": 2, "PARKED": 0}
 
@@ -57,14 +67,36 @@ class Review:
 
     def barred(self) -> dict[tuple[str, int, str], str]:
         """Whose approvals do not count, by asker, number and person, and why."""
-        return {(who, int(no), person): why for who, no, person, why in self.rows("BARRED")}
+        try:
+            return {(who, int(no), person): why for who, no, person, why in self.rows("BARRED")}
+        except ValueError:
+            raise unread("a report") from None
 
 
 Pair = tuple[str, str] | None
+ADDRESS = re.compile(r"unix:/[^?#]+|https?://[^?#]+")
 
 
-def session(certificate: Pair, ca: str | None) -> requests.Session:
+class BadAddress(ValueError):
+    """The text is no address of a desk."""
+
+
+def base_of(address: str) -> str:
+    """What the URL of a route begins with: a socket's path stands in it as a host's name does."""
+    if not ADDRESS.fullmatch(address):
+        raise BadAddress(f"desk = {address!r} is neither unix:/PATH nor https://HOST")
+    if address.startswith("unix:"):
+        return "http+unix://" + urllib.parse.quote(address.removeprefix("unix:"), safe="")
+    return address.rstrip("/")
+
+
+def session(base: str, certificate: Pair, ca: str | None) -> requests.Session:
     made = requests.Session()
+    if base.startswith("http+unix:"):
+        # (only a relay beside its desk needs this package)
+        from requests_unixsocket import UnixAdapter
+
+        made.mount("http+unix://", UnixAdapter())
     # (a proxy or a .netrc of the environment has no say in where messages go)
     made.trust_env = False
     made.cert = certificate
@@ -79,9 +111,9 @@ class Desk:
     def __init__(
         self, url: str, relay: str, certificate: Pair, ca: str | None, reader: Pair = None
     ) -> None:
-        self.url, self.relay = url.rstrip("/"), relay
-        self.posting = session(certificate, ca)
-        self.reading = session(reader or certificate, ca)
+        self.url, self.relay = base_of(url), relay
+        self.posting = session(self.url, certificate, ca)
+        self.reading = session(self.url, reader or certificate, ca)
 
     def exchange(self, method: str, path: str, body: bytes | None = None) -> requests.Response:
         by = self.posting if method == "POST" else self.reading
@@ -89,7 +121,7 @@ class Desk:
             return by.request(
                 method, self.url + path, data=body, timeout=LIMITS, allow_redirects=False
             )
-        except requests.RequestException as fault:
+        except (requests.RequestException, OSError) as fault:
             raise Silent(f"the desk cannot be reached ({in_short(fault)})") from None
 
     def post(self, body: str) -> Answer:
@@ -111,36 +143,59 @@ class Desk:
 
     def grants(self, at: datetime) -> list[Grant]:
         """The grants in force at a moment."""
-        rows = [line.split(" ") for line in self.get(f"/v1/grants/{stamp(at)}")]
-        return [
-            Grant(who, int(no), ceiling, of_stamp(first), of_stamp(last))
-            for who, no, ceiling, first, last in rows
-        ]
+        path = f"/v1/grants/{stamp(at)}"
+        rows = [line.split(" ") for line in self.get(path)]
+        try:
+            return [
+                Grant(who, int(no), ceiling, of_stamp(first), of_stamp(last))
+                for who, no, ceiling, first, last in rows
+            ]
+        except ValueError:
+            raise unread(path) from None
 
     def review(self, at: datetime) -> Review:
-        heading, *lines = self.get(f"/v1/reviews/{stamp(at)}")
+        path = f"/v1/reviews/{stamp(at)}"
+        part, *lines = self.get(path) or [""]
+        if part != f"REVIEW {stamp(at)}":
+            raise unread(path)
         parts: dict[str, list[list[str]]] = {}
-        part = heading
         for line in lines:
             if re.fullmatch("[A-Z]+", line):
                 part = line
                 parts[part] = []
             else:
-                parts[part].append(line.split(None, SPLITS.get(part, -1)))
+                parts.setdefault(part, []).append(line.split(None, SPLITS.get(part, -1)))
         return Review(at, parts)
+
+
+# What a front means that answers by itself.
+FRONT_MEANS = {
+    403: "it does not let this relay's certificate do that",
+    413: "it lets no message of that length through",
+    429: "it lets no more messages through now",
+    502: "the desk behind it is away",
+    503: "the desk behind it is away",
+    504: "the desk behind it does not answer in time",
+}
 
 
 def unusable(reply: requests.Response) -> str:
     """What came in place of an answer: of the desk, or of something before it."""
-    found = REFUSAL.fullmatch(reply.text)
-    said = f"{found[1]} {found[2]}" if found else "and no word of the desk's"
-    return f"the desk's address answers {reply.status_code}, {said}"
+    if found := REFUSAL.fullmatch(reply.text):
+        return f"the desk answers {reply.status_code}, {found[1]} {found[2]}"
+    means = FRONT_MEANS.get(reply.status_code, "and no word of the desk's")
+    return f"a front before the desk answers {reply.status_code}, not the desk: {means}"
+
+
+def unread(path: str) -> Silent:
+    """What came with the status of an answer, and is none."""
+    return Silent(f"something before the desk answers {path}: these are no words of the desk's")
 
 
 def in_short(fault: Exception) -> str:
     """A connection's fault without the library's objects in it."""
     text = str(fault)
-    for word in ("refused", "timed out", "reset", "certificate"):
+    for word, said in SHORT.items():
         if word in text:
-            return {"refused": "connection refused", "reset": "connection reset"}.get(word, word)
+            return said
     return type(fault).__name__

@@ -2,12 +2,12 @@
 
 import json
 import re
-from collections.abc import Mapping, Sequence
+from collections.abc import Collection, Mapping, Sequence
 from dataclasses import dataclass, replace
 from datetime import datetime, timedelta
 from typing import Any
 
-from relays.moments import of_stamp
+from relays.moments import of_stamp, stamp
 
 PERSON = r"[a-z_][a-z0-9._-]{0,31}"
 LABEL = r"[a-z][a-z0-9-]{0,31}"
@@ -17,8 +17,15 @@ FORMS = {
     "host": (LABEL, "a host's name such as db1"),
     "ceiling": (LABEL, "a label such as db-care"),
 }
-FILE = r"(/[A-Za-z0-9._+-]+)+/?"
+FILE = r"(/(?!\.{1,2}(/|$))[A-Za-z0-9._+-]+)+/?"
 ARGUMENT = r"[A-Za-z0-9._/+@%,:=-]{1,64}"
+# Names that sudo keeps for itself.
+KEPT_BY_SUDO = ("sudoedit", "sha224", "sha256", "sha384", "sha512")
+# What the desk takes: bytes of a message, of a command and of its file; how many there may be.
+MOST_BYTES, MOST_COMMAND, MOST_FILE = 16_384, 1_024, 255
+MOST_HOSTS, MOST_COMMANDS, MOST_ARGUMENTS = 16, 16, 16
+# How long somebody may look at a request before they say yes, and it is still taken for the same.
+LOOKED = timedelta(minutes=2)
 VERDICTS = ("approve", "refuse", "revoke")
 
 
@@ -36,7 +43,17 @@ def checked(kind: str, word: str) -> str:
     form, example = FORMS[kind]
     if not re.fullmatch(form, word):
         raise BadWord(f"{word!r} is no {kind}: write {example}")
+    if kind != "ceiling" and word in KEPT_BY_SUDO:
+        raise BadWord(f"{word!r} is no {kind}: sudo keeps that word for itself")
     return word
+
+
+def few(what: str, words: Collection[str], most: int) -> tuple[str, ...]:
+    """The words in the order that a message wants, each once, where the desk takes so many."""
+    found = tuple(sorted(set(words)))
+    if len(found) > most:
+        raise BadWord(f"{len(found)} {what} are more than a request may have: {most}")
+    return found
 
 
 def number_of(word: str) -> int:
@@ -47,9 +64,11 @@ def number_of(word: str) -> int:
 
 def command_of(words: Sequence[str]) -> str:
     """A command as a policy writes it, from the words that a person would type."""
-    file, *arguments = words
-    if file != "ALL" and not re.fullmatch(FILE, file):
+    file, *arguments = words or [""]
+    if file != "ALL" and (not re.fullmatch(FILE, file) or len(file) > MOST_FILE):
         raise BadWord(f"{file!r} is no command: write its whole path, such as /usr/bin/id")
+    if file.endswith("/sudoedit"):
+        raise BadWord(f"{file!r} is no command: sudo would take it for its own of that name")
     if arguments == [""]:
         return f'{file} ""'
     if arguments and (file == "ALL" or file.endswith("/")):
@@ -58,7 +77,12 @@ def command_of(words: Sequence[str]) -> str:
         if not re.fullmatch(ARGUMENT, word):
             raise BadWord(f"{word!r} is no argument that the desk can grant: {ARGUMENT_HELP}")
     escaped = [re.sub(r"([,:=])", r"\\\1", word) for word in arguments]
-    return " ".join([file, *escaped])
+    command = " ".join([file, *escaped])
+    if len(arguments) > MOST_ARGUMENTS or len(command) > MOST_COMMAND:
+        raise BadWord(
+            f"{file} has more than {MOST_ARGUMENTS} arguments, or {MOST_COMMAND:,} bytes with them"
+        )
+    return command
 
 
 ARGUMENT_HELP = "letters, digits and . _ / + - @ % , : = only, and at most 64 of them"
@@ -86,22 +110,24 @@ class Wish:
         """A wish of words that were checked; lists in the order that a message wants."""
         return Wish(
             checked("ceiling", ceiling),
-            tuple(sorted({checked("host", host) for host in hosts})),
+            few("hosts", [checked("host", host) for host in hosts], MOST_HOSTS),
             checked("target", runas),
-            tuple(sorted(set(commands))),
+            few("commands", commands, MOST_COMMANDS),
             *window,
         )
 
-    def ahead_of(self, at: datetime) -> "Wish":
-        """The same, refused where its window is over by now: a person may be slow to say yes."""
+    def as_of(self, at: datetime) -> "Wish":
+        """The same as it is sent, which may be a while after it was shown: a window that has begun
+        meanwhile begins now, and it ends when it was shown to end."""
         if of_stamp(self.ends) < at:
             raise BadWord("the window that was shown is over: ask again")
-        return self
+        return replace(self, begins=max(self.begins, stamp(at)))
 
     def is_like(self, other: "Wish") -> bool:
-        """Whether both ask for the same, until the same moment or for as long."""
+        """Whether both ask for the same, until the same moment or for about as long."""
         is_same = replace(self, begins="", ends="") == replace(other, begins="", ends="")
-        return is_same and (self.ends == other.ends or self.length() == other.length())
+        is_as_long = abs(self.length() - other.length()) <= LOOKED
+        return is_same and (self.ends == other.ends or is_as_long)
 
     def length(self) -> timedelta:
         return of_stamp(self.ends) - of_stamp(self.begins)
@@ -146,6 +172,17 @@ class Verdict:
 
     def text(self) -> str:
         return canonical(vars(self))
+
+
+def measured(text: str) -> str:
+    """A message's text, where the desk takes one of that length."""
+    size = len(text.encode("utf-8"))
+    if size > MOST_BYTES:
+        raise BadWord(
+            f"this would be a message of {size:,} bytes, and the desk takes {MOST_BYTES:,}:"
+            " ask for it in several requests"
+        )
+    return text
 
 
 def read(text: str) -> Request | Verdict:

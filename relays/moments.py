@@ -6,6 +6,7 @@ from zoneinfo import ZoneInfo
 
 STAMP = "%Y%m%d%H%M%SZ"
 UNITS = {"d": 86400, "h": 3600, "m": 60, "s": 1}
+LONGEST = 130 * 366 * 86400  # seconds
 TIME_HELP = (
     "a time is 'now', '17:00', 'tomorrow 09:00', '2026-01-05 09:00', '+2h', or UTC as "
     "'20260105090000Z'"
@@ -52,10 +53,24 @@ def length_of(text: str) -> timedelta:
     if not re.fullmatch(r"([0-9]{1,6}[dhms])+", text):
         raise BadTime(f"{text!r} is no length of time: write it as 2h, 90m, 1h30m or 1d")
     parts = re.findall(r"([0-9]+)([dhms])", text)
-    found = timedelta(seconds=sum(int(count) * UNITS[unit] for count, unit in parts))
+    found = sum(int(count) * UNITS[unit] for count, unit in parts)
     if not found:
         raise BadTime("a window of no length gives nothing: write it as 2h, 90m, 1h30m or 1d")
-    return found
+    if found > LONGEST:
+        raise BadTime(f"{text!r} is too long: the desk knows the years 1970 to 2099")
+    return timedelta(seconds=found)
+
+
+def in_units(length: timedelta) -> str:
+    """The same as a person would write it, such as 1h30m. Seconds of a longer one are those for
+    which somebody looked at it before they said yes: they are made up for."""
+    left, words = int(length.total_seconds()), ""
+    if left > 300:
+        left += -left % 60
+    for unit, size in UNITS.items():
+        count, left = divmod(left, size)
+        words += f"{count}{unit}" if count else ""
+    return words
 
 
 def moment_of(text: str, zone: tzinfo, today: datetime) -> datetime:
@@ -88,7 +103,12 @@ def day_of(word: str | None, today: datetime) -> datetime:
     if word == "tomorrow":
         return start + timedelta(days=1)
     try:
-        return datetime.strptime(str(word), "%Y-%m-%d")
+        found = datetime.strptime(str(word), "%Y-%m-%d")
+        if not 1970 <= found.year <= 2099:
+            raise BadTime("the desk knows the years 1970 to 2099")
+        return found
+    except BadTime:
+        raise
     except ValueError:
         raise BadTime(f"{word!r} is no day: write today, tomorrow, or one as 2026-01-05") from None
 

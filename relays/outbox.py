@@ -8,9 +8,10 @@ import os
 import sqlite3
 from collections.abc import Iterator
 from contextlib import contextmanager
-from dataclasses import dataclass
+from dataclasses import dataclass, replace
 
-from relays.messages import Request, Verdict, Wish, read
+from relays.messages import BadWord, Request, Verdict, Wish, measured, read
+from relays.reasons import NONE, Reason
 
 SCHEMA = """
 CREATE TABLE IF NOT EXISTS messages (
@@ -29,8 +30,14 @@ CREATE UNIQUE INDEX IF NOT EXISTS one_name ON messages (of, no) WHERE kind = 're
 CREATE INDEX IF NOT EXISTS by_name ON messages (of, no);
 CREATE INDEX IF NOT EXISTS by_state ON messages (state) WHERE state = 'kept';
 CREATE TABLE IF NOT EXISTS numbers (person TEXT PRIMARY KEY, last INTEGER NOT NULL) STRICT;
+CREATE TABLE IF NOT EXISTS reasons (
+    id INTEGER PRIMARY KEY, why TEXT NOT NULL, ticket TEXT NOT NULL
+) STRICT;
+CREATE TABLE IF NOT EXISTS said (id INTEGER PRIMARY KEY, words TEXT NOT NULL) STRICT;
 """
-COLUMNS = "id, body, state, answer"
+COLUMNS = "id, body, state, answer, why, ticket"
+# Why an approval is not posted.
+UNASKED = "the desk refused the request that it approves"
 
 
 class OutOfNumbers(ValueError):
@@ -50,6 +57,7 @@ class Kept:
     state: str
     answer: str
     is_new: bool = True
+    reason: Reason = NONE
 
     @property
     def request(self) -> Request:
@@ -91,21 +99,54 @@ class Outbox:
             raise
         self.base.execute("COMMIT")
 
-    def keep_request(self, by: str, wish: Wish, at: str, once: str | None = None) -> Kept:
+    def keep_request(
+        self,
+        by: str,
+        wish: Wish,
+        at: str,
+        once: str | None = None,
+        words: str = "",
+        reason: Reason = NONE,
+    ) -> Kept:
         """Gives a wish the person's next number and keeps it. The same `once` again is the same
-        request."""
+        request, if it comes with the same words."""
         with self.writing():
             if old := self.same(by, once):
+                self.check_words(old, wish, words)
                 return old
             request = Request(by, self.next_number(by), at, wish)
-            return self.insert(request, "request", by, request.no, once)
+            kept = self.insert(request, "request", by, request.no, once)
+            if once:
+                self.base.execute("INSERT INTO said VALUES (?, ?)", (kept.id, words))
+            if reason:
+                row = (kept.id, reason.why, reason.ticket)
+                self.base.execute("INSERT INTO reasons VALUES (?, ?, ?)", row)
+            return replace(kept, reason=reason)
+
+    def check_words(self, old: Kept, wish: Wish, words: str) -> None:
+        """Refuses other words under the name of a request that was asked before."""
+        row = self.base.execute("SELECT words FROM said WHERE id = ?", (old.id,)).fetchone()
+        # (an older relay kept no words)
+        is_same = row[0] == words if row else old.request.wish.is_like(wish)
+        if not is_same:
+            raise BadWord(
+                f"this key named another request, {old.request.by} {old.request.no}: each request"
+                " has a key of its own"
+            )
 
     def keep_verdict(self, verdict: Verdict, once: str | None = None) -> Kept:
-        """Keeps a verdict. The same `once` again is the same verdict."""
+        """Keeps a verdict. The same `once` again is the same verdict. Nobody approves what the
+        desk refused: their word would wait there for any other request of that name."""
         with self.writing():
             if old := self.same(verdict.by, once):
                 return old
+            if self.is_approval_of_refused(verdict):
+                raise BadWord(f"{UNASKED}: there is nothing to approve")
             return self.insert(verdict, verdict.kind, verdict.of, verdict.no, once)
+
+    def is_approval_of_refused(self, verdict: Verdict) -> bool:
+        request = self.request(verdict.of, verdict.no) if verdict.kind == "approve" else None
+        return request is not None and request.state == "refused"
 
     def insert(
         self, message: Request | Verdict, kind: str, of: str, no: int, once: str | None
@@ -113,17 +154,15 @@ class Outbox:
         written = self.base.execute(
             "INSERT INTO messages (body, by, kind, of, no, once) VALUES (?, ?, ?, ?, ?, ?)"
             " ON CONFLICT (body) DO NOTHING",
-            (message.text(), message.by, kind, of, no, once),
+            (measured(message.text()), message.by, kind, of, no, once),
         )
         found = self.find("body = ?", message.text())[0]
-        return Kept(found.id, found.message, found.state, found.answer, written.rowcount == 1)
+        return replace(found, is_new=written.rowcount == 1)
 
     def same(self, by: str, once: str | None) -> Kept | None:
         """What was kept for this person and this `once`."""
         found = self.find("by = ? AND once = ?", by, once) if once else []
-        if not found:
-            return None
-        return Kept(found[0].id, found[0].message, found[0].state, found[0].answer, False)
+        return replace(found[0], is_new=False) if found else None
 
     def next_number(self, person: str) -> int:
         first, last = self.numbers
@@ -143,9 +182,14 @@ class Outbox:
     def find(self, where: str, *values: object) -> list[Kept]:
         """Messages in the order in which they were kept."""
         rows = self.base.execute(
-            f"SELECT {COLUMNS} FROM messages WHERE {where} ORDER BY id", values
+            f"SELECT {COLUMNS} FROM messages LEFT JOIN reasons USING (id) WHERE {where}"
+            " ORDER BY id",
+            values,
         )
-        return [Kept(id, read(body), state, answer) for id, body, state, answer in rows]
+        return [
+            Kept(id, read(body), state, answer, reason=Reason(why or "", ticket or ""))
+            for id, body, state, answer, why, ticket in rows
+        ]
 
     def unposted(self) -> list[Kept]:
         return self.find("state = 'kept'")

@@ -5,31 +5,55 @@ confirmation's token holds the words themselves, signed for the person whom they
 """
 
 import hmac
+import logging
+import os
 import re
 import secrets
+import socket
 import sqlite3
 from typing import Any
 
 import flask
 import waitress
 from itsdangerous import BadData, URLSafeTimedSerializer
+from waitress.parser import HTTPRequestParser
+from werkzeug.exceptions import HTTPException
 from werkzeug.wrappers import Response
 
 from relays import telling
-from relays.config import Config
+from relays.admission import objections
+from relays.config import BadConfig, Config
 from relays.desk import Silent
 from relays.messages import PERSON, VERDICTS, BadWord, Verdict, Wish, checked, command_of, number_of
-from relays.moments import BadTime, now, of_stamp, shown, stamp
+from relays.moments import BadTime, in_units, now, of_stamp, shown, stamp
 from relays.outbox import Kept, Outbox, OutOfNumbers
 from relays.posting import post_one
+from relays.reasons import Reason
 from relays.roster import BadRoster
 from relays.standing import Knowledge, State
 from relays.timeline import timeline
-from relays.words import BadWords, split, window_of
+from relays.words import BadWords, checked_if, split, unescaped, window_of
 
+log = logging.getLogger("desk-relay")
 PERSON_HEADER = "X-Desk-Person"
 FRONT_HEADER = "X-Desk-Front"
+# A Host that an address can be made of, as a redirection does. A request may have none.
+HOST = re.compile(r"([A-Za-z0-9._-]*|\[[0-9A-Fa-f:.]+\])(:[0-9]{0,5})?")
 TOKEN_HOURS = 12
+EXPOSED = (
+    "EVERY ACCOUNT OF THIS MACHINE REACHES THE PAGE HERE, and while it is stopped any of them can"
+    " take its place, and is given the front's secret; listen at unix:/run/desk-relay/page.sock"
+)
+# Whoever connects and says nothing is dropped after a while, and keeps nobody out before.
+LIMITS: dict[str, Any] = {
+    "threads": 8,
+    "connection_limit": 800,
+    "channel_timeout": 20,
+    "cleanup_interval": 5,
+    # (select knows no descriptor past 1,023)
+    "asyncore_use_poll": True,
+    "ident": None,
+}
 HEADERS = {
     "Content-Security-Policy": "default-src 'none'; style-src 'self'; img-src 'self'; "
     "form-action 'self'; base-uri 'none'; frame-ancestors 'none'",
@@ -90,11 +114,13 @@ def create_app(config: Config) -> flask.Flask:
     app = flask.Flask("relays", root_path=__file__.rpartition("/")[0])
     app.jinja_env.trim_blocks = app.jinja_env.lstrip_blocks = True
     app.config["MAX_CONTENT_LENGTH"] = 65536
-    secret = config.page_secret()
-    tokens = URLSafeTimedSerializer(secret, salt="desk-relay page")
+    secret, signing_key = config.page_keys()
+    tokens = URLSafeTimedSerializer(signing_key, salt="desk-relay page")
 
     @app.before_request
     def begin() -> None:
+        if not HOST.fullmatch(flask.request.headers.get("Host", "")):
+            flask.abort(400, "The request names no host that a page can have.")
         person = caller(secret)
         if flask.request.endpoint != "static":
             flask.g.visit = Visit(config, tokens, person)
@@ -111,10 +137,11 @@ def create_app(config: Config) -> flask.Flask:
 
     for kind in (BadWord, BadWords, BadTime, OutOfNumbers, BadRoster, Silent, sqlite3.Error):
         app.register_error_handler(kind, complain)
-    app.register_error_handler(400, complain)
-    app.register_error_handler(403, complain)
+    app.register_error_handler(HTTPException, complain)
     app.add_url_rule("/", "home", home)
     app.add_url_rule("/ask", "ask", show_wish, methods=["POST"])
+    app.add_url_rule("/again", "again", show_same)
+    app.add_url_rule("/history", "history", show_history)
     app.add_url_rule("/verdict", "verdict", show_verdict)
     app.add_url_rule("/send", "send", send, methods=["POST"])
     app.jinja_env.globals.update(telling=telling, State=State, shown=shown, of_stamp=of_stamp)
@@ -141,7 +168,8 @@ def home() -> str:
     except Silent as why:
         trouble = str(why)
     waiting = knowledge.waiting(visit.person)
-    rows = [(grant, knowledge.asked_here(grant)) for grant in grants]
+    brought = [(grant, knowledge.asked_here(grant)) for grant in grants]
+    rows = [(grant, kept.request if kept else None) for grant, kept in brought]
     rows += [(it.grant, it.request) for it in knowledge.coming() if it.grant]
     return flask.render_template(
         "home.html",
@@ -163,16 +191,18 @@ def home() -> str:
 def notice(visit: Visit) -> str:
     """What became of the message that this person sent just now."""
     id = flask.request.args.get("sent", "")
-    found = visit.outbox.find("id = ? AND by = ?", int(id), visit.person) if id.isdecimal() else []
-    if not found:
+    if not re.fullmatch("[0-9]{1,18}", id):
         return ""
-    return told(visit, found[0])
+    found = visit.outbox.find("id = ? AND by = ?", int(id), visit.person)
+    return told(visit, found[0]) if found else ""
 
 
 def told(visit: Visit, kept: Kept) -> str:
     if isinstance(kept.message, Verdict):
         verdict = kept.verdict
-        fate = telling.verdict_fate(verdict.kind, kept.state, kept.answer)
+        request = visit.outbox.request(verdict.of, verdict.no)
+        barred = visit.knowledge().standing(request).bar_of(verdict) if request else ""
+        fate = telling.verdict_fate(verdict.kind, kept.state, kept.answer, barred)
         return f"{verdict.of} {verdict.no}: {fate}"
     standing = visit.knowledge().standing(kept)
     return f"{standing.name}: {telling.fate(standing, visit.zone, visit.roster, visit.now)}"
@@ -185,17 +215,20 @@ def show_wish() -> str | tuple[str, int]:
     words = {name: value.strip() for name, value in flask.request.form.items()}
     try:
         wish = wish_of_form(visit, words)
+        demand = visit.config.demand
+        reason = demand.reason(wish.ceiling, words.get("why"), words.get("ticket"))
     except (BadWord, BadWords, BadTime) as fault:
-        return show_again(visit, words, str(fault)), 400
+        return show_form(visit, words, str(fault)), 400
     return flask.render_template(
         "confirm.html",
         title="Ask for this?",
         person=visit.person,
-        lines=telling.wish_lines(wish, visit.zone),
+        lines=telling.asked_lines(wish, reason, visit.zone),
         ceiling=visit.roster.ceilings.get(wish.ceiling),
         note="",
+        warning=telling.objected(objections(visit.roster, visit.person, wish, visit.now)),
         button="Yes, ask",
-        token=visit.token("send-request", wish=vars(wish), at=stamp(visit.now)),
+        token=visit.token("send-request", wish=vars(wish), reason=vars(reason)),
     )
 
 
@@ -214,7 +247,33 @@ def wish_of_form(visit: Visit, words: dict[str, str]) -> Wish:
     return Wish.of(words.get("ceiling", ""), hosts, words.get("runas", ""), commands, window)
 
 
-def show_again(visit: Visit, words: dict[str, str], text: str) -> str:
+def show_same() -> str:
+    """The form with the words of an older request of this person's."""
+    visit: Visit = flask.g.visit
+    kept = visit.outbox.request(visit.person, number_of(flask.request.args.get("no", "")))
+    if kept is None:
+        raise BadWord("there is no such request of yours")
+    wish = kept.request.wish
+    words = {"ceiling": wish.ceiling, "hosts": ", ".join(wish.hosts), "runas": wish.runas}
+    words |= {"commands": "\n".join(unescaped(it) for it in wish.commands), "begins": "now"}
+    words |= {"length": in_units(wish.length()), "why": kept.reason.why}
+    return show_form(visit, words | {"ticket": kept.reason.ticket}, "")
+
+
+def show_history() -> str:
+    """What came through this relay, whoever asked."""
+    visit, given = flask.g.visit, flask.request.args
+    who, host = (given.get(name, "").strip() or None for name in ("who", "on"))
+    knowledge = visit.knowledge()
+    found = knowledge.history(
+        checked_if("person", who), checked_if("host", host), "all" in flask.request.args
+    )
+    return flask.render_template(
+        "history.html", visit=visit, person=visit.person, found=found, who=who, on=host
+    )
+
+
+def show_form(visit: Visit, words: dict[str, str], text: str) -> str:
     """The form with the words that were given, and what is wrong with them."""
     return flask.render_template(
         "ask.html",
@@ -234,17 +293,22 @@ def show_verdict() -> str:
     no = number_of(words.get("no", ""))
     if kind not in VERDICTS:
         raise BadWord(f"{kind!r} is no verdict")
-    kept = visit.outbox.request(of, no)
-    standing = visit.knowledge().standing(kept) if kept else None
+    kept, knowledge = visit.outbox.request(of, no), visit.knowledge()
+    if kept and kind == "approve":
+        telling.approvable(kept)
+    standing = knowledge.standing(kept) if kept else None
     return flask.render_template(
         "confirm.html",
         title=f"{kind.capitalize()} {of} {no}?",
         person=visit.person,
-        lines=telling.wish_lines(standing.request.wish, visit.zone) if standing else [],
+        lines=telling.kept_lines(standing.kept, visit.zone) if standing else [],
         ceiling=visit.roster.ceilings.get(standing.request.wish.ceiling) if standing else None,
         note=telling.fate(standing, visit.zone, visit.roster, visit.now)
         if standing
         else telling.unseen(kind, of, no),
+        warning=telling.warning(kind, knowledge.bar_now(standing, kind, visit.person))
+        if standing
+        else "",
         button=f"Yes, {kind}",
         token=visit.token("send-verdict", kind=kind, of=of, no=no),
     )
@@ -261,16 +325,48 @@ def send() -> Response:
 
 
 def keep(visit: Visit, said: dict[str, Any]) -> Kept:
-    """Keeps what the token says: for a request, what was shown, as of the moment of showing it."""
+    """Keeps what the token says, as of the moment of saying yes to it."""
     if said["what"] == "send-verdict":
         verdict = Verdict(visit.person, said["kind"], said["of"], said["no"], stamp(visit.now))
         return visit.outbox.keep_verdict(verdict, said["once"])
     words = {name: tuple(it) if isinstance(it, list) else it for name, it in said["wish"].items()}
-    wish = Wish(**words).ahead_of(visit.now)
-    return visit.outbox.keep_request(visit.person, wish, said["at"], said["once"])
+    wish, once, reason = Wish(**words).as_of(visit.now), said["once"], reason_in(said)
+    return visit.outbox.keep_request(visit.person, wish, stamp(visit.now), once, once, reason)
+
+
+def reason_in(said: dict[str, Any]) -> Reason:
+    """(a form that was open while the relay was upgraded has none)"""
+    return Reason(**said.get("reason", {}))
 
 
 def serve(config: Config) -> None:
-    """Serves the page on loopback, until SIGTERM."""
-    host, port = config.page_place()
-    waitress.serve(create_app(config), host=host, port=port, threads=8, ident=None)
+    """Serves the page until SIGTERM, at a socket that only its group may open, or on loopback."""
+    # (waitress logs the path of a request whose peer has gone, and one without a head has none)
+    HTTPRequestParser.path = ""
+    app, place = create_app(config), config.page_place()
+    if isinstance(place, tuple):
+        log.warning("%s:%d: %s", *place, EXPOSED)
+        server = waitress.create_server(app, host=place[0], port=place[1], **LIMITS)
+    else:
+        check_place(place)
+        # (it is its group's from the beginning on)
+        before = os.umask(0o117)
+        server = waitress.create_server(app, unix_socket=place, unix_socket_perms="660", **LIMITS)
+        os.umask(before)
+    log.info("the page is at %s", config.page["listen"])
+    server.run()
+
+
+def check_place(path: str) -> None:
+    """Refuses a socket whose place others could take while the page is stopped, or where another
+    page answers."""
+    folder = os.path.dirname(path)
+    try:
+        found = os.stat(folder)
+    except OSError as fault:
+        raise BadConfig(f"[page] listen: {fault}") from None
+    if found.st_mode & 0o022 or found.st_uid not in (0, os.geteuid()):
+        raise BadConfig(f"[page] listen: others may write in {folder}, and take the page's place")
+    with socket.socket(socket.AF_UNIX) as peer:
+        if peer.connect_ex(path) == 0:
+            raise BadConfig(f"[page] listen: a page answers at {path} already")

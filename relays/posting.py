@@ -6,7 +6,7 @@ from contextlib import suppress
 
 from relays.desk import Desk, Silent
 from relays.messages import Request
-from relays.outbox import Kept, Outbox
+from relays.outbox import UNASKED, Kept, Outbox
 
 log = logging.getLogger("desk-relay")
 
@@ -20,7 +20,7 @@ def post_one(outbox: Outbox, desk: Desk, kept: Kept) -> Kept:
 
 def try_to_post(outbox: Outbox, desk: Desk, kept: Kept) -> None:
     """Posts a message and notes the answer. `Silent` where nothing can be reached."""
-    if kept.state != "kept":
+    if kept.state != "kept" or not is_ready(outbox, kept):
         return
     try:
         answer = desk.post(kept.message.text())
@@ -30,6 +30,22 @@ def try_to_post(outbox: Outbox, desk: Desk, kept: Kept) -> None:
             raise
     else:
         outbox.answered(kept.id, "acked" if answer.is_ack else "refused", answer.refusal)
+
+
+def is_ready(outbox: Outbox, kept: Kept) -> bool:
+    """Whether a message may be posted. An approval waits for its request, which people saw here: if
+    the desk refuses that, the approval would be one of any other request of the same name."""
+    verdict = kept.message
+    if isinstance(verdict, Request) or verdict.kind != "approve":
+        return True
+    request = outbox.request(verdict.of, verdict.no)
+    if request is None or request.state == "acked":
+        return True
+    if request.state == "refused":
+        outbox.answered(kept.id, "refused", UNASKED)
+    else:
+        outbox.answered(kept.id, "kept", "its request is not at the desk yet")
+    return False
 
 
 def post_kept(outbox: Outbox, desk: Desk) -> list[Kept]:

@@ -2,16 +2,23 @@
 
 import argparse
 import io
+import json
 import logging
 import os
 import signal
+import sqlite3
 import sys
 import threading
 
 from relays import ssh
 from relays.config import BadConfig, Config, read_config
+from relays.events import Finder
 from relays.messages import BadWord
+from relays.moments import now
+from relays.notices import Notices, keep_telling, locked
+from relays.outbox import Kept
 from relays.posting import keep_posting
+from relays.standing import Knowledge
 
 CONFIG = "/etc/desk/relay.toml"
 
@@ -25,25 +32,58 @@ def parser() -> argparse.ArgumentParser:
     jobs = found.add_subparsers(dest="job", metavar="JOB")
     post = jobs.add_parser("post", help="post what is kept, until SIGTERM")
     post.add_argument("--every", type=float, default=2.0, help="seconds between two rounds")
+    notify = jobs.add_parser("notify", help="tell people what happened, until SIGTERM")
+    notify.add_argument("--every", type=float, default=5.0, help="seconds between two rounds")
     jobs.add_parser("page", help="serve the page, until SIGTERM")
     jobs.add_parser("post-again", help="post again all that was acknowledged")
+    jobs.add_parser("reasons", help="print why each request was asked, as lines of JSON")
     return found
 
 
 def serve_person(config: Config, person: str) -> int:
-    """One call by ssh. The client's locale has no say in how the answer is written."""
-    for stream in (sys.stdout, sys.stderr):
+    """One call by ssh. The client's locale has no say in how the answer is written, or read."""
+    for stream in (sys.stdin, sys.stdout, sys.stderr):
         if isinstance(stream, io.TextIOWrapper):
             stream.reconfigure(encoding="utf-8", errors="backslashreplace")
     return ssh.answer(config, person, os.environ.get("SSH_ORIGINAL_COMMAND", ""))
 
 
-def post(config: Config, every: float) -> int:
+def ended_by_signal() -> threading.Event:
     ended = threading.Event()
     for number in (signal.SIGTERM, signal.SIGINT):
         signal.signal(number, lambda *_: ended.set())
+    return ended
+
+
+def post(config: Config, every: float) -> int:
+    ended = ended_by_signal()
     keep_posting(config.open_outbox(), config.open_desk(), every, ended)
     return 0
+
+
+def notify(config: Config, every: float) -> int:
+    """Tells people, where the settings say by what."""
+    if (told := config.notify) is None:
+        print("desk-relay: nobody is told anything: the settings have no [notify]", file=sys.stderr)
+        return 0
+    ended, outbox, desk = ended_by_signal(), config.open_outbox(), config.open_desk()
+    lock = locked(f"{config.outbox}.notify")
+
+    def finder() -> Finder:
+        knowledge = Knowledge(outbox, desk, config.read_roster(), now())
+        return Finder(knowledge, config.zone, told.link)
+
+    keep_telling(Notices(outbox), finder, (told.program, told.seconds), every, ended)
+    os.close(lock)
+    return 0
+
+
+def reason_line(kept: Kept) -> str:
+    """A request's name, and why it was asked: a line for the evidence."""
+    request = kept.request
+    name = {"who": request.by, "no": request.no, "at": request.at, "ceiling": request.wish.ceiling}
+    state = {"state": kept.state, "answer": kept.answer or None}
+    return json.dumps(name | kept.reason.data() | state)
 
 
 def main(words: list[str]) -> int:
@@ -57,14 +97,20 @@ def main(words: list[str]) -> int:
             return serve_person(config, said.person)
         if said.job == "post":
             return post(config, said.every)
+        if said.job == "notify":
+            return notify(config, said.every)
         if said.job == "post-again":
             print(f"{config.open_outbox().post_again()} messages are posted again")
+            return 0
+        if said.job == "reasons":
+            for kept in config.open_outbox().requests():
+                print(reason_line(kept))
             return 0
         # (Flask takes a moment to load, and a call by ssh has no use for it)
         from relays.page import serve
 
         serve(config)
         return 0
-    except (BadConfig, BadWord) as fault:
+    except (BadConfig, BadWord, OSError, sqlite3.Error) as fault:
         print(f"desk-relay: {fault}", file=sys.stderr)
         return 2

@@ -22,9 +22,21 @@ class Ceiling:
     longest: int
 
 
+def check_entry(entry: object) -> None:
+    """Raises where this is no duty, and no duty with days."""
+    if isinstance(entry, dict):
+        if not all(isinstance(entry[key], str) for key in ("duty", "from", "until")):
+            raise TypeError(f"{entry!r} is no duty with days")
+    elif not isinstance(entry, str):
+        raise TypeError(f"{entry!r} is no duty")
+
+
 class Roster:
     def __init__(self, document: dict[str, Any]) -> None:
         self.people: dict[str, list[Any]] = document["people"]
+        for entries in self.people.values():
+            for entry in entries:
+                check_entry(entry)
         self.conflicts = [set(pair) for pair in document["conflicts"]]
         self.hosts = sorted(set(document["hosts"]))
         self.ceilings = {
@@ -46,7 +58,7 @@ class Roster:
         try:
             with open(path, "rb") as file:
                 return Roster(tomllib.load(file))
-        except (OSError, tomllib.TOMLDecodeError, KeyError, TypeError, AttributeError) as fault:
+        except (OSError, ValueError, KeyError, TypeError, AttributeError) as fault:
             raise BadRoster(f"the roster {path} cannot be read: {fault!r}") from None
 
     def duties(self, person: str, at: datetime) -> set[str]:
@@ -64,16 +76,26 @@ class Roster:
         duties = self.duties(person, at)
         return [it for it in self.ceilings.values() if it.ask in duties]
 
+    def bar(self, kind: str, person: str, asker: str, label: str, at: datetime) -> str:
+        """Why a person's verdict at a moment does not count, on what the asker asks for under a
+        ceiling: 'asker', 'duty' or 'conflict', as the desk's report has them. Empty: it may."""
+        ceiling, duties = self.ceilings.get(label), self.duties(person, at)
+        holds = ceiling is not None and ceiling.approve in duties
+        if kind == "revoke":
+            return "" if holds or person == asker else "duty"
+        if person == asker:
+            return "asker"
+        if ceiling is None or not holds:
+            return "duty"
+        clashes = any(ceiling.approve in pair and pair <= duties for pair in self.conflicts)
+        return "conflict" if clashes else ""
+
     def may_approve(self, person: str, asker: str, label: str, at: datetime) -> bool:
         """Whether a person may approve what the asker asks for under a ceiling, at a moment."""
-        ceiling, duties = self.ceilings.get(label), self.duties(person, at)
-        if ceiling is None or person == asker or ceiling.approve not in duties:
-            return False
-        return not any(ceiling.approve in pair and pair <= duties for pair in self.conflicts)
+        return not self.bar("approve", person, asker, label, at)
 
     def approvers(self, asker: str, label: str, at: datetime) -> list[str]:
         return [it for it in sorted(self.people) if self.may_approve(it, asker, label, at)]
 
     def may_revoke(self, person: str, asker: str, label: str, at: datetime) -> bool:
-        ceiling = self.ceilings.get(label)
-        return person == asker or bool(ceiling and ceiling.approve in self.duties(person, at))
+        return not self.bar("revoke", person, asker, label, at)

@@ -5,22 +5,31 @@ import json
 import sqlite3
 import sys
 from collections.abc import Callable
+from dataclasses import replace
 from datetime import timedelta, tzinfo
 from typing import TextIO
 
 from relays import telling
+from relays.admission import objections
 from relays.config import Config
 from relays.desk import Silent
+from relays.leading import Leader
 from relays.messages import BadWord, Verdict, Wish, checked
-from relays.moments import BadTime, moment_of, now, shown, stamp, zone_of
+from relays.moments import BadTime, in_units, moment_of, now, shown, stamp, zone_of
 from relays.outbox import Kept, Outbox, OutOfNumbers
 from relays.posting import post_one
+from relays.reasons import Reason
 from relays.roster import BadRoster
 from relays.standing import Knowledge, Standing
-from relays.words import USAGE, BadWords, parse, wish_of
+from relays.words import USAGE, BadWords, parse, window_of, wish_of, words_of
 
 DONE, NOT_SENT, REFUSED, KEPT = 0, 1, 2, 3
 SAME_FOR = timedelta(minutes=10)
+MOST_TYPED = 1_000  # characters of an answer
+YES = ("y", "yes")
+# The words of `again` where none are typed.
+NO_WINDOW = {"no": None, "begins": "now", "length": None, "ends": None, "why": "", "ticket": ""}
+LIVE_LINES = ("on", "as", "may run", "why", "ticket")
 
 
 class Call:
@@ -32,6 +41,7 @@ class Call:
         self.outbox: Outbox = config.open_outbox()
         self.desk = config.open_desk()
         self.roster, self.auditors = config.read_roster(), config.auditors
+        self.demand = config.demand
 
     def knowledge(self) -> Knowledge:
         return Knowledge(self.outbox, self.desk, self.roster, now())
@@ -58,10 +68,10 @@ class Call:
         if self.said.yes:
             return True
         print(f"{question} [y/N] ", end="", file=self.talk(), flush=True)
-        answer = sys.stdin.readline()
+        answer = sys.stdin.readline(MOST_TYPED)
         if not sys.stdin.isatty():
             self.say()
-        if answer.strip().lower() in ("y", "yes"):
+        if answer.strip().lower() in YES:
             return True
         self.say("Nothing was sent." + ("" if answer else " Say y, or write --yes."))
         return False
@@ -76,20 +86,69 @@ def status_of(kept: Kept) -> int:
 
 
 def ask(call: Call) -> int:
-    """Asks for rights: shows what is asked for, keeps it, posts it, and says what became of it."""
-    at = now()
-    wish = wish_of(call.said, call.zone, at)
+    """Asks for rights, by the words that say for what."""
+    wish = wish_of(call.said, call.zone, now())
+    reason = call.demand.reason(wish.ceiling, call.said.why, call.said.ticket)
+    is_meant, words = call.said.again, words_of(call.said, call.zone)
+    return send(call, wish, reason, is_meant, call.said.once, words)
+
+
+def again(call: Call) -> int:
+    """Asks for the same as an older request of this person's."""
+    said, asked = call.said, call.outbox.requests_of(call.person)
+    found = [it for it in asked if said.no in (None, it.request.no)]
+    if not found:
+        raise BadWord("there is no such request of yours: 'mine --all' shows them")
+    old = found[-1]
+    if not said.length and not said.ends:
+        said.length = in_units(old.request.wish.length())
+    window = window_of(said.begins, said.length, said.ends, call.zone, now())
+    wish = replace(old.request.wish, begins=window[0], ends=window[1])
+    why, ticket = said.why or old.reason.why, said.ticket or old.reason.ticket
+    return send(call, wish, call.demand.reason(wish.ceiling, why, ticket), True)
+
+
+def lead(call: Call) -> int:
+    """Asks this person for one word of a request after the other."""
+    if not sys.stdin.isatty():
+        raise BadWords("say what you ask for, or ask at a terminal: ssh -t .. ask")
+    ceilings = call.roster.may_ask(call.person, now())
+    if not ceilings:
+        raise BadWords("by the roster there is nothing that you may ask for now")
+    leader = Leader(call.talk(), call.zone, call.demand, now())
+    if asked := call.outbox.requests_of(call.person):
+        call.say_strong(f"Your last request, {call.person} {asked[-1].request.no}")
+        call.say_lines(telling.kept_lines(asked[-1], call.zone))
+        if leader.asked("The same again, from now on (y, or nothing)", str).lower() in YES:
+            vars(call.said).update(NO_WINDOW)
+            return again(call)
+    said = leader.request(ceilings)
+    wish = wish_of(said, call.zone, now())
+    return send(call, wish, Reason(said.why, said.ticket), False)
+
+
+def send(
+    call: Call,
+    wish: Wish,
+    reason: Reason,
+    is_meant: bool,
+    once: str | None = None,
+    words: str = "",
+) -> int:
+    """Shows what is asked for, keeps it, posts it, and says what became of it."""
     call.say_strong(f"{call.person} asks")
-    call.say_lines(telling.wish_lines(wish, call.zone))
-    if not call.said.once and not call.said.again and (old := same_wish(call, wish)):
+    call.say_lines(telling.asked_lines(wish, reason, call.zone))
+    if wrong := telling.objected(objections(call.roster, call.person, wish, now())):
+        call.say_strong(wrong)
+    if not once and not is_meant and (old := same_wish(call, wish)):
         call.say(f"You asked for the same just now, as {old.name}.")
         call.say(telling.fate(old, call.zone, call.roster, now()))
         call.say("Nothing was sent. Write --again to ask for it once more.")
         return NOT_SENT
     if not call.is_agreed("Send it?"):
         return NOT_SENT
-    wish = wish.ahead_of(now())
-    kept = call.outbox.keep_request(call.person, wish, stamp(at), call.said.once)
+    at = now()
+    kept = call.outbox.keep_request(call.person, wish.as_of(at), stamp(at), once, words, reason)
     name = f"{call.person} {kept.request.no}"
     call.say_strong(f"Kept as {name}.")
     kept = post_one(call.outbox, call.desk, kept)
@@ -116,15 +175,9 @@ def give_verdict(call: Call) -> int:
     kind, of, no = call.said.command, call.said.of, call.said.no
     knowledge = call.knowledge()
     request = call.outbox.request(of, no)
-    if request:
-        standing = knowledge.standing(request)
-        call.say_strong(f"{of} {no}")
-        call.say_lines(telling.wish_lines(standing.request.wish, call.zone))
-        call.say(telling.fate(standing, call.zone, call.roster, now()))
-    else:
-        call.say(telling.unseen(kind, of, no))
-    earlier = [it for it in call.outbox.verdicts(of, no) if it.message.by == call.person]
-    if earlier and not call.said.again and any(it.verdict.kind == kind for it in earlier):
+    standing = knowledge.standing(request) if request else None
+    show_request(call, knowledge, standing)
+    if not call.said.again and is_said(call, standing):
         call.say(f"You {telling.DONE[kind]} it already. Write --again to say it once more.")
         return NOT_SENT
     if not call.is_agreed(f"{call.person}: {kind} {of} {no}?"):
@@ -133,19 +186,46 @@ def give_verdict(call: Call) -> int:
     kept = call.outbox.keep_verdict(verdict)
     call.say("Kept.")
     kept = post_one(call.outbox, call.desk, kept)
-    call.say(telling.verdict_fate(kind, kept.state, kept.answer))
-    if request:
-        after = call.knowledge().standing(request)
+    after = call.knowledge().standing(request) if request else None
+    barred = after.bar_of(verdict) if after else ""
+    call.say(telling.verdict_fate(kind, kept.state, kept.answer, barred))
+    if after:
         call.say(telling.fate(after, call.zone, call.roster, now()))
-    call.give_data({"verdict": vars(verdict), "state": kept.state, "answer": kept.answer or None})
+    data = {"verdict": vars(verdict), "state": kept.state, "answer": kept.answer or None}
+    call.give_data(data | {"barred": barred or None})
     return status_of(kept)
+
+
+def show_request(call: Call, knowledge: Knowledge, standing: Standing | None) -> None:
+    """What a verdict is about, and whether it would count."""
+    kind, of, no = call.said.command, call.said.of, call.said.no
+    if standing is None:
+        call.say(telling.unseen(kind, of, no))
+        return
+    if kind == "approve":
+        telling.approvable(standing.kept)
+    call.say_strong(f"{of} {no}")
+    call.say_lines(telling.kept_lines(standing.kept, call.zone))
+    call.say(telling.fate(standing, call.zone, call.roster, now()))
+    if warning := telling.warning(kind, knowledge.bar_now(standing, kind, call.person)):
+        call.say_strong(warning)
+
+
+def is_said(call: Call, standing: Standing | None) -> bool:
+    """Whether the person gave this verdict before, and it is not one that does not count."""
+    if standing is None:
+        entries = call.outbox.verdicts(call.said.of, call.said.no)
+    else:
+        entries = [it.kept for it in standing.said if not it.barred]
+    given = [it.verdict for it in entries if it.state != "refused"]
+    return any((it.by, it.kind) == (call.person, call.said.command) for it in given)
 
 
 def show(call: Call, standings: list[Standing], knowledge: Knowledge, none: str) -> int:
     """Requests, each with what it asks for, who said what, and what became of it."""
     for standing in standings:
         call.say_strong(f"{standing.name}  [{standing.state.value}]")
-        call.say_lines(telling.wish_lines(standing.request.wish, call.zone))
+        call.say_lines(telling.kept_lines(standing.kept, call.zone))
         for said in standing.said:
             call.say(f"  {telling.said_line(said, call.zone)}")
         call.say(f"  {telling.fate(standing, call.zone, call.roster, knowledge.now)}")
@@ -169,6 +249,33 @@ def waiting(call: Call) -> int:
     return show(call, found, knowledge, "Nothing that came through this relay waits for you.")
 
 
+def ceilings(call: Call) -> int:
+    """What a person may ask for, and who could approve it now."""
+    at, data = now(), []
+    for ceiling in call.roster.may_ask(call.person, at):
+        call.say_strong(ceiling.label)
+        call.say_lines(telling.offer_lines(ceiling, call.roster, call.person, at))
+        call.say()
+        data.append(telling.offer_data(ceiling, call.roster, call.demand, call.person, at))
+    if not data:
+        call.say("By the roster there is nothing that you may ask for now.")
+    call.give_data(data)
+    return DONE
+
+
+def show_one(call: Call) -> int:
+    knowledge, kept = call.knowledge(), call.outbox.request(call.said.of, call.said.no)
+    if kept is None:
+        raise BadWord(f"this relay brought no request {call.said.of} {call.said.no}")
+    return show(call, [knowledge.standing(kept)], knowledge, "")
+
+
+def history(call: Call) -> int:
+    knowledge, said = call.knowledge(), call.said
+    found = knowledge.history(said.who, said.on, said.all)
+    return show(call, found, knowledge, "Nothing of that came through this relay.")
+
+
 def live(call: Call) -> int:
     """What is in force at a moment, whoever asked and through whichever relay."""
     knowledge = call.knowledge()
@@ -176,15 +283,15 @@ def live(call: Call) -> int:
     grants, data = knowledge.grants(at), []
     call.say(f"In force at {shown(at, call.zone)}: {len(grants) or 'nothing'}")
     for grant in grants:
-        request = knowledge.asked_here(grant)
+        kept = knowledge.asked_here(grant)
         window = f"{shown(grant.begins, call.zone)} until {shown(grant.ends, call.zone)}"
         call.say(f"{grant.who} {grant.no}  {grant.ceiling}  {window}")
-        if request:
-            lines = telling.wish_lines(request.wish, call.zone)
-            call.say_lines([it for it in lines if it[0] in ("on", "as", "may run")])
+        if kept:
+            lines = telling.kept_lines(kept, call.zone)
+            call.say_lines([it for it in lines if it[0] in LIVE_LINES])
         else:
             call.say("  asked through another relay: hosts and commands are not known here")
-        data.append(telling.grant_data(grant, request))
+        data.append(telling.grant_data(grant, kept))
     call.give_data(data)
     return DONE
 
@@ -210,6 +317,11 @@ def give_help(call: Call) -> int:
 
 ANSWERS: dict[str, Callable[[Call], int]] = {
     "ask": ask,
+    "again": again,
+    "lead": lead,
+    "ceilings": ceilings,
+    "show": show_one,
+    "history": history,
     "approve": give_verdict,
     "refuse": give_verdict,
     "revoke": give_verdict,

@@ -3,8 +3,10 @@
 from datetime import datetime, timedelta, tzinfo
 
 from relays.desk import Grant
-from relays.messages import BadWord, Request, Verdict, Wish
+from relays.messages import BadWord, Verdict, Wish
 from relays.moments import of_stamp, shown, spoken, stamp
+from relays.outbox import UNASKED, Kept
+from relays.reasons import Demand, Reason
 from relays.refusals import in_words
 from relays.roster import Ceiling, Roster
 from relays.standing import Said, Standing, State
@@ -14,7 +16,20 @@ BARS = {
     "asker": "nobody approves what they asked for themselves",
     "duty": "the duty to approve was not held then",
     "conflict": "a duty that conflicts with approving was held then",
+    "late": "enough people had approved it before; only a revocation ends it now",
+    "over": "its window was over",
 }
+# The same of a verdict that is not given yet, to whoever would give it.
+BARS_NOW = {
+    "asker": "you asked for it yourself",
+    "duty": "you do not hold the duty to approve under this ceiling now",
+    "conflict": "you hold a duty now that conflicts with approving under this ceiling",
+    "late": "enough people have approved it: revoke it, if it is to end",
+    "complete": "enough people have approved it already",
+    "objected": "the desk grants nothing of it any more",
+    "over": "its window is over",
+}
+NOUNS = {"approve": "approval", "refuse": "refusal", "revoke": "revocation"}
 FINDINGS = {
     "LIVE": "grants in force, and whether each is needed",
     "BARRED": "approvals that do not count",
@@ -44,6 +59,15 @@ def wish_lines(wish: Wish, zone: tzinfo) -> Lines:
     ]
 
 
+def asked_lines(wish: Wish, reason: Reason, zone: tzinfo) -> Lines:
+    """Everything that is asked for, and why."""
+    return [*wish_lines(wish, zone), *reason.lines()]
+
+
+def kept_lines(kept: Kept, zone: tzinfo) -> Lines:
+    return asked_lines(kept.request.wish, kept.reason, zone)
+
+
 def ceiling_lines(ceiling: Ceiling) -> Lines:
     """The most that a ceiling gives."""
     return [
@@ -53,6 +77,17 @@ def ceiling_lines(ceiling: Ceiling) -> Lines:
         ("as", ", ".join(ceiling.runas)),
         ("running", ", ".join(ceiling.commands)),
     ]
+
+
+def offer_lines(ceiling: Ceiling, roster: Roster, person: str, now: datetime) -> Lines:
+    """What a ceiling gives a person, and who could approve it now."""
+    may = ", ".join(roster.approvers(person, ceiling.label, now))
+    return [*ceiling_lines(ceiling), ("may approve", may or "nobody now")]
+
+
+def objected(objections: list[str]) -> str:
+    """What is wrong with a request before it is sent; empty where nothing is."""
+    return f"The desk will refuse this: {'; '.join(objections)}." if objections else ""
 
 
 def approvals(count: int) -> str:
@@ -67,9 +102,18 @@ def said_line(said: Said, zone: tzinfo) -> str:
         return f"{text}; kept here, not yet at the desk"
     if said.kept.state == "refused":
         return f"{text}; {in_words(said.kept.answer)}"
-    return (
-        f"{text}; it does not count: {BARS.get(said.barred, said.barred)}" if said.barred else text
-    )
+    return f"{text}; {uncounted(said.barred)}" if said.barred else text
+
+
+def uncounted(barred: str) -> str:
+    """Why a verdict that was given does not count."""
+    return f"it does not count: {BARS.get(barred, barred)}"
+
+
+def warning(kind: str, why: str) -> str:
+    """What whoever is about to give a verdict has to know, where it would not count."""
+    said = BARS_NOW.get(why, why)
+    return f"Your {NOUNS[kind]} will not count: {said}." if why else ""
 
 
 def fate(standing: Standing, zone: tzinfo, roster: Roster, now: datetime) -> str:
@@ -109,13 +153,28 @@ def waits_for(standing: Standing, roster: Roster, now: datetime) -> str:
     return f"{needed}; {so_far}; {may}."
 
 
-def verdict_fate(kind: str, state: str, answer: str) -> str:
-    """What became of a verdict when it was posted."""
+def verdict_fate(kind: str, state: str, answer: str, barred: str = "") -> str:
+    """What became of a verdict when it was posted, and that it does not count, where it does
+    not."""
+    but = f" But {uncounted(barred)}." if barred else ""
     if state == "acked":
-        return f"The desk acknowledged that you {DONE[kind]} it."
+        return f"The desk acknowledged that you {DONE[kind]} it.{but}"
+    if state == "refused" and answer == UNASKED:
+        return f"It was not posted: {answer}."
     if state == "refused":
         return f"The desk refused that. {in_words(answer)}"
-    return f"It is kept here and not yet at the desk: {answer}. It is posted again by itself."
+    kept = f"It is kept here and not yet at the desk: {answer}. It is posted again by itself."
+    return kept + but
+
+
+def approvable(request: Kept) -> None:
+    """Raises where the desk refused the request: an approval would wait there for any other of the
+    same name."""
+    if request.state == "refused":
+        raise BadWord(
+            f"the desk refused {request.request.by} {request.request.no}, so there is nothing to"
+            f" approve. {in_words(request.answer)}"
+        )
 
 
 def unseen(kind: str, of: str, no: int) -> str:
@@ -143,22 +202,43 @@ def as_data(standing: Standing) -> dict[str, object]:
         "commands": list(request.wish.commands),
         "from": request.wish.begins,
         "until": request.wish.ends,
+        **standing.kept.reason.data(),
         "grant": {"from": stamp(grant.begins), "until": stamp(grant.ends)} if grant else None,
         "verdicts": [verdict_data(it) for it in standing.said],
+    }
+
+
+def offer_data(
+    ceiling: Ceiling, roster: Roster, demand: Demand, person: str, now: datetime
+) -> dict[str, object]:
+    """A ceiling that a person may ask under, for scripts."""
+    why, ticket = demand.wants(ceiling.label)
+    return {
+        "ceiling": ceiling.label,
+        "needs": ceiling.needs,
+        "longest": ceiling.longest,
+        "hosts": list(ceiling.hosts),
+        "runas": list(ceiling.runas),
+        "commands": list(ceiling.commands),
+        "approvers": roster.approvers(person, ceiling.label, now),
+        "needs_why": why,
+        "needs_ticket": ticket,
     }
 
 
 def verdict_data(said: Said) -> dict[str, object]:
     verdict: Verdict = said.verdict
     data: dict[str, object] = {"by": verdict.by, "kind": verdict.kind, "at": verdict.at}
-    return data | {"state": said.kept.state, "barred": said.barred or None}
+    counts = said.kept.state != "refused" and not said.barred
+    return data | {"state": said.kept.state, "counts": counts, "barred": said.barred or None}
 
 
-def grant_data(grant: Grant, request: Request | None) -> dict[str, object]:
+def grant_data(grant: Grant, kept: Kept | None) -> dict[str, object]:
     """A grant in force, for scripts; what is granted where this relay brought the request."""
     data: dict[str, object] = {"who": grant.who, "no": grant.no, "ceiling": grant.ceiling}
     data |= {"from": stamp(grant.begins), "until": stamp(grant.ends)}
-    if request:
-        wish = request.wish
+    if kept:
+        wish = kept.request.wish
         data |= {"hosts": list(wish.hosts), "runas": wish.runas, "commands": list(wish.commands)}
+        data |= kept.reason.data()
     return data

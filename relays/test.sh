@@ -9,8 +9,8 @@ export DESK="${DESK:-$PWD/build/desk}"
 
 packages=(
     openssh-server openssh-client openssl nginx-light tzdata sudo faketime util-linux
-    chromium chromium-driver fonts-dejavu-core
-    python3-flask python3-requests python3-waitress
+    chromium chromium-driver fonts-dejavu-core curl msmtp msmtp-mta python3-aiosmtpd
+    python3-flask python3-requests python3-requests-unixsocket python3-waitress
     python3-pytest python3-pytest-xdist python3-selenium
 )
 bash relays/install.sh "${packages[@]}"

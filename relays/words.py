@@ -1,6 +1,7 @@
 """The words that a person types: `ask db-care --on db1 --as root --for 2h /usr/bin/id`."""
 
 import argparse
+import json
 import re
 import shlex
 from collections.abc import Iterable
@@ -13,14 +14,22 @@ from relays.moments import length_of, moment_of, stamp
 DAY = re.compile(r"today|tomorrow|in|[0-9]{4}-[0-9]{2}-[0-9]{2}")
 SECOND = re.compile(r"[0-9]{1,2}:[0-9]{2}(:[0-9]{2})?Z?|[0-9]+[dhms][0-9dhms]*")
 TIMES = ("--from", "--until", "--at")
+ONCE = "[!-~]{1,100}"
 USAGE = """\
+  ask       at a terminal (ssh -t): asks for one after the other
   ask CEILING --on HOST[,HOST..] --as USER --for 2h COMMAND [ARGUMENT..] [--and COMMAND ..]
       --until 17:00 in place of --for; --from 'tomorrow 09:00' to begin later
-      --once KEY: the same key again is the same request, for scripts
+      --why TEXT and --ticket ID: for whoever approves
+      --once KEY: the same key again is the same request, for scripts; other words are refused
+  again [NUMBER]   the same as your last request, or as that one, from now on (--for, --until,
+      --from, --why, --ticket: in place of what it had)
   approve WHO NUMBER    refuse WHO NUMBER    revoke WHO NUMBER
+  ceilings  what you may ask for, for how long, and who may approve it now
+  show WHO NUMBER    one request
   mine      your requests, and what became of each (--all: older ones too)
   waiting   what waits for an approval that you may give
   live      what is in force now (--at TIME: at another time)
+  history   what came through this relay, whoever asked (--who NAME, --on HOST, --all)
   review    the desk's findings, for auditors
 
 With each: --json for scripts, --yes to send without being asked, --zone Europe/Berlin for times.
@@ -55,23 +64,41 @@ def parser() -> Parser:
     ask.add_argument("ceiling")
     ask.add_argument("--on", required=True, action="append", metavar="HOST")
     ask.add_argument("--as", required=True, dest="runas", metavar="USER")
-    ask.add_argument("--from", default="now", dest="begins", metavar="TIME")
-    ends = ask.add_mutually_exclusive_group(required=True)
-    ends.add_argument("--for", dest="length", metavar="2h")
-    ends.add_argument("--until", dest="ends", metavar="TIME")
+    add_window(ask, True)
     ask.add_argument("--once", metavar="KEY")
     ask.add_argument("--again", action="store_true")
+    again = commands.add_parser("again", parents=[common])
+    again.add_argument("no", metavar="NUMBER", nargs="?")
+    add_window(again, False)
     for kind in VERDICTS:
         verdict = commands.add_parser(kind, parents=[common])
         verdict.add_argument("of", metavar="WHO")
         verdict.add_argument("no", metavar="NUMBER")
         verdict.add_argument("--again", action="store_true")
     commands.add_parser("mine", parents=[common]).add_argument("--all", action="store_true")
-    commands.add_parser("waiting", parents=[common])
+    for word in ("waiting", "ceilings", "lead"):
+        commands.add_parser(word, parents=[common])
+    one = commands.add_parser("show", parents=[common])
+    one.add_argument("of", metavar="WHO")
+    one.add_argument("no", metavar="NUMBER")
+    history = commands.add_parser("history", parents=[common])
+    history.add_argument("--all", action="store_true")
+    history.add_argument("--who", metavar="NAME")
+    history.add_argument("--on", metavar="HOST")
     commands.add_parser("live", parents=[common]).add_argument("--at", default="now")
     commands.add_parser("review", parents=[common])
     commands.add_parser("help", parents=[common])
     return main
+
+
+def add_window(asking: argparse.ArgumentParser, is_needed: bool) -> None:
+    """From when, for how long or until when; and why."""
+    asking.add_argument("--from", default="now", dest="begins", metavar="TIME")
+    ends = asking.add_mutually_exclusive_group(required=is_needed)
+    ends.add_argument("--for", dest="length", metavar="2h")
+    ends.add_argument("--until", dest="ends", metavar="TIME")
+    asking.add_argument("--why", metavar="TEXT")
+    asking.add_argument("--ticket", metavar="ID")
 
 
 def split(line: str) -> list[str]:
@@ -94,9 +121,31 @@ def joined_times(words: Iterable[str]) -> list[str]:
     return joined
 
 
+def joined_texts(words: list[str]) -> list[str]:
+    """The words with a reason's in one: ssh drops its quotes. It goes on until the next option or
+    path; only its first word may be one. (ALL in it is a word: nobody asks for that by mistake.)"""
+    joined: list[str] = []
+    rest = iter(words)
+    for word in rest:
+        is_text = bool(joined) and joined[-1].startswith("--why=")
+        if is_file(word) and not (is_text and word == "ALL"):
+            return [*joined, word, *rest]
+        if word in ("--why", "--ticket") and (first := next(rest, None)) is not None:
+            word = f"{word}={first}"
+        elif is_text and not word.startswith("--"):
+            word = f"{joined.pop()} {word}"
+        joined.append(word)
+    return joined
+
+
+def is_file(word: str) -> bool:
+    """Whether a request's commands begin here."""
+    return word.startswith("/") or word == "ALL"
+
+
 def cut(words: list[str]) -> tuple[list[str], list[list[str]]]:
     """The words of a request, and the commands that it asks for, from the first path on."""
-    starts = [at for at, word in enumerate(words) if word.startswith("/") or word == "ALL"]
+    starts = [at for at, word in enumerate(words) if is_file(word)]
     if not starts:
         return words, []
     commands: list[list[str]] = [[]]
@@ -112,16 +161,35 @@ def parse(line: str) -> argparse.Namespace:
     """What a line of words says. `commands` has a request's commands, as a policy writes them."""
     words = split(line)
     commands: list[list[str]] = []
-    if words[:1] == ["ask"]:
+    if words[:1] in (["ask"], ["again"]):
+        words = joined_texts(words)
+    if words == ["ask"] or (words[:2] == ["ask", "--zone"] and len(words) == 3):
+        words = ["lead", *words[1:]]
+    elif words[:1] == ["ask"]:
         words, commands = cut(words)
         if not commands or not all(commands):
             raise BadWords("name a command by its whole path, such as /usr/bin/id, at the end")
     said = parser().parse_args(joined_times(words))
     if said.command == "ask":
         said.commands = [command_of(each) for each in commands]
-    if said.command in VERDICTS:
+        if said.once is not None and not re.fullmatch(ONCE, said.once):
+            raise BadWords("a --once KEY has 1 to 100 letters, digits and marks, and no blank")
+    if said.command in (*VERDICTS, "show"):
         said.of, said.no = checked("person", said.of), number_of(said.no)
+    if said.command == "again" and said.no is not None:
+        said.no = number_of(said.no)
+    if said.command == "history":
+        said.who, said.on = checked_if("person", said.who), checked_if("host", said.on)
     return said
+
+
+def unescaped(command: str) -> str:
+    """A command of a message as a person types it."""
+    return re.sub(r"\\([,:=])", r"\1", command)
+
+
+def checked_if(kind: str, word: str | None) -> str | None:
+    return None if word is None else checked(kind, word)
 
 
 def window_of(
@@ -142,6 +210,15 @@ def window_of(
     if last <= first:
         raise BadWord(f"the window would end at {ends!r}, before it begins")
     return stamp(first), stamp(last)
+
+
+def words_of(said: argparse.Namespace, zone: tzinfo) -> str:
+    """What a person asks for, as they said it: the same words mean the same tomorrow."""
+    hosts = sorted({host for part in said.on for host in part.split(",")})
+    window = [said.begins, said.length, said.ends, str(zone)]
+    reason = [[said.why, said.ticket]] if said.why or said.ticket else []
+    commands = sorted(set(said.commands))
+    return json.dumps([said.ceiling, hosts, said.runas, commands, window, *reason])
 
 
 def wish_of(said: argparse.Namespace, zone: tzinfo, at: datetime) -> Wish:

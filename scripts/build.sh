@@ -10,9 +10,9 @@ log=$(mktemp)
 trap 'rm -f "$log"' EXIT
 echo "proving and building the programs (half an hour and more on a fresh checkout) .."
 # Where there is room for it, crates are proved side by side first: a lane for each processor and
-# each 5 GB.
+# each 7 GB.
 lanes=$(awk -v cores="$(nproc)" '
-    /MemAvailable/ { most = int($2 / 5000000); print most < cores ? most : cores }
+    /MemAvailable/ { most = int($2 / 7000000); print most < cores ? most : cores }
 ' /proc/meminfo)
 if [ "${lanes:-1}" -gt 1 ] && ! rt all check --jobs "$lanes" > "$log" 2>&1; then
     cat "$log" >&2

@@ -2,8 +2,8 @@
 """Runs desk-audit on each row of cases/audit.toml, over the standard input and over a store.
 
 Asks it also of stores that are read-only, missing, empty, of another roster, damaged, and written
-to meanwhile; compares the examples of docs/AUDIT.md and docs/AUDITING.md, and runs the commands of
-the latter that need jq. `cases_audit.py DESK AUDIT` takes other programs than build/desk and
+to meanwhile; compares the example of docs/AUDITING.md, and runs those of its commands that need
+jq. `cases_audit.py DESK AUDIT` takes other programs than build/desk and
 build/desk-audit. The last line has the counts.
 """
 
@@ -35,8 +35,6 @@ ANSWERS = {
         "disputed approve 20260105091600Z bob on ann 8",
         "asker approve 20260105071000Z carol on carol 1",
         "parked approve 20260105073000Z bob on carol 2",
-        'ann ["db1"] 20260105091500Z 20260105102959Z'
-        ' ["/usr/bin/id","/usr/bin/systemctl restart postgresql"]',
     ],
     "asked.messages": ["  may       20260312080000Z bob carol"],
     "for day in": ["eve                              approve-db                       audit"],
@@ -236,16 +234,16 @@ def count_of(ran: Ran) -> int:
 
 
 def example(cases: Cases) -> None:
-    """The examples of two documents."""
-    for name in ("docs/AUDIT.md", "docs/AUDITING.md"):
-        found = re.findall(
-            r"^\$ build/desk-audit (.*) < (\S+)\n((?:.*\n)*?)```", desk.read(name), re.MULTILINE
-        )
-        for words, given, out in found:
-            ran = run(AUDIT, shlex.split(words), desk.ROOT, desk.read(given))
-            cases.compare(name, ran, out)
-        if not found:
-            cases.wrong.append(f"{name} has no example")
+    """The example of a document."""
+    name = "docs/AUDITING.md"
+    found = re.findall(
+        r"^\$ build/desk-audit (.*) < (\S+)\n((?:.*\n)*?)```", desk.read(name), re.MULTILINE
+    )
+    for words, given, out in found:
+        ran = run(AUDIT, shlex.split(words), desk.ROOT, desk.read(given))
+        cases.compare(name, ran, out)
+    if not found:
+        cases.wrong.append(f"{name} has no example")
 
 
 def commands(cases: Cases) -> None:

@@ -1,7 +1,8 @@
 #!/usr/bin/env python3
-"""Runs the commands of docs/STORE.md, HTTP.md, AUDITING.md and OPERATING.md ('By hand') as they
-stand there, over build/desk or the program that DESK names, and compares what these pages say that
-they print. It needs Debian's packages sqlite3, curl, jq and sudo (visudo)."""
+"""Runs the commands of docs/STORE.md, HTTP.md, AUDITING.md, USED.md, EVIDENCE.md, CONTROLS.md and
+OPERATING.md ('By hand') as they stand there, over build/desk or the program that DESK names, and
+compares what these pages say that they print. It needs Debian's packages sqlite3, curl, jq and sudo
+(visudo)."""
 
 from __future__ import annotations
 
@@ -34,6 +35,7 @@ class Page:
         self.text = desk.read("docs", name)
         self.tried = self.wrong = 0
         os.symlink(desk.EXAMPLES, os.path.join(folder, "examples"))
+        os.symlink(os.path.join(desk.ROOT, "tools"), os.path.join(folder, "tools"))
         os.mkdir(os.path.join(folder, "build"))
         os.symlink(PROGRAM, os.path.join(folder, "build", "desk"))
         folder_of, name_of = os.path.split(PROGRAM)
@@ -45,6 +47,26 @@ class Page:
         text = text if heading is None else text.split("\n## ")[0]
         found = re.findall(r"^```(\w*)\n(.*?)^```$", text, re.MULTILINE | re.DOTALL)
         return [block for its_kind, block in found if its_kind == kind]
+
+    def block(self, mark: str) -> str:
+        """The block of commands that has this text."""
+        found = [block for block in self.blocks() if mark in block]
+        self.holds(f"one block has {mark!r}", len(found) == 1, found)
+        return found[0] if found else "false"
+
+    def shown(self) -> Iterator[tuple[str, str]]:
+        """The commands of each block that begins with one, and what it shows that they print."""
+        for block in self.blocks(""):
+            if not block.startswith("$ "):
+                continue
+            commands, out = "", ""
+            for line in block.splitlines(keepends=True):
+                is_more = commands.endswith(("|\n", "\\\n"))
+                if line.startswith("$ ") or is_more:
+                    commands += line.removeprefix("$ ")
+                else:
+                    out += line
+            yield commands, out
 
     def holds(self, what: str, is_right: bool, found: object = "") -> None:
         self.tried += 1
@@ -175,12 +197,12 @@ def http(page: Page) -> None:
         "**`K4` to a POST says only that the message is not acknowledged**",
         "haproxy with `option http-buffer-request`, caddy with `request_buffers",
     )
-    with desk.Server(program=[PROGRAM]) as server:
-        address = f"http://{server.address}"
-        place, *asked = [it.replace("http://127.0.0.1:8080", address) for it in page.blocks()[1:]]
-        posted, request, audited, messages, grants, parked, files, *more = asked[:10]
+    path = os.path.join(page.folder, "desk.sock")
+    with desk.Server(program=[PROGRAM], listen=f"unix:{path}") as server:
+        place, *asked = [it.replace("/run/desk/desk.sock", path) for it in page.blocks()[1:]]
+        posted, request, audited, messages, count, grants, parked, files, *more = asked[:11]
         later, fetched, review = more
-        shown = [it.replace("127.0.0.1:8080", server.address) for it in page.blocks("")]
+        shown = page.blocks("")
         page.holds("an approval", page.out(place + posted) == "ack\n", page.run(place + posted))
         body = shown[0].split("\n\n")[1].strip()
         sizes = re.findall(r"Content-Length: (\d+)", shown[0])
@@ -194,18 +216,40 @@ def http(page: Page) -> None:
         made = [told(1)[0], page.file("approval.json")]
         said = page.out(place + messages)
         page.holds("all messages", said == "".join(sorted(it + "\n" for it in made)), said)
+        counted(page, page.out(place + count), shown[2])
         said = page.out(place + grants)
-        page.holds("the grants", said == shown[2], said)
+        page.holds("the grants", said == shown[3], said)
         for what, block in (("the files", files), ("a file after a moment", later)):
             said = page.out(place + block)
             page.holds(what, said.startswith("dba ALL = (postgres) ALL\n"), said)
-        ran = page.run(place + fetched.replace("/etc/sudoers.d/desk", "fetched"))
-        page.holds("a fetch", "dba ALL" in page.file("fetched"), ran)
-        page.holds("a report", whole(page, place + review) == shown[3].strip(), shown[3])
+        fetch(page, fetched)
+        page.holds("a report", whole(page, place + review) == shown[4].strip(), shown[4])
         refused = next(it for it in asked if it.startswith("$ ")).splitlines()
         said = whole(page, place + refused[0].removeprefix("$ ").replace(" -i ", " "))
         page.holds("a refusal", said == "\n".join(refused[1:]).strip(), said)
         page.holds("SIGHUP", server.end(signal.SIGHUP) == -signal.SIGHUP)
+
+
+def counted(page: Page, said: str, shown: str) -> None:
+    """The number of messages, and the digests as other programs print them."""
+    page.says("`sha256sum ROSTER` and `desk check BASE | sha256sum` print the same digests")
+    words = "cat examples/roster.toml | sha256sum; build/desk check examples/site.sudo | sha256sum"
+    digests = [line.split()[0] for line in page.out(words).splitlines()]
+    page.holds("the count", said == f"2 {' '.join(digests)}\n", said)
+    begins = [re.escape(it.removesuffix("..")) for it in shown.split()]
+    is_shown = re.fullmatch(r"\S* ".join(begins) + r"\S*\n", said) is not None
+    page.holds("the count that is shown", is_shown, f"{shown} {said}")
+
+
+def fetch(page: Page, block: str) -> None:
+    """A host's fetch, of a desk at a port in place of a front."""
+    with desk.Server(program=[PROGRAM]) as server:
+        words = block.replace("/etc/sudoers.d/desk", "fetched").replace(
+            "--cert host.pem --key host.key --ca ca.pem https://desk.example",
+            f"--state kept http://{server.address}",
+        )
+        ran = page.run(words)
+    page.holds("a fetch", "dba ALL" in page.file("fetched"), ran)
 
 
 def whole(page: Page, block: str) -> str:
@@ -234,15 +278,14 @@ def by_jq(page: Page, place: str) -> None:
 
 
 def auditing(page: Page) -> None:
-    # (cases_audit.py runs those that stand between)
-    report, grep, every, *_, decided, beyond, other = page.blocks()
-    said = page.out(report)
+    # (cases_audit.py runs the others)
+    for commands, wanted in page.shown():
+        said = page.out(commands)
+        page.holds(commands, said == wanted, said)
+    *_, decided, beyond, other = page.blocks()
+    said = page.out(page.block("20260105093000Z < examples/approved.messages; echo"))
     is_right = said.endswith("PARKED\n0\n") and re.search("^ann +7", said, re.M) is not None
     page.holds("a report", is_right, said)
-    said = page.out(grep)
-    page.holds("who asked and approved", said == APPROVED, said)
-    said = page.out(every)
-    page.holds("all grants that were", len(re.findall("^ann +7 ", said, re.M)) >= 1, said)
     said = page.out(decided)
     page.holds("what a base allows", said == "dba ALL = (postgres) ALL\ndeny\n1\n", said)
     said = page.out(beyond)
@@ -256,13 +299,56 @@ def auditing(page: Page) -> None:
     page.says("`ann db1 root 20260105091500Z /usr/bin/id` and status 1")
     page.holds("beyond", said.endswith("\nann db1 root 20260105091500Z /usr/bin/id\n1\n"), said)
     page.says(
-        "a delivery by such a person is refused (`A1`)",
+        "a delivery by somebody whom the roster does not list is refused (`A1`)",
         "The hosts and commands stand in the request",
     )
     gone = desk.approval(by="zoe")
     words = "build/desk deliver examples/roster.toml examples/site.sudo - chat"
     said = page.out(f"echo '{gone}' | {words}")
     page.holds("who is gone", said == "A1 UnknownPerson\n", said)
+
+
+def used(page: Page) -> None:
+    ((commands, wanted),) = page.shown()
+    commands = commands.replace("desk-audit", "build/desk-audit", 1)
+    said = page.out(commands.replace("\ndesk-used ", "\ntools/desk-used --desk build/desk "))
+    page.holds("the example", said == wanted, said)
+    options = set(re.findall(r"--[a-z][a-z-]*", page.out("tools/desk-used --help")))
+    named = set(re.findall(r"--[a-z][a-z-]*", page.text.split("## What to log")[0]))
+    page.holds("the options", options - {"--help"} == named, (options, named))
+
+
+def evidence(page: Page) -> None:
+    made, _ = page.blocks()
+    (wanted,) = page.blocks("")
+    said = page.out(made)
+    page.holds("the example", said == wanted, said)
+    options = set(re.findall(r"--[a-z][a-z-]*", page.out("tools/desk-evidence --help")))
+    named = set(re.findall(r"--[a-z][a-z-]*", page.text.split("## Its words")[1]))
+    page.holds("the options", options - {"--help"} <= named, options - named)
+
+
+def controls(page: Page) -> None:
+    """Each command, and what it shows of its control."""
+    (block,) = page.blocks()
+    first, *numbered = re.split(r"^# (?=\d)", block, flags=re.MULTILINE)
+    cells = re.findall(r"\| ([\d, ]+) \|$", page.text, re.MULTILINE)
+    numbers = {it for cell in cells for it in cell.split(", ")}
+    page.holds("each number has its command", {it[0] for it in numbered} == numbers, numbers)
+    shown = {
+        "1": r"ann 7  granted (?s:.*)revoke    \d+Z carol counts\n",
+        "2": r"allow\ndeny\n",
+        "3": r"LIVE\nann (?s:.*)needed\nBARRED\n(?s:.*)eve +conflict\n(?s:.*)CONFLICTS\neve ",
+        "4": r"A7 WindowTooLong\n",
+        "5": r"none\ndba  dba other0 postgres .*\nother0  none\n",
+        "6": r"used twice\n(?s:.*)NEITHER\ndb1 ann as root (?s:.*)db1 eve as root ",
+        "7": r'"at":.*"by":"ann".*"cmnds":.*"from":.*"hosts":.*"runas":"root","until":',
+        "8": r"the statuses are the same\nall messages are told\n",
+    }
+    for it in numbered:
+        number, _, commands = it.partition(":")
+        said = page.out(f"{first}# {commands}")
+        page.holds(number, re.search(shown[number], said) is not None, said)
 
 
 def operating(page: Page) -> None:
@@ -281,6 +367,9 @@ def pages() -> Iterator[Page]:
         ("STORE.md", store),
         ("HTTP.md", http),
         ("AUDITING.md", auditing),
+        ("USED.md", used),
+        ("EVIDENCE.md", evidence),
+        ("CONTROLS.md", controls),
         ("OPERATING.md", operating),
     ):
         with tempfile.TemporaryDirectory() as folder:

@@ -13,7 +13,7 @@ import desk
 
 ROOT = pathlib.Path(desk.ROOT)
 # what installs the package and copies its examples: here they are there
-INSTALLS = ("dpkg -i ", "cp -r /usr/share/doc/steelnewt/examples ")
+INSTALLS = ("apt install ", "cp -r /usr/share/doc/steelnewt/examples ")
 
 
 def blocks(text: str, heading: str) -> list[str]:

@@ -4,9 +4,9 @@ is run as it stands there, and what the page says of it is compared.
 
 It is done in a root of its own, this machine's under an overlay that is thrown away, with
 namespaces for mounts, processes and network. The service is `desk-serve` as the unit's account;
-`systemctl`, `ssh db1`, `dpkg -i` and the editor are stand-ins (STAND_INS), all else is Debian's: a
-block that the page has and nothing here runs is a fault. Needs root, and Debian's packages sudo,
-faketime, curl, nginx-light, openssl and iproute2.
+`systemctl`, `ssh db1`, `apt install` and the editor are stand-ins (STAND_INS), all else is
+Debian's: a block that the page has and nothing here runs is a fault. Needs root, and Debian's
+packages sudo, faketime, curl, nginx-light, openssl and iproute2.
 """
 
 from __future__ import annotations
@@ -29,9 +29,12 @@ BOOK = "/runbooks"  # the folder of the stand-ins
 HERE = "/var/lib/desk"
 PATH = f"{BOOK}:/usr/local/bin:/usr/sbin:/usr/bin:/sbin:/bin"
 HOUR = 3_600
+TIMED = "/etc/cron.d/feed-desk"
+DOC = "/usr/share/doc/steelnewt/examples"
 PATIENCE = 600  # the seconds after which something hangs: the machine may be busy
 FILES = ("/etc/desk/roster.toml", "/etc/desk/base.sudo")
-URL = "http://127.0.0.1:8080"
+SOCKET = "/run/desk/desk.sock"
+FRONT_CA = "sh /usr/local/bin/front-ca.sh /etc/desk/front"
 STAND_INS = {
     # the service, started as its unit starts it; INSTANCE, STORE and ADDR make a second one
     "systemctl": """#!/bin/bash
@@ -46,7 +49,8 @@ stop() {
 }
 start() {
     : > "$log"
-    setsid setpriv --reuid desk --regid desk --clear-groups env "PATH=$PATH" \\
+    [ -d /run/desk ] || install -d -o desk -g desk-front -m 0750 /run/desk
+    setsid setpriv --reuid desk --regid desk-front --groups desk env "PATH=$PATH" \\
         "STORE=$STORE" "ADDR=$ADDR" /usr/local/bin/desk-serve > "$log" 2>&1 < /dev/null &
     echo $! > "$pid"
     for _ in $(seq 1200); do
@@ -57,12 +61,18 @@ start() {
     cat "$log" >&2
     return 1
 }
+halt() {
+    [ ! -e /run/nginx.pid ] || nginx -s stop
+    for _ in $(seq 600); do [ -e /run/nginx.pid ] || break; sleep 0.1; done
+}
 case $* in
     'stop desk') stop ;;
     'start desk') start ;;
     'restart desk') stop; start ;;
-    'start desk-fetch@db1') sh /usr/local/bin/fetch-sudoers http://127.0.0.1:8080 db1 \\
-        /etc/sudoers.d/desk ;;
+    'stop nginx') halt ;;
+    'start nginx') nginx ;;
+    'restart nginx') halt; nginx ;;
+    'start desk-fetch@db1') desk-host fetch db1 ;;
     *) echo "systemctl: it is not known here: $*" >&2; exit 9 ;;
 esac
 """,
@@ -75,7 +85,7 @@ exec "$@"
 """,
     "editor": f'#!/bin/sh\ncp {BOOK}/new.toml "$1"\n',
     # the package's upgrade restarts the service
-    "dpkg": '#!/bin/sh\n[ "$1" = -i ] && exec systemctl restart desk\n',
+    "apt": '#!/bin/sh\n[ "$1" = install ] && exec systemctl restart desk\n',
 }
 
 
@@ -137,17 +147,17 @@ class Room:
         self.done.add(block)
         return self.run(f"{PREAMBLE}{before}\n{block}", **more)
 
-    def text(self, route: str, url: str = URL) -> str:
+    def text(self, route: str, path: str = SOCKET) -> str:
         """What the desk answers to a question."""
-        return self.run(f"curl -sS -m 60 {url}{route}").stdout
+        return self.run(f"curl -sS -m 60 --unix-socket {path} http://desk{route}").stdout
 
     def post(self, *messages: str) -> list[str]:
         """What the desk answers to messages."""
         answers = []
         for message in messages:
             self.write(f"{BOOK}/message", message)
-            route = f"{URL}/v1/relays/chat/messages"
-            answers.append(self.run(f"curl -sS --data-binary @{BOOK}/message {route}").stdout)
+            ask = f"curl -sS --unix-socket {SOCKET} http://desk/v1/relays/chat/messages"
+            answers.append(self.run(f"{ask} --data-binary @{BOOK}/message").stdout)
         return answers
 
     def may(self, command: str, before: str = "") -> bool:
@@ -158,7 +168,7 @@ class Room:
     def begin(self, *messages: str) -> None:
         """A desk of examples/ anew, with these messages."""
         self.run(
-            f"systemctl stop desk; rm -rf {HERE} /root/* /etc/sudoers.d/desk;"
+            f"systemctl stop desk; rm -rf {HERE} /root/* /etc/sudoers.d/desk /var/lib/desk-host;"
             f" install -d -m 0700 -o desk -g desk {HERE}"
         )
         for name, source in zip(FILES, (desk.ROSTER, desk.BASE), strict=True):
@@ -214,6 +224,9 @@ def roster_changed(room: Room) -> None:
     named = re.search(r"^line [1-3]: A3 NotAsker$", shown.stderr, re.MULTILINE)
     room.holds("a request that is not admitted", named is not None, shown.stderr)
     room.holds("rebuilt", (made.stdout, made.returncode) == ("ok\n", 0), made)
+    kept = room.run("cd /etc/desk/rosters && ls && cat *Z.toml | cmp - /etc/desk/roster.toml")
+    is_kept = re.fullmatch(r"\d{14}Z\.toml\n", kept.stdout) is not None
+    room.holds("the roster is kept", is_kept and kept.returncode == 0, kept)
     room.holds("it is not granted", room.text(f"/v1/grants/{near(0)}") == "")
     back = "desk rebuild /root/old.toml /etc/desk/base.sudo desk.db"
     room.says("A roster is changed", "`desk rebuild /root/old.toml ..`: the desk answers as before")
@@ -282,7 +295,7 @@ def revoked(room: Room) -> None:
     room.begin(asked, approved, asked.replace('"no":7,', '"no":70,'))
     room.run("systemctl start desk-fetch@db1")
     room.holds("ann may before it", room.may("/usr/bin/id"))
-    found = re.search(r"`(curl -sf \"\$desk/v1/messages\" \| grep [^`]*)`", section(heading))
+    found = re.search(r"`(ask -sf \"\$desk/v1/messages\" \| grep [^`]*)`", section(heading))
     grepped = room.run(f"{PREAMBLE}{found[1] if found else 'false'}").stdout
     room.holds("the request of a number", grepped == asked + "\n", grepped)
     done = room.follow(heading, 0)
@@ -364,7 +377,7 @@ def restore(room: Room) -> None:
     heading = "A restore"
     messages = desk.read("examples", "approved.messages").splitlines()
     room.begin(*messages)
-    room.run(f"curl -sf {URL}/v1/messages > /root/messages.txt")
+    room.write("/root/messages.txt", room.text("/v1/messages"))
     room.post(desk.approval(50))
     # a page of the store is damaged, and its log is there
     room.run("p=$(cat /run/desk.pid); kill -KILL $(cat /proc/$p/task/$p/children) $p")
@@ -402,23 +415,165 @@ def second_desk(room: Room) -> None:
     heading, second = "A second desk", "/var/lib/second"
     messages = desk.read("examples", "approved.messages").splitlines()
     room.begin(*messages)
-    ca = "sh /usr/local/bin/front-ca.sh /etc/desk/front"
-    word = re.search(r"`front-ca.sh DIR (auditor feed)`", section(heading))
+    made_by = re.findall(r"`front-ca.sh DIR (auditor feed|server desk2.example)`", section(heading))
+    room.holds("the second's certificates", len(made_by) == 2, made_by)
+    make_front(room, *made_by)
     made = room.run(
-        f"{ca} init && {ca} server desk.example 127.0.0.1 && {ca} {word[1] if word else ''} &&"
-        f" install -d -m 0700 -o desk -g desk {second} && cd /etc/desk/front &&"
-        f" cp auditor-feed.pem auditor-feed.key ca.pem {second} && nginx"
+        f"install -d -m 0700 -o desk -g desk {second} && cd /etc/desk/front &&"
+        f" cp auditor-feed.pem auditor-feed.key ca.pem {second}"
     )
-    room.holds("the front", made.returncode == 0, made)
-    other = {"INSTANCE": "second", "STORE": f"{second}/desk.db", "ADDR": "127.0.0.1:8081"}
-    for wanted in (["2", "ack"], ["3", "ack"]):
+    room.holds("its folder", made.returncode == 0, made)
+    place = f"{os.path.dirname(SOCKET)}/second.sock"
+    other = {"INSTANCE": "second", "STORE": f"{second}/desk.db", "ADDR": f"unix:{place}"}
+    room.run("systemctl start desk", **other)
+    for wanted in (2, 1, 0):
         done = room.follow(heading, 0, f"cd {second}\n", **other)
-        room.holds("each is acknowledged", done.stdout.split() == wanted, done)
-        first, copy = room.text("/v1/messages"), room.text("/v1/messages", "http://127.0.0.1:8081")
+        said = f"feed-desk: {wanted} posted, 0 refused\n" if wanted else ""
+        room.holds("what was posted", (done.returncode, done.stdout) == (0, said), done)
+        first, copy = room.text("/v1/messages"), room.text("/v1/messages", place)
         room.says(heading, "Its `/v1/messages` is the first desk's, to the byte")
         room.holds("to the byte", first == copy != "", copy)
-        room.post(desk.approval(50))
-    room.run("systemctl stop desk; nginx -s stop", **other)
+        if wanted == 2:
+            room.post(desk.approval(50))
+    timed(room, second, other)
+    away(room, place)
+    room.run("systemctl stop desk; systemctl stop nginx", **other)
+
+
+def timed(room: Room, second: str, other: dict[str, str]) -> None:
+    """What cron runs each minute, and what it says where the first desk does not answer."""
+    times, user, words = re.fullmatch(r"((?:\* ){5})(\S+) (.*)\n", room.read(TIMED)).groups()
+    room.holds("each minute, as the desk's account", (times, user) == ("* " * 5, "desk"), words)
+    here = words.replace("/var/lib/desk ", f"{second} ").replace("| logger -t feed-desk", "")
+    room.run(f"chown -R desk:desk {second}")
+    room.post(desk.approval(51))
+    as_desk = "setpriv --reuid desk --regid desk --clear-groups sh -c"
+    done = room.run(f"{as_desk} '{here}'", **other)
+    room.holds("what cron runs", done.stdout == "feed-desk: 1 posted, 0 refused\n", done)
+    done = room.run(f"{as_desk} '{here.replace('desk.example', 'desk.example:1')}'", **other)
+    room.holds("without the first", "curl: (7)" in done.stdout + done.stderr, done)
+
+
+def second_front(room: Room, place: str) -> None:
+    """The second desk's front, at a port of its own, and a host that names both fronts."""
+    conf = desk.read("examples", "nginx", "desk.conf")
+    _, begin, server = conf.partition("\nserver {\n")
+    for first, second in (
+        ("listen 443 ", "listen 8443 "),
+        ("/server.", "/server-desk2.example."),
+        (f"http://unix:{SOCKET};", f"http://unix:{place};"),
+    ):
+        room.holds(f"the front has {first}", first in server)
+        server = server.replace(first, second)
+    room.write("/etc/nginx/conf.d/second.conf", begin + server)
+    room.run("systemctl restart nginx")
+    both = "DESKS=https://desk.example https://desk2.example:8443\n"
+    conf = desk.read("packaging", "fetch.conf").replace("DESKS=https://desk.example\n", both)
+    room.write("/etc/desk/fetch.conf", conf)
+
+
+def away(room: Room, place: str) -> None:
+    """Hosts that name both, while the first desk is away: the second's file is taken once it holds
+    as many messages."""
+    room.says("A second desk", "they take the second's file if it holds at least as many messages")
+    second_front(room, place)
+    room.run("rm -rf /var/lib/desk-host")
+    room.post(desk.approval(52))
+    fetch = "systemctl start desk-fetch@db1"
+    done = room.run(fetch)
+    room.holds("from the first", done.returncode == 0, done)
+    room.run("systemctl stop desk")
+    done = room.run(fetch)
+    is_told = "it holds 4 messages, and this host's file is made of 5" in done.stderr
+    room.holds("a second desk that lags", done.returncode == 1 and is_told, done)
+    room.run(
+        f"printf %s '{desk.approval(52)}' | curl -sS --unix-socket {place} --data-binary @-"
+        " http://desk/v1/relays/chat/messages"
+    )
+    done = room.run(fetch)
+    room.holds("once it does not", done.returncode == 0, done)
+    room.run("systemctl start desk; rm /etc/nginx/conf.d/second.conf")
+    room.write("/etc/desk/fetch.conf", desk.read("packaging", "fetch.conf"))
+
+
+def by_certificate(room: Room, name: str, target: str, *more: str) -> str:
+    """The status that the front gives to a certificate, and the body."""
+    words = ["curl", "-s", "-m", "60", "-w", "'%{http_code}'", *more]
+    words += ["--cert", f"{name}.pem", "--key", f"{name}.key", "--cacert /etc/desk/front/ca.pem"]
+    return room.run(" ".join([*words, f"https://desk.example{target}"])).stdout
+
+
+def key_lost(room: Room) -> None:
+    room.begin(desk.request())
+    room.run(f"rm -rf /etc/desk/front; mkdir /root/stolen; {FRONT_CA} init")
+    for words in ("server desk.example 127.0.0.1", "host db1", "relay chat", "auditor carol"):
+        made = room.run(f"{FRONT_CA} {words} && cp /etc/desk/front/*-* /root/stolen")
+        room.holds(words, made.returncode == 0 or "server" in words, made)
+    # (each is made again: the thief has the older one)
+    for words in ("host db1", "relay chat"):
+        made = room.run(f"{FRONT_CA} {words}")
+        room.holds("it says what holds", "revoke-older" in made.stderr, made)
+    room.run("systemctl restart nginx")
+    host_lost(room)
+    relay_lost(room)
+    authority_lost(room)
+    room.run("systemctl stop nginx; rm -rf /etc/desk/front /root/front.lost /root/stolen")
+
+
+def host_lost(room: Room) -> None:
+    file, stolen, new = "/v1/hosts/db1/sudoers", "/root/stolen/host-db1", "/etc/desk/front/host-db1"
+    before = by_certificate(room, stolen, file)
+    room.holds("the thief reads the host's file", before.endswith("200"), before)
+    done = room.follow("A key is lost", 0)
+    room.says("A key is lost", "It prints 403", "also those whose file was overwritten long ago")
+    room.holds("it prints 403", done.stdout == "403\n", done)
+    after = by_certificate(room, stolen, file)
+    room.holds("the thief reads no more", after.endswith("403"), after)
+    again = by_certificate(room, new, file)
+    room.holds("the host fetches by its new one", again.endswith("200"), again)
+
+
+def relay_lost(room: Room) -> None:
+    sent, forged = desk.approval(60), [desk.request(61), desk.approval(61)]
+    target, stolen = "/v1/relays/chat/messages", "/root/stolen/relay-chat"
+    for name, message in (
+        ("/etc/desk/front/relay-chat", sent),
+        *((stolen, message) for message in forged),
+    ):
+        room.write(f"{BOOK}/message", message)
+        said = by_certificate(room, name, target, f"--data-binary @{BOOK}/message")
+        room.holds("the desk takes what is forged", said == "ack\n200", said)
+    table = "CREATE TABLE messages (body TEXT)"
+    rows = "".join(f"INSERT INTO messages VALUES ('{it}');" for it in (sent, desk.request()))
+    box = "/var/lib/desk-relay"
+    made = room.run(f"mkdir -p {box} && sqlite3 {box}/outbox.db \"$SQL\"", SQL=f"{table};{rows}")
+    room.holds("an outbox", made.returncode == 0, made)
+    done = room.follow("A key is lost", 1)
+    room.says("A key is lost", "Each line that it prints came through another relay, or is forged")
+    room.holds("what is forged", done.stdout == listed(forged), done)
+    after = by_certificate(room, stolen, target, f"--data-binary @{BOOK}/message")
+    room.holds("the thief posts no more", after.endswith("403"), after)
+    again = by_certificate(
+        room, "/etc/desk/front/relay-chat", target, f"--data-binary @{BOOK}/message"
+    )
+    room.holds("the relay posts by its new one", again == "ack\n200", again)
+
+
+def authority_lost(room: Room) -> None:
+    file = "/v1/hosts/db1/sudoers"
+    names = ("host-db1", "relay-chat", "auditor-carol")
+    kept = room.run("cp -r /etc/desk/front /root/kept")
+    room.holds("the thief has all of it", kept.returncode == 0, kept)
+    done = room.follow("A key is lost", 2)
+    room.holds("the authority is replaced", done.returncode == 0, done)
+    made = [name for name in names if os.path.exists(room.path(f"/etc/desk/front/{name}.pem"))]
+    room.holds("each client has a new one", made == [*names], done)
+    again = by_certificate(room, "/etc/desk/front/host-db1", file)
+    room.holds("the host fetches by its new one", again.endswith("200"), again)
+    made = room.run("sh /usr/local/bin/front-ca.sh /root/kept host db1")
+    room.holds("the thief makes another one", made.returncode == 0, made)
+    after = by_certificate(room, "/root/kept/host-db1", file)
+    room.holds("and it is refused", after.endswith("403"), after)
 
 
 BOOKS = (
@@ -427,11 +582,23 @@ BOOKS = (
     on_call,
     revoked,
     break_glass,
+    key_lost,
     disk_full,
     upgrade,
     restore,
     second_desk,
 )
+
+
+def make_front(room: Room, *more: str) -> None:
+    """A front anew, and a certificate of its authority at the host db1; `more` is made as well."""
+    clients = " && ".join(f"{FRONT_CA} {words}" for words in ("host db1", *more))
+    made = room.run(
+        f"rm -rf /etc/desk/front; {FRONT_CA} init && {FRONT_CA} server desk.example 127.0.0.1 &&"
+        f" {clients} && cd /etc/desk/front && cp ca.pem .. && cp host-db1.pem ../host.pem &&"
+        " cp host-db1.key ../host.key && systemctl restart nginx"
+    )
+    room.holds("the front", made.returncode == 0, made)
 
 
 def prepare(room: Room) -> None:
@@ -442,19 +609,24 @@ def prepare(room: Room) -> None:
     for source, name in (
         (PROGRAM, "desk"),
         (os.path.join(desk.ROOT, "packaging", "desk-serve"), "desk-serve"),
-        (os.path.join(desk.EXAMPLES, "fetch-sudoers.sh"), "fetch-sudoers"),
+        (os.path.join(desk.ROOT, "packaging", "desk-host"), "desk-host"),
         (os.path.join(desk.EXAMPLES, "front-ca.sh"), "front-ca.sh"),
     ):
         shutil.copy(source, room.path(f"/usr/local/bin/{name}"))
         os.chmod(room.path(f"/usr/local/bin/{name}"), 0o755)
-    os.makedirs(room.path("/etc/desk"), exist_ok=True)
-    conf = desk.read("examples", "nginx", "desk.conf")
-    os.makedirs(room.path("/etc/nginx/conf.d"), exist_ok=True)
-    room.write("/etc/nginx/conf.d/desk.conf", conf)
-    room.write("/etc/hosts", f"127.0.0.1 localhost desk.example {socket.gethostname()}\n")
+    for folder in (DOC, "/etc/desk", "/etc/cron.d", "/etc/nginx/conf.d"):
+        os.makedirs(room.path(folder), exist_ok=True)
+    for name in ("front-ca.sh", "feed-desk.sh"):
+        shutil.copy(os.path.join(desk.EXAMPLES, name), room.path(DOC))
+    room.write("/etc/nginx/conf.d/desk.conf", desk.read("examples", "nginx", "desk.conf"))
+    room.write("/etc/desk/fetch.conf", desk.read("packaging", "fetch.conf"))
+    names = f"localhost desk.example desk2.example {socket.gethostname()}"
+    room.write("/etc/hosts", f"127.0.0.1 {names}\n")
     for name, source in zip(FILES, (desk.ROSTER, desk.BASE), strict=True):
         shutil.copy(source, room.path(name))
-    room.run("useradd --system desk; useradd ann")
+    room.run("useradd --system desk; groupadd --system desk-front; useradd ann")
+    room.run("usermod --append --groups desk-front www-data")
+    make_front(room)
 
 
 def inside() -> None:

@@ -100,6 +100,7 @@ def tool_bash(tool: dict) -> str:
     others = "|".join(name for name, kind in tool["options"] if kind == "other")
     function = "_" + tool["name"].replace("-", "_")
     text = TOOL_BASH.replace("@NAMES@", names).replace("@FUNCTION@", function)
+    text = text.replace("@WORDS@", " ".join(tool.get("words", [])))
     return text.replace("@TOOL@", tool["name"]).replace("@OTHERS@", others or "--")
 
 
@@ -116,6 +117,8 @@ TOOL_BASH = """\
         *)
             compopt -o filenames 2> /dev/null
             mapfile -t COMPREPLY < <(compgen -f -- "$current")
+            [ "$COMP_CWORD" -ne 1 ] || [ -z '@WORDS@' ] ||
+                mapfile -t COMPREPLY < <(compgen -W '@WORDS@' -- "$current")
             ;;
     esac
 }
@@ -126,7 +129,8 @@ complete -F @FUNCTION@ @TOOL@
 def tool_zsh(tool: dict) -> str:
     values = {"": "", "file": ":FILE:_files", "other": ":WORD: "}
     options = " ".join(f"'{name}[{name[2:]}]{values[kind]}'" for name, kind in tool["options"])
+    words = f"'1:WORD:({' '.join(tool['words'])})' " if "words" in tool else ""
     return (
         f"#compdef {tool['name']}\n# What zsh completes behind `{tool['name']}`: options and"
-        f" files.\n_arguments {options} '*:FILE:_files'\n"
+        f" files.\n_arguments {options} {words}'*:FILE:_files'\n"
     )

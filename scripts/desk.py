@@ -26,6 +26,12 @@ PROGRAM = [os.path.join(BUILD, "desk")]
 MEMORY = "/dev/shm" if os.path.isdir("/dev/shm") else None
 PATH = os.environ["PATH"] + ":/usr/sbin:/sbin"
 
+# what `serve` says at the start of an address that has a port
+EVERY_ACCOUNT = (
+    r"WARNING: EVERY ACCOUNT OF THIS MACHINE CAN POST AT 127\.0\.0\.1:\d+ AS ANY RELAY AND READ"
+    r" EVERY FILE, AND TAKE THE PORT WHILE NOBODY LISTENS"
+)
+
 Members = Mapping[str, object]
 Run = subprocess.CompletedProcess[str]
 
@@ -124,7 +130,8 @@ def memory_of(pid: int) -> tuple[int, int]:
 
 
 class Server:
-    """A desk on loopback, at a port that the system chooses, as long as the block lasts."""
+    """A desk as long as the block lasts: on loopback, at a port that the system chooses, or at the
+    address that is named, as `unix:/PATH`."""
 
     def __init__(
         self,
@@ -137,16 +144,18 @@ class Server:
         stderr: int | IO[Any] = subprocess.DEVNULL,
         environment: Mapping[str, str] | None = None,
         must_listen: bool = True,
+        listen: str = "127.0.0.1:0",
     ) -> None:
         """`before` are words that start the program; without `must_listen` the port may be 0."""
-        words = [*before, *program, "serve", roster, base, store, "127.0.0.1:0", *more]
+        words = [*before, *program, "serve", roster, base, store, listen, *more]
         self.process = subprocess.Popen(
             words, stdout=subprocess.PIPE, stderr=stderr, env=environment
         )
         assert self.process.stdout is not None
         said = self.process.stdout.readline()
-        listens = re.fullmatch(r"listening (127\.0\.0\.1:([0-9]+))\n", said.decode())
-        self.address, self.port = (listens[1], int(listens[2])) if listens else ("", 0)
+        listens = re.fullmatch(r"listening (127\.0\.0\.1:([0-9]+)|unix:/.*)\n", said.decode())
+        self.address = listens[1] if listens else ""
+        self.port = int(listens[2] or 0) if listens else 0
         if must_listen and not listens:
             self.process.kill()
             self.process.wait()
@@ -190,6 +199,21 @@ class Server:
         peer.settimeout(seconds)
         peer.connect(("127.0.0.1", self.port))
         return peer
+
+
+def connected(address: str, seconds: float = 20) -> socket.socket:
+    """A connection to a desk at its address, as `127.0.0.1:8080` or `unix:/PATH`."""
+    path = address.removeprefix("unix:")
+    if path == address:
+        return socket.create_connection(place(address), timeout=seconds)
+    peer = socket.socket(socket.AF_UNIX)
+    peer.settimeout(seconds)
+    try:
+        peer.connect(path)
+    except OSError:
+        peer.close()
+        raise
+    return peer
 
 
 def place(address: str) -> tuple[str, int]:

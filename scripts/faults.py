@@ -27,7 +27,7 @@ REFUSAL = re.compile(r"(NoMemory|B2 NoMemory|O8 NoMemory|S11 NoMemory line \d+|K
 # what `serve` says on its standard error where nothing is wanting, and where it could not count
 STATED = re.compile(
     r"serving (0 messages|messages that were not counted), roster [0-9a-f]{64}|ended: all"
-    r" connections that were asked for are served"
+    r" connections that were asked for are served|" + desk.EVERY_ACCOUNT
 )
 
 # a run's status, its output and its standard error

@@ -18,25 +18,35 @@ import desk
 AUTHORITY = os.path.join(desk.EXAMPLES, "front-ca.sh")
 NGINX = os.path.join(desk.EXAMPLES, "nginx", "desk.conf")
 HAPROXY = os.path.join(desk.EXAMPLES, "haproxy", "desk.cfg")
+# where the package's desk listens, and the examples look for it
+SOCKET = "/run/desk/desk.sock"
 
 
-def certify(folder: str, *words: str, dates: tuple[str, str] | None = None) -> None:
-    """Runs the example's authority."""
+def certify(
+    folder: str,
+    *words: str,
+    dates: tuple[str, str] | None = None,
+    before: tuple[str, ...] = (),
+) -> None:
+    """Runs the example's authority; `before` are words that start it."""
     env = dict(os.environ, FROM=dates[0], UNTIL=dates[1]) if dates else os.environ
-    subprocess.run(["sh", AUTHORITY, folder, *words], check=True, env=env)
+    made = [*before, "sh", AUTHORITY, folder, *words]
+    ran = subprocess.run(made, capture_output=True, text=True, check=False, env=env)
+    if ran.returncode:
+        sys.exit(f"front-ca.sh {' '.join(words)}: {ran.stderr}")
 
 
 class Recorder:
-    """Stands between front and desk, and keeps the bytes that each connection brought to the
-    desk."""
+    """Stands between front and desk, at a socket of its own, and keeps the bytes that each
+    connection brought to the desk."""
 
-    def __init__(self, desk_address: str) -> None:
-        host, _, port = desk_address.rpartition(":")
-        self.desk = (host, int(port))
+    def __init__(self, desk_address: str, path: str) -> None:
+        self.desk, self.address = desk_address, f"unix:{path}"
         self.requests: list[bytes] = []
         self.lock = threading.Lock()
-        self.listener = socket.create_server(("127.0.0.1", 0), backlog=512)
-        self.address = "127.0.0.1:%d" % self.listener.getsockname()[1]
+        self.listener = socket.socket(socket.AF_UNIX)
+        self.listener.bind(path)
+        self.listener.listen(512)
         threading.Thread(target=self.accept, daemon=True).start()
 
     def accept(self) -> None:
@@ -48,9 +58,7 @@ class Recorder:
     def carry(self, peer: socket.socket) -> None:
         """One connection: what comes goes to the desk, and the reply back."""
         given = bytearray()
-        with contextlib.suppress(OSError), peer, socket.create_connection(
-            self.desk, timeout=60
-        ) as server:
+        with contextlib.suppress(OSError), peer, desk.connected(self.desk, 60) as server:
             back = threading.Thread(target=pour, args=(server, peer), daemon=True)
             back.start()
             with contextlib.suppress(OSError):
@@ -71,13 +79,17 @@ def pour(source: socket.socket, target: socket.socket) -> None:
 
 def placed(text: str, folder: str, port: int, address: str) -> str:
     """A configuration of examples/ with its files, its port and the desk's address put in place,
-    and less patience with a body that stops."""
+    and less patience with a body that stops. The accounts of a package's machine are not here."""
     text = text.replace("/etc/desk/front", os.path.join(folder, "ca")).replace(
         "/var/log/nginx", folder
     )
     text = re.sub(r"(listen|bind) \S*443 ", rf"\1 127.0.0.1:{port} ", text)
     text = re.sub(r"(client_body_timeout +)10s", r"\g<1>2s", text)
-    return text.replace("127.0.0.1:8080", address)
+    text = re.sub(r"(?m)^    (user|group) .*\n", "", text)
+    assert SOCKET in text
+    return text.replace(f"unix:{SOCKET}", address).replace(
+        f"unix@{SOCKET}", address.replace("unix:", "unix@", 1)
+    )
 
 
 def nginx_words(folder: str, port: int, address: str) -> list[str]:

@@ -1,9 +1,9 @@
 #!/usr/bin/env python3
 """Runs `rt ci`, passes on what it prints, and then prints what it cost: a table of docs/GATE.md.
 
-The processor time of a crate's proof, of its tests' proof and of its edits is read twice a second
-from /proc, of each run of the prover that this script started: so a figure lacks at most half a
-second a run. The status is that of `rt ci`.
+The processor time of a crate's proof, of its tests' proof and of its edits, and the memory that one
+check of it holds at most, are read twice a second from /proc, of each run of the prover that this
+script started: so a figure lacks at most half a second a run. The status is that of `rt ci`.
 """
 
 import collections
@@ -20,10 +20,10 @@ import desk
 Work = tuple[str, str]
 
 MARK = "STEELNEWT_GATE"
-# what a check with one job takes of memory at most, with room to spare: some 2.7 GB for `desk`,
-# some 3 for `desk_cli`
-MEMORY = 5 << 30
+# what a check with one job takes of memory at most, with a little room: 5.2 GB for `desk_audit_cli`
+MEMORY = 11 << 29
 TICKS = os.sysconf("SC_CLK_TCK")
+PAGE = os.sysconf("SC_PAGE_SIZE")
 KINDS = ("proof", "tests", "edits")
 
 
@@ -56,6 +56,7 @@ class Meter(threading.Thread):
         self.works: dict[tuple[str, bytes], Work] = {}
         self.seconds: dict[tuple[str, bytes], float] = {}
         self.ends: dict[Work, float] = collections.defaultdict(float)
+        self.memory: dict[str, int] = collections.defaultdict(int)
 
     def run(self) -> None:
         while not self.done.wait(0.5):
@@ -77,6 +78,9 @@ class Meter(threading.Thread):
             self.works[key] = work
             self.seconds[key] = (int(fields[11]) + int(fields[12])) / TICKS
             self.ends[work] = time.monotonic() - self.begins
+            # behind them: the pages that are resident, the 22nd field
+            pages = int(fields[21])
+            self.memory[work[0]] = max(self.memory[work[0]], pages * PAGE)
 
     def minutes(self) -> dict[Work, float]:
         """The processor minutes of each crate and kind of work."""
@@ -93,13 +97,14 @@ def show(meter: Meter, wall: float) -> None:
         names = [
             line.partition(":")[0] for line in file if ":" in line and not line.startswith("#")
         ]
-    print("\n| crate | proof | proof of its tests | edits | all | done at minute |")
-    print("|---|---|---|---|---|---|")
+    print("\n| crate | proof | proof of its tests | edits | all | done at minute | GB |")
+    print("|---|---|---|---|---|---|---|")
     for name in names:
         each = [minutes[name, kind] for kind in KINDS]
         ends = max(meter.ends[name, kind] for kind in KINDS) / 60
         cells = [f"{it:.1f}" if it else "" for it in (*each, sum(each))]
-        print(f"| `{name}` | {' | '.join(cells)} | {ends:.0f} |")
+        memory = meter.memory[name] / (1 << 30)
+        print(f"| `{name}` | {' | '.join(cells)} | {ends:.0f} | {memory:.1f} |")
     jobs, processors = os.environ["RT_JOBS"], len(os.sched_getaffinity(0))
     slowest = max(names, key=lambda name: minutes[name, "proof"])
     print(

@@ -7,7 +7,9 @@ colon and is not folded. docs/HTTP.md says the rest.
 """
 
 import datetime
+import hashlib
 import re
+from collections.abc import Collection
 from typing import Any
 
 Fields = list[tuple[bytes, bytes]]
@@ -30,12 +32,20 @@ MOST_BODY = 16_384
 ROUTES = (
     (rb"/v1/relays/([^/]+)/messages", "POST", "deliver"),
     (rb"/v1/messages", "GET", "messages"),
+    (rb"/v1/count", "GET", "count"),
     (rb"/v1/grants/([^/]+)", "GET", "grants"),
     (rb"/v1/parked", "GET", "parked"),
     (rb"/v1/hosts/([^/]+)/sudoers", "GET", "file"),
     (rb"/v1/hosts/([^/]+)/sudoers/([^/]+)", "GET", "file after"),
     (rb"/v1/reviews/([^/]+)", "GET", "report"),
 )
+
+
+def count_line(texts: Collection[bytes], roster: bytes, base: bytes) -> bytes:
+    """The line of `/v1/count` where these are the texts of the messages, this is the roster's text,
+    and this the base's canonical text."""
+    digests = (hashlib.sha256(text).hexdigest() for text in (roster, base))
+    return " ".join([str(len({*texts})), *digests]).encode() + b"\n"
 
 
 def head_of(given: bytes) -> tuple[bytes, bytes, int, Fields, int] | None:

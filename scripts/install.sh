@@ -23,7 +23,8 @@ put() {
 
 # A text in which the places of programs are written in.
 fill() {
-    sed "s,@LIBEXECDIR@,$libexec,g" "$1" > build/filled
+    sed "s,@LIBEXECDIR@,$libexec,g; s,@SBINDIR@,$PREFIX/sbin,g; s,@BINDIR@,$PREFIX/bin,g" \
+        "$1" > build/filled
     put "$2" build/filled "$3"
     rm -f build/filled
 }
@@ -32,18 +33,20 @@ python3 scripts/make_pages.py build/pages
 put 0755 build/desk "$PREFIX/bin/desk"
 put 0755 build/desk-audit "$PREFIX/bin/desk-audit"
 put 0755 packaging/desk-serve "$libexec/desk-serve"
-put 0755 examples/fetch-sudoers.sh "$libexec/fetch-sudoers"
+put 0755 packaging/desk-host "$PREFIX/sbin/desk-host"
+put 0644 packaging/host/desk-defaults "$PREFIX/share/doc/steelnewt-host/desk-defaults"
 put 0755 examples/monitoring/check_desk.py "$PREFIX/lib/nagios/plugins/check_desk"
 for page in build/pages/*.[1-8]; do
     put 0644 "$page" "$PREFIX/share/man/man${page##*.}/$(basename "$page")"
 done
-for name in desk desk-audit desk-lint desk-import; do
+for name in desk desk-audit desk-lint desk-import desk-used desk-evidence desk-relay \
+    desk-relay-person; do
     put 0644 "build/pages/$name.bash" "$PREFIX/share/bash-completion/completions/$name"
     put 0644 "build/pages/_$name" "$PREFIX/share/zsh/$zsh/_$name"
 done
 # The tools stand in a folder of their own, with the schemas and the codes that they explain.
 share=$PREFIX/share/steelnewt
-for tool in desk-lint desk-import; do
+for tool in desk-lint desk-import desk-used desk-evidence; do
     put 0755 "tools/$tool" "$share/$tool"
     mkdir -p "$root$PREFIX/bin"
     ln -sfn "../share/steelnewt/$tool" "$root$PREFIX/bin/$tool"
@@ -52,15 +55,36 @@ for file in tools/desk_tools/*.py tools/desk_tools/*.toml tools/schemas/*.json; 
     put 0644 "$file" "$share/${file#tools/}"
 done
 put 0644 docs/CODES.md "$share/CODES.md"
+# The relay: a folder of its own, and the programs that tell people.
+share=$PREFIX/share/steelnewt-relay
+for file in relays/*.py relays/static/* relays/templates/*; do
+    put 0644 "$file" "$share/$file"
+done
+mkdir -p "$root$PREFIX/sbin"
+for name in bin/desk-relay sbin/desk-relay-person; do
+    put 0755 "relays/${name#*/}" "$share/relays/${name#*/}"
+    ln -sfn "../share/steelnewt-relay/relays/${name#*/}" "$root$PREFIX/$name"
+done
+rm -f "$root$share"/relays/demo.py
+ln -sfn ../man1/desk-relay.1 "$root$PREFIX/share/man/man8/desk-relay-person.8"
+for name in notify-mail notify-webhook; do
+    put 0755 "relays/$name" "$libexec/$name"
+done
+put 0755 packaging/relay/make-keys "$libexec/make-page-keys"
+put 0644 relays/front.example.conf "$PREFIX/share/doc/steelnewt-relay/examples/desk-page.conf"
+put 0755 examples/front-ca.sh "$PREFIX/share/doc/steelnewt-relay/examples/front-ca.sh"
+[ -e "$root/etc/desk/relay.toml" ] || put 0644 relays/relay.example.toml /etc/desk/relay.toml
 for unit in packaging/units/*; do
     fill "$unit" 0644 "$units/$(basename "$unit")"
 done
+# (pam-auth-update is Debian's; elsewhere docs/HOSTS.md has the lines)
+fill packaging/host/pam-config 0644 "$PREFIX/share/pam-configs/desk-host"
 for conf in serve.conf fetch.conf; do
     [ -e "$root/etc/desk/$conf" ] || put 0644 "packaging/$conf" "/etc/desk/$conf"
 done
 for text in README.md CHANGELOG.md \
-    docs/{OPERATING,RUNBOOKS,HTTP,RELAYS,AUDIT,AUDITING,ROSTER,SUDOERS,MESSAGES,STORE}.md \
-    docs/{CODES,PROOFS,LINT,IMPORT}.md; do
+    docs/{OPERATING,RUNBOOKS,HTTP,RELAYS,AUDITING,ROSTER,SUDOERS,MESSAGES,STORE}.md \
+    docs/{CODES,PROOFS,LINT,IMPORT,SECURITY,HOSTS,USED,EVIDENCE,CONTROLS}.md; do
     put 0644 "$text" "$doc/$(basename "$text")"
 done
 files=$(cd examples && find . -type f ! -path './peers/*' ! -name 'demo.expected' ! -name '*.pyc')

@@ -1,27 +1,37 @@
 #!/usr/bin/env python3
-"""Makes what the documents say of the edits from the lines at the head of each edit.
+"""Makes what is derived of the definitions and edits.
 
-`# wrong: TEXT` is the wrong program that the edit makes: a row of docs/WRONG_BODIES.md, which
-several edits may share. `# promise: TEXT` is the promise for which it is refused, by the words with
-which its row of docs/PROMISES.md begins. To `rt` both are comments. `make quick` tests that nothing
-is left to be made.
+In docs/DEFINITIONS.md: which files the headline needs, and how many lines they have; `make quick`
+tests that nothing is left to be made. And two lists that are not kept in Git: build/edits.md, each
+promise with the wrong programs that it refuses and their edits; and build/definitions.md, each
+definition that a clause of a public call names, with what stands above it and the calls.
+
+An edit says both at its head: `# wrong: TEXT` is the wrong program that it makes, and several edits
+may share it; `# promise: TEXT` is the promise for which it is refused, by the words with which its
+row of docs/PROMISES.md begins. To `rt` both are comments.
 """
 
+import collections
 import os
 import re
 import sys
-from collections.abc import Iterable, Iterator
+from collections.abc import Iterator
 from typing import NamedTuple
 
+import definitions
 import desk
 
-WRONG_BODIES = "docs/WRONG_BODIES.md"
+DEFINITIONS = "docs/DEFINITIONS.md"
 PROMISES = "docs/PROMISES.md"
-COLUMN = "Edits"
-BEGIN, END = "<!-- made by `make docs` -->", "<!-- made up to here -->"
-HEADING = """
-| Wrong body | Crate | In the gate | By `make edits` |
-|---|---|---|---|
+COUNT = re.compile(r"It depends on definitions in these \d+ files\..*?of these\.", re.DOTALL)
+EDITS = """# Edits
+
+Each promise of docs/PROMISES.md, the wrong programs that it refuses, and the edits that make them:
+those that the gate tries, and those of `make edits`.
+"""
+CITED = """# Definitions that the contracts of public calls name
+
+By crate and file; docs/DEFINITIONS.md says which of them to read, and in what order.
 """
 
 
@@ -69,84 +79,101 @@ def edits_of(crate: str, folder: str) -> Iterator[Edit]:
             yield Edit(crate, name, folder == "must-fail", wrong, promises)
 
 
-def quoted(names: Iterable[str]) -> str:
-    """The names, each once, as code."""
-    return ", ".join(f"`{name}`" for name in dict.fromkeys(names))
-
-
-def wrong_bodies(text: str, listed: list[Edit]) -> str:
-    """The document with its table made anew: by crate, and then by the words of each row."""
-    rows: dict[str, list[Edit]] = {}
-    for edit in listed:
-        for wrong in edit.wrong:
-            rows.setdefault(wrong, []).append(edit)
-    order = crates()
-    lines = []
-    for wrong in sorted(rows, key=lambda wrong: (order.index(rows[wrong][0].crate), wrong)):
-        cells = [wrong, quoted(edit.crate for edit in rows[wrong])]
-        for is_in_gate in (True, False):
-            cells.append(quoted(it.name for it in rows[wrong] if it.is_in_gate == is_in_gate))
-        lines.append(f"| {' | '.join(cells)} |\n")
-    front, _, rest = text.partition(BEGIN)
-    _, found, back = rest.partition(END)
-    if not found:
-        raise Fault(f"{WRONG_BODIES}: the marks of what is made are missing")
-    return f"{front}{BEGIN}\n{HEADING}{''.join(lines)}\n{END}{back}"
-
-
 def cells_of(line: str) -> list[str]:
     """The cells of a table's row, with what stands before the first and behind the last."""
     return re.split(r"(?<!\\)\|", line)
 
 
-def promises(text: str, listed: list[Edit]) -> str:
-    """The document with its column made anew; words that name no edit, as 'the same', stay."""
-    lines, at, found = text.split("\n"), 0, dict.fromkeys(wanted(listed), 0)
-    for number, line in enumerate(lines):
+def promises() -> Iterator[str]:
+    """The first cell of each row of the promises."""
+    for line in desk.read(PROMISES).splitlines():
         cells = cells_of(line)
-        head = [cell.strip() for cell in cells]
-        if len(cells) < 3 or COLUMN in head:
-            at = head.index(COLUMN) if COLUMN in head else 0
-        elif at and not line.startswith("|--"):
-            begun = [words for words in found if head[1].startswith(words)]
-            for words in begun:
-                found[words] += 1
-            refused = [edit for edit in listed if set(edit.promises) & set(begun)]
-            if refused or "`" in cells[at]:
-                cells[at] = f" {cell_of(refused)} " if refused else " "
-                lines[number] = "|".join(cells)
-    for words, count in found.items():
-        if count != 1:
-            raise Fault(f"{PROMISES}: {count} rows begin with the words of an edit: {words}")
-    return "\n".join(lines)
+        if len(cells) > 2 and not line.startswith("|--"):
+            yield cells[1].strip()
 
 
-def wanted(listed: list[Edit]) -> Iterator[str]:
-    for edit in listed:
-        yield from edit.promises
+def refused() -> dict[str, list[Edit]]:
+    """The edits for each promise."""
+    found: dict[str, list[Edit]] = {promise: [] for promise in promises()}
+    for edit in edits():
+        for words in edit.promises:
+            named = [promise for promise in found if promise.startswith(words)]
+            if len(named) != 1:
+                raise Fault(
+                    f"{PROMISES}: {len(named)} rows begin with the words of an edit: {words}"
+                )
+            found[named[0]].append(edit)
+    return found
 
 
-def cell_of(refused: list[Edit]) -> str:
-    """Those of the gate, and after 'more' the others."""
-    gate = quoted(edit.name for edit in refused if edit.is_in_gate)
-    more = quoted(edit.name for edit in refused if not edit.is_in_gate)
-    return "; ".join(part for part in (gate, more and f"more: {more}") if part)
+def quoted(names: list[str]) -> str:
+    return ", ".join(f"`{name}`" for name in names)
+
+
+def edits_text() -> str:
+    """Each promise with its wrong programs and their edits."""
+    parts = [EDITS]
+    for promise, listed in refused().items():
+        if not listed:
+            continue
+        parts.append(f"\n## {promise}\n\n")
+        wrongs: dict[str, list[Edit]] = collections.defaultdict(list)
+        for edit in listed:
+            for wrong in edit.wrong:
+                wrongs[wrong].append(edit)
+        for wrong, made in wrongs.items():
+            gate = quoted([f"{it.crate}/{it.name}" for it in made if it.is_in_gate])
+            more = quoted([f"{it.crate}/{it.name}" for it in made if not it.is_in_gate])
+            where = "; ".join(part for part in (gate, more and f"`make edits`: {more}") if part)
+            parts.append(f"- {wrong}: {where}\n")
+    return "".join(parts)
+
+
+def definitions_text() -> str:
+    """Each definition that a public clause names."""
+    parts, before = [CITED], ("", "")
+    for name, functions in sorted(definitions.cited().items()):
+        if (name.crate, name.file) != before:
+            before = name.crate, name.file
+            parts.append(f"\n## `{name.crate}/specs/{name.file}.antt`\n\n")
+        calls = ", ".join(f"`{it.partition(': ')[2]}`" for it in sorted(functions))
+        words = definitions.words_above(name)
+        parts.append(f"- `{name.name}`{f' ({words})' if words else ''}: {calls}\n")
+    return "".join(parts)
+
+
+def with_headline(text: str) -> str:
+    """The document with what the headline needs."""
+    needed = definitions.Needed.of_headline()
+    count = (
+        f"It depends on definitions in these {len(needed.files)} files. They have"
+        f" {needed.lines:,} lines without blanks and comments, or {needed.bare:,} without their"
+        f" `use` lines\ntoo; the definitions that the headline needs, directly or through others,"
+        f" take {needed.taken:,} of these."
+    )
+    text, found = COUNT.subn(count, text)
+    for crate, files in needed.by_crate(crates()).items():
+        row = re.compile(rf"^(\| `{crate}` \| )(`\w+`(?:, `\w+`)*)( \|)", re.MULTILINE)
+        text, rows = row.subn(rf"\g<1>{quoted(files)}\g<3>", text, count=1)
+        found *= rows
+    if found != 1:
+        raise Fault(f"{DEFINITIONS}: the counts of the headline, or a crate's row, are missing")
+    return text
 
 
 def made() -> dict[str, str]:
-    """The documents as they have to be."""
-    listed = edits()
-    return {
-        WRONG_BODIES: wrong_bodies(desk.read(WRONG_BODIES), listed),
-        PROMISES: promises(desk.read(PROMISES), listed),
-    }
+    """The documents of Git as they have to be."""
+    refused()
+    return {DEFINITIONS: with_headline(desk.read(DEFINITIONS))}
 
 
 def main() -> None:
     try:
-        texts = made()
+        texts = made() | {"build/edits.md": edits_text()}
     except Fault as fault:
         sys.exit(str(fault))
+    texts["build/definitions.md"] = definitions_text()
+    os.makedirs(os.path.join(desk.ROOT, "build"), exist_ok=True)
     for name, text in texts.items():
         desk.write(desk.ROOT, name, text)
 

@@ -6,6 +6,7 @@ stands twice. PREFIX in the environment is where the program is installed (/usr/
 """
 
 import os
+import re
 import sys
 import tomllib
 
@@ -23,9 +24,13 @@ DOCUMENTS = [
     ("desk-message", 5, "MESSAGES.md", "requests to a desk, and verdicts on them"),
     ("desk-store", 5, "STORE.md", "the database in which a desk keeps its messages"),
     ("desk-codes", 7, "CODES.md", "what a desk says when it refuses, and what to do"),
-    ("desk-lint", 1, "LINT.md", "look through rosters and messages"),
+    ("desk-lint", 1, "LINT.md", "look through rosters, bases and messages"),
     ("desk-import", 1, "IMPORT.md", "make a base policy of a sudoers file"),
-    ("desk-audit", 1, "AUDIT.md", "tell what became of each request that a desk holds"),
+    ("desk-host", 8, "HOSTS.md", "what a host does with its file from a desk"),
+    ("desk-relay", 1, "RELAYS.md", "people ask and approve at a desk"),
+    ("desk-audit", 1, "AUDITING.md", "tell what became of each request that a desk holds"),
+    ("desk-used", 1, "USED.md", "tell which grants of a desk were used"),
+    ("desk-evidence", 1, "EVIDENCE.md", "put together what an audit rests on"),
 ]
 
 
@@ -108,6 +113,8 @@ serves
 its base policy
 .It Pa /etc/desk/serve.conf
 where it finds these, and where it listens
+.It Pa /run/desk/desk.sock
+its socket, which the group desk-front may open
 .It Pa /var/lib/desk/desk.db
 its store
 .El
@@ -129,8 +136,10 @@ In a folder with the files of
 {examples}
 .Sh SEE ALSO
 .Xr desk-audit 1 ,
+.Xr desk-evidence 1 ,
 .Xr desk-import 1 ,
 .Xr desk-lint 1 ,
+.Xr desk-used 1 ,
 .Xr desk-message 5 ,
 .Xr desk-policy 5 ,
 .Xr desk-roster 5 ,
@@ -140,6 +149,41 @@ In a folder with the files of
 .Xr sudo 8 ,
 .Xr visudo 8
 """
+
+
+SETTINGS = """\
+.Dd {date}
+.Dt DESK-RELAY.TOML 5
+.Os
+.Sh NAME
+.Nm desk-relay.toml
+.Nd the settings of a desk's relay
+.Sh DESCRIPTION
+The file
+.Pa /etc/desk/relay.toml ,
+or what
+.Fl \\-config
+names, in TOML.
+A setting whose line begins with # here is not given in the file that the
+package installs.
+{settings}
+.Sh SEE ALSO
+.Xr desk-relay 1 ,
+.Xr desk-roster 5
+"""
+
+
+def settings_page(example: str) -> str:
+    """The example's comments as paragraphs, and its settings as they stand."""
+    lines = []
+    for block in example.strip().split("\n\n")[1:]:
+        rows = block.split("\n")
+        # (what says something stands before the first setting, which may be commented out)
+        first = next(at for at, row in enumerate(rows) if re.match(r"(# )?(\[|\w+ =)", row))
+        said = " ".join(row.removeprefix("# ") for row in rows[:first])
+        lines += [".Pp", *sentences(said.strip("()"), DOC), ".Bd -literal -offset indent"]
+        lines += [*(guarded(escaped(row)) for row in rows[first:]), ".Ed"]
+    return SETTINGS.format(date=DATE, settings="\n".join(lines))
 
 
 def desk_page(commands: list[dict]) -> str:
@@ -165,6 +209,7 @@ def main() -> None:
     for tool in table["tool"]:
         made[f"{tool['name']}.bash"] = completions.tool_bash(tool)
         made[f"_{tool['name']}"] = completions.tool_zsh(tool)
+    made["desk-relay.toml.5"] = settings_page(desk.read("relays", "relay.example.toml"))
     os.makedirs(folder, exist_ok=True)
     for name, text in made.items():
         with open(os.path.join(folder, name), "w", encoding="utf-8") as file:

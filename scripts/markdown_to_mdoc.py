@@ -15,17 +15,20 @@ PAGES = {
     "CODES.md": "desk-codes(7)",
     "LINT.md": "desk-lint(1)",
     "IMPORT.md": "desk-import(1)",
-    "AUDIT.md": "desk-audit(1)",
+    "AUDITING.md": "desk-audit(1)",
+    "USED.md": "desk-used(1)",
+    "EVIDENCE.md": "desk-evidence(1)",
 }
 INSTALLED = (
     "README.md",
     "CHANGELOG.md",
     "OPERATING.md",
     "RUNBOOKS.md",
+    "SECURITY.md",
     "HTTP.md",
-    "AUDITING.md",
     "RELAYS.md",
     "PROOFS.md",
+    "CONTROLS.md",
 )
 
 

@@ -18,7 +18,7 @@ import contracts
 import desk
 import make_docs
 
-PAGES = ("ARCHITECTURE", "DEFINITIONS", "PROOFS", "STORE", "AUDIT", "AUDITING")
+PAGES = ("ARCHITECTURE", "DEFINITIONS", "PROOFS", "STORE", "AUDITING", "CONTROLS")
 QUOTED = re.compile(r"`([^`]+)`")
 FILE = re.compile(r"[\w/]+\.(?:rt|antt)")
 LAW = re.compile(r"(?:(\w+)::)?laws::(\w+)")
@@ -121,7 +121,7 @@ def missing_laws() -> Iterator[str]:
             law = LAW.fullmatch(name)
             if law and law[2] not in (laws().get(law[1], set()) if law[1] else every):
                 yield f"{page}: there is no law {name}"
-    for cells in rows("PROMISES", 5):
+    for cells in rows("PROMISES", 4):
         for name in QUOTED.findall(cells[1]):
             if name.removeprefix("laws::") in every:
                 yield f"docs/PROMISES.md: it names the law {name} without its crate"

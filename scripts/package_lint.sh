@@ -25,10 +25,11 @@ for deb in build/deb/*.deb; do
 done
 cd "$room/lib/systemd/system"
 # (the programs that the units start are those of the packages)
-sed -i "s,=/usr/libexec,=$room/usr/libexec,; /^Documentation=/d" ./*.service
+sed -i "s,=/usr/\(bin\|libexec\|sbin\),=$room/usr/\1,; /^Documentation=/d" ./*.service
 cp desk-fetch@.service desk-fetch@db1.service
 cp desk-fetch@.timer desk-fetch@db1.timer
-for unit in desk.service desk-fetch@db1.service desk-fetch@db1.timer; do
+for unit in desk.service desk-fetch@db1.service desk-fetch@db1.timer desk-sessions.service \
+    desk-relay-{post,page,notify}.service; do
     status=0
     said=$(SYSTEMD_LOG_LEVEL=warning systemd-analyze verify --man=no "./$unit" 2>&1) || status=1
     # what the machine's own units say is not ours
@@ -36,7 +37,7 @@ for unit in desk.service desk-fetch@db1.service desk-fetch@db1.timer; do
     [ -z "$said" ] || { echo "$said"; status=1; }
     verdict "systemd-analyze verify $unit" $status
 done
-for unit in desk.service desk-fetch@db1.service; do
+for unit in desk.service desk-fetch@db1.service desk-relay-{post,page,notify}.service; do
     line=$(systemd-analyze security --offline=yes --no-pager "./$unit" | grep 'Overall exposure')
     echo "$line" | sed 's/[^ -~]//g; s/^ *//'
     figure=$(printf '%s\n' "$line" | sed 's/.*: \([0-9.]*\) .*/\1/')

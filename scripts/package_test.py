@@ -5,7 +5,7 @@ certificates, upgraded, removed.
 The root is this machine's, under an overlay that is thrown away, with namespaces of its own for
 mounts, processes and network; with FRESH=FOLDER it is debootstrap's, made there where the folder
 is empty. The service runs as its unit says, without systemd (scripts/service.py). Needs root, and
-Debian's packages sudo, faketime, nginx-light, openssl, curl, sqlite3, strace and iproute2.
+Debian's packages sudo, faketime, nginx-light, haproxy, openssl, curl, sqlite3, strace and iproute2.
 """
 
 import contextlib
@@ -20,19 +20,25 @@ import threading
 import time
 
 import desk
+import outsider
+import package_relay
 import service
 import store_files
 import syscalls
 
 DEBS = os.path.join(desk.BUILD, "deb")
-NEEDED = (
-    "adduser,ca-certificates,curl,faketime,nginx-light,openssl,python3,python3-jsonschema,sqlite3"
-)
+NEEDED = "adduser,ca-certificates,curl,faketime,haproxy,nginx-light,openssl,python3"
+NEEDED += ",python3-jsonschema,sqlite3,openssh-client,tzdata,python3-flask,python3-requests"
+NEEDED += ",python3-requests-unixsocket,python3-waitress"
 NEEDED += ",strace,sudo,systemd"
 DOC = "/usr/share/doc/steelnewt"
 NAMES = ("steelnewt", "steelnewt-host", "steelnewt-tools")
+RELAY = "steelnewt-relay"
 PATIENCE = 120  # the seconds after which something hangs
 STORE = "/var/lib/desk/desk.db"
+SOCKET = "unix:/run/desk/desk.sock"
+SECOND = "unix:/run/desk/second.sock"
+STEP = "\n(account|session)\trequired\t+pam_exec.so .*/usr/sbin/desk-host prompt"
 DPKG = ["dpkg", "--force-unsafe-io", "--no-triggers"]  # quick: the root is thrown away
 DESK = ["setpriv", "--reuid", "desk", "--regid", "desk", "--clear-groups", "desk"]
 FILES = [f"{DOC}/examples/roster.toml", f"{DOC}/examples/site.sudo"]
@@ -41,6 +47,10 @@ FILES = [f"{DOC}/examples/roster.toml", f"{DOC}/examples/site.sudo"]
 # lines that ended over an hour ago
 EXAMPLE, TOMORROW = "20260105", time.gmtime(time.time() + 86_400)
 DAY = time.strftime("%Y%m%d", TOMORROW)
+# what sudo logged of the examples, beside their grants
+AUDITED = f"""cd {DOC}/examples
+desk-audit roster.toml site.sudo - --json < audited.messages > /tmp/audit.json
+desk-used /tmp/audit.json site.sudo db1=used.log"""
 # who may run what on db1 as root at a time of that day, with the grant of the examples
 RIGHTS = [
     ("09:30:00", "ann", ["/usr/bin/id"], True),
@@ -119,6 +129,7 @@ def install(trial: Trial) -> None:
         "dpkg",
         "-V",
         *NAMES,
+        RELAY,
         says="^$",
     )
     trial.does(
@@ -134,7 +145,13 @@ def install(trial: Trial) -> None:
         "steelnewt-host",
         says="serve.conf(.|\n)*fetch.conf",
     )
+    for kind in ("account", "session-noninteractive"):
+        path = f"/etc/pam.d/common-{kind}"
+        trial.does(f"the step of PAM, {kind}", "cat", path, says=STEP)
     trial.does("the account has no shell", "getent", "passwd", "desk", says="nologin$")
+    group = trial.does("who may open the socket", "getent", "group", "desk-front")
+    members = {*group.strip().rpartition(":")[2].split(",")}
+    trial.check("its members", members == {"www-data", "haproxy", "desk-relay"}, group)
 
 
 def tools(trial: Trial) -> None:
@@ -156,7 +173,10 @@ def tools(trial: Trial) -> None:
         says="sudoers:2: left out: /usr/bin/less: NOEXEC ",
     )
     trial.check("the base", base.endswith("\nann ALL = (root) /bin/ls\n"), base)
-    for page in ("desk-lint", "desk-import"):
+    said = "\ndb1 eve as root  once"
+    told = trial.does("desk-used", "sh", "-c", AUDITED, status=1, says=said)
+    trial.check("a grant that was used", "  used twice\n" in told, told)
+    for page in ("desk-lint", "desk-import", "desk-used", "desk-evidence"):
         trial.does(f"{page}(1)", "test", "-s", f"/usr/share/man/man1/{page}.1.gz")
     trial.does("the schemas", "test", "-s", "/usr/share/steelnewt/schemas/roster.schema.json")
 
@@ -209,6 +229,7 @@ class Service:
         self.is_ready = threading.Event()
         threading.Thread(target=self.hear, daemon=True).start()
         told = {"NOTIFY_SOCKET": "/run/notify"} | (extra or {})
+        self.runtime = service.make_runtime(trial.root, "desk.service")
         self.process = service.start(trial.root, "desk.service", "", before, told)
 
     def hear(self) -> None:
@@ -234,6 +255,7 @@ class Service:
             self.process.terminate()
             said, _ = self.process.communicate()
             said += "(it did not end by itself)"
+        service.remove(self.runtime)
         return self.process.returncode, said
 
 
@@ -259,11 +281,10 @@ def traced(trial: Trial) -> None:
     running = Service(trial, before=["strace", "-f", "-qq", "-o", trace])
     trial.check("it starts, traced", b"READY=1" in running.wait_ready())
     # (it takes a connection, and writes to its store, only where somebody asks)
-    desk = "http://127.0.0.1:8080/v1"
     for line in trial.read(f"{DOC}/examples/approved.messages").splitlines():
-        words = ["--data-binary", line, f"{desk}/relays/chat/messages"]
-        trial.does("it keeps a message, traced", "curl", "-sS", "-m", "60", *words, says="^ack\n$")
-    file = ["curl", "-sS", "-m", "60", f"{desk}/hosts/db1/sudoers"]
+        words = outsider.curl(SOCKET, "/v1/relays/chat/messages", "--data-binary", line)
+        trial.does("it keeps a message, traced", *words, says="^ack\n$")
+    file = outsider.curl(SOCKET, "/v1/hosts/db1/sudoers")
     trial.does("it answers, traced", *file, says="NOTAFTER=20260105110000Z /usr/bin/id\n")
     os.kill(child(trial, running.process), signal.SIGTERM)
     status, said = running.end()
@@ -301,6 +322,14 @@ def bad_starts(trial: Trial) -> None:
         {"BASE": "/etc/desk/bad.sudo"},
     )
     refused(trial, "an address of another machine", "F1 .*ADDR", {"ADDR": "192.0.2.1:8080"})
+    for address, says in (
+        ("unix:desk.sock", "F2 .*ADDR or another word has not its form"),
+        ("unix:/run/none/desk.sock", "F1 .*there is no folder /run/none for the socket"),
+        ("unix:/run/desk.sock", "F1 .*desk cannot make the socket /run/desk.sock"),
+        (f"unix:/run/desk/{'x' * 97}", "F1 .*is too long"),
+        (f"unix:/run/desk/{'x' * 100}", "(F1 .*is too long|F2 .*has not its form)"),
+    ):
+        refused(trial, f"ADDR={address}", says, {"ADDR": address})
     empty(trial)
 
 
@@ -309,16 +338,16 @@ def bad_stores(trial: Trial) -> None:
     refused(
         trial,
         "the address is taken",
-        "F1 .*127.0.0.1:8080 is taken",
+        "F1 .*unix:/run/desk/desk.sock is taken",
         {"STORE": "/var/lib/desk/second.db"},
     )
     refused(
         trial,
         "the store is in use",
         f"F1 .*another program has {STORE}",
-        {"ADDR": "127.0.0.1:8081"},
+        {"ADDR": SECOND},
     )
-    other = {"ADDR": "127.0.0.1:8081", "STORE": "/var/lib/desk/second.db"}
+    other = {"ADDR": SECOND, "STORE": "/var/lib/desk/second.db"}
     trial.write("/etc/desk/other.toml", trial.read(FILES[0]) + "# another\n")
     trial.run(*DESK, "print", *FILES, other["STORE"], "db1")
     refused(
@@ -372,7 +401,7 @@ def full_disk(trial: Trial) -> None:
                 file.write(b"x" * 4096)
         except OSError:
             pass
-    told = {"ADDR": "127.0.0.1:8081", "STORE": "/var/lib/desk/small/desk.db"}
+    told = {"ADDR": SECOND, "STORE": "/var/lib/desk/small/desk.db"}
     refused(trial, "a full disk", "(F1|K4) .*(full)", told)
     subprocess.run(["umount", small], check=True)
     os.rmdir(small)
@@ -388,7 +417,7 @@ def failed_answer(trial: Trial) -> None:
         trial,
         "a commit that fails",
         "answered K4 Storage: .*goes on by itself",
-        {"ADDR": "127.0.0.1:8081", "STORE": "-", "DESK": stub},
+        {"ADDR": SECOND, "STORE": "-", "DESK": stub},
     )
 
 
@@ -446,9 +475,22 @@ def by_curl(trial: Trial, name: str, route: str, *more: str) -> str:
 
 def fetch(trial: Trial, before: list[str] | None = None) -> tuple[int, str]:
     """The unit that fetches the file of db1."""
+    os.makedirs(trial.path("/var/lib/desk-host"), 0o700, exist_ok=True)
     process = service.start(trial.root, "desk-fetch@.service", "db1", before)
     said, _ = process.communicate(timeout=PATIENCE)
     return process.returncode, said
+
+
+def traced_fetch(trial: Trial) -> None:
+    """A fetch of another file makes no system call that its unit does not let through."""
+    trace = "/var/lib/desk-host/trace"
+    os.unlink(trial.path("/etc/sudoers.d/desk"))
+    status, said = fetch(trial, ["strace", "-f", "-qq", "-o", trace])
+    settings = service.unit(trial.read("/lib/systemd/system/desk-fetch@.service"))
+    made = syscalls.traced(trial.path(trace))
+    beyond = made - syscalls.allowed(settings["SystemCallFilter"])
+    is_right = status == 0 and not beyond and "renameat" in " ".join(made)
+    trial.check("a fetch's system calls", is_right, f"{status}, not let through: {beyond}: {said}")
 
 
 def through_the_front(trial: Trial) -> None:
@@ -460,13 +502,25 @@ def through_the_front(trial: Trial) -> None:
     status, said = fetch(trial)
     trial.check(
         "a host fetches, from the second desk",
-        status == 0 and "127.0.0.1:1 did not answer" in said,
+        status == 0 and "https://127.0.0.1:1: [Errno 111] Connection refused" in said,
         f"{status}: {said}",
     )
+    traced_fetch(trial)
     trial.does(
         "the file's owner", "stat", "-c", "%U:%G %a", "/etc/sudoers.d/desk", says="^root:root 440$"
     )
     trial.does("visudo", "visudo", "-c", says="/etc/sudoers.d/desk: parsed OK")
+    trial.does(
+        "desk-host check",
+        "desk-host",
+        "check",
+        status=1,
+        says="^desk-host: sudo compares names without case.*\nsudo 1.9.*: 1 to mend\n$",
+    )
+    trial.run("cp", "/usr/share/doc/steelnewt-host/desk-defaults", "/etc/sudoers.d/desk-defaults")
+    trial.run("chmod", "0440", "/etc/sudoers.d/desk-defaults")
+    trial.does("and with sudo's settings", "desk-host", "check", says=": 0 to mend\n$")
+    trial.does("the sessions of nobody", "desk-host", "end-sessions", says="^$")
     said = by_curl(trial, "auditor-carol", f"/v1/grants/{DAY}093000Z")
     trial.check("an auditor reads", said == f"ann 7 db-care {DAY}091500Z {DAY}110000Z\n 200", said)
     monitored(trial)
@@ -487,6 +541,64 @@ def monitored(trial: Trial) -> None:
     found = trial.run("python3", "/usr/lib/nagios/plugins/check_desk", *words).stdout
     is_right = "1 conflicting duties" in found and "desk_store_bytes=" in found
     trial.check("the check", is_right and found.startswith("DESK WARNING"), found)
+
+
+def whose_socket(trial: Trial) -> None:
+    """Who may speak to the desk: the group of its socket, and no other account of the machine."""
+    path = SOCKET.removeprefix("unix:")
+    for name, says in ((os.path.dirname(path), "750"), (path, "660")):
+        words = ["stat", "-c", "%U:%G %a", name]
+        trial.does(f"{name}: whose it is", *words, says=f"^desk:desk-front {says}$")
+    asked = trial.read(f"{DOC}/examples/approved.messages").replace(EXAMPLE, DAY).splitlines()
+    for address in (SOCKET, outsider.PORT):
+        for line in asked:
+            words = outsider.curl(address, "/v1/relays/chat/messages", "--data-binary", line)
+            ran = trial.run(*outsider.NOBODY, *words)
+            is_right = ran.returncode == 7 and "ack" not in ran.stdout
+            trial.check(f"nobody posts to {address}", is_right, ran.stdout)
+    for account in ("www-data", "desk-relay"):
+        group = ["setpriv", "--reuid", account, "--regid", account, "--init-groups"]
+        trial.does(f"{account} asks", *group, *outsider.curl(SOCKET, "/v1/messages"), says="^$")
+
+
+def taken_over(trial: Trial, what: str) -> None:
+    """While the desk is down, a program of nobody's cannot stand in its place, and a host gets no
+    file through the front."""
+    before = trial.read("/etc/sudoers.d/desk")
+    with outsider.Usurper(SOCKET, outsider.PORT, before=("chroot", trial.root)) as usurper:
+        status, said = fetch(trial)
+    trial.check(f"{what}: its place", not usurper.has_taken(SOCKET), usurper.said)
+    is_right = status == 1 and trial.read("/etc/sudoers.d/desk") == before
+    trial.check(f"{what}: a host's file stays", is_right, trial.read("/etc/sudoers.d/desk") + said)
+    trial.write("/etc/sudoers.d/desk", before)
+
+
+def while_it_is_down(trial: Trial) -> None:
+    """Stopped, the folder of the socket is gone; killed, it is there with a socket that nobody
+    answers at, until the unit starts again. The next start replaces that."""
+    taken_over(trial, "stopped")
+    killed = Service(trial)
+    killed.wait_ready()
+    for pid in (child(trial, killed.process), killed.process.pid):
+        os.kill(pid, signal.SIGKILL)
+    killed.process.communicate(timeout=PATIENCE)
+    stale = trial.path(SOCKET.removeprefix("unix:"))
+    trial.check("a socket is left", os.path.exists(stale))
+    taken_over(trial, "killed")
+
+
+def through_haproxy(trial: Trial) -> None:
+    """The other front, as its own account, with the desk's group: a host fetches."""
+    trial.run("nginx", "-s", "stop")
+    pair = [trial.read(f"/etc/desk/front/server.{end}") for end in ("pem", "key")]
+    trial.write("/etc/desk/front/server.both.pem", "".join(pair))
+    cfg = f"{DOC}/examples/haproxy/desk.cfg"
+    trial.does("haproxy", "haproxy", "-D", "-p", "/run/haproxy.pid", "-f", cfg)
+    said = by_curl(trial, "host-db1", "/v1/hosts/db1/sudoers")
+    trial.check("a host fetches through haproxy", said.endswith("\n 200"), said)
+    os.kill(int(trial.read("/run/haproxy.pid")), signal.SIGTERM)
+    time.sleep(0.5)
+    trial.does("nginx again", "nginx")
 
 
 def rights(trial: Trial) -> None:
@@ -560,23 +672,35 @@ def early_certificate(trial: Trial) -> None:
     trial.run("nginx", "-s", "stop")
 
 
-def the_deb() -> str:
-    """The desk's package."""
+def relay(trial: Trial) -> None:
+    """The relay beside a desk that serves, and its package's life."""
+    package_relay.installed(trial)
+    running = Service(trial)
+    running.wait_ready()
+    package_relay.used(trial)
+    running.stop()
+    later = remade(trial, RELAY, "etc/desk/relay.toml", "# The settings", "# These settings")
+    package_relay.later_on(trial, the_deb(RELAY), later)
+    empty(trial)
+
+
+def the_deb(package: str = "steelnewt") -> str:
+    """A package's file."""
     return next(
         f"/tmp/{name}"
         for name in sorted(os.listdir(DEBS))
-        if name.startswith("steelnewt_") and name.endswith(".deb")
+        if name.startswith(f"{package}_") and name.endswith(".deb")
     )
 
 
-def remade(trial: Trial) -> str:
-    """The package again, with a later version and another text in its configuration."""
-    folder = trial.path("/tmp/remade")
-    deb = os.path.basename(the_deb())
+def remade(trial: Trial, package: str, conf: str, was: str, becomes: str) -> str:
+    """A package again, with a later version and another text in its configuration."""
+    folder = trial.path(f"/tmp/remade-{package}")
+    deb = os.path.basename(the_deb(package))
     subprocess.run(["dpkg-deb", "-R", os.path.join(DEBS, deb), folder], check=True)
     for name, old, new in (
         ("DEBIAN/control", "\nVersion: ", "\nVersion: 9."),
-        ("etc/desk/serve.conf", "# What", "# This is what"),
+        (conf, was, becomes),
     ):
         with open(os.path.join(folder, name), encoding="utf-8") as file:
             text = file.read()
@@ -590,12 +714,12 @@ def remade(trial: Trial) -> str:
             "none",
             "-b",
             folder,
-            trial.path("/tmp/later.deb"),
+            trial.path(f"/tmp/later-{package}.deb"),
         ],
         check=True,
         stdout=subprocess.DEVNULL,
     )
-    return "/tmp/later.deb"
+    return f"/tmp/later-{package}.deb"
 
 
 def answer(trial: Trial) -> str:
@@ -607,10 +731,11 @@ def answer(trial: Trial) -> str:
 def later_on(trial: Trial) -> None:
     """Upgraded, removed, installed again and purged: what was acknowledged is there after each."""
     was, deb = answer(trial), the_deb()
+    new = remade(trial, "steelnewt", "etc/desk/serve.conf", "# What", "# This is what")
     trial.check("what was acknowledged", f"NOTAFTER={DAY}110000Z /usr/bin/id\n" in was, was)
     trial.write("/etc/desk/serve.conf", trial.read("/etc/desk/serve.conf") + "# ours\n")
     for what, words, is_there in (
-        ("upgrade", ["--force-confdef", "--force-confold", "-i", remade(trial)], True),
+        ("upgrade", ["--force-confdef", "--force-confold", "-i", new], True),
         ("remove", ["-r", "steelnewt"], False),
         ("install again", ["--force-confold", "-i", deb], True),
         ("purge", ["-P", "steelnewt"], False),
@@ -636,7 +761,10 @@ def later_on(trial: Trial) -> None:
                 said,
             )
     empty(trial)
-    trial.does("purge of a desk without messages", *DPKG, "-P", *NAMES)
+    said = trial.does("purge of a desk without messages", *DPKG, "-P", *NAMES)
+    trial.check("it says that the host's file stays", "/etc/sudoers.d/desk stays" in said, said)
+    pam = [trial.read(f"/etc/pam.d/common-{it}") for it in ("account", "session-noninteractive")]
+    trial.check("the step of PAM is gone", not any("desk-host" in text for text in pam), str(pam))
     trial.check("its folder is gone", not os.path.exists(trial.path("/var/lib/desk")))
 
 
@@ -646,27 +774,44 @@ def served(trial: Trial) -> None:
     ready = running.wait_ready()
     trial.check(
         "ready when it listens",
-        b"READY=1" in ready and b"listening at 127.0.0.1:8080" in ready,
+        b"READY=1" in ready and f"listening at {SOCKET}".encode() in ready,
         repr(ready),
     )
     certify(trial)
     trial.does("nginx", "nginx")
+    whose_socket(trial)
     through_the_front(trial)
+    through_haproxy(trial)
     rights(trial)
     bad_stores(trial)
-    wrong_clocks(trial)
     status, said = running.stop()
     log = r"starting over roster /etc/desk/roster.toml \(sha256 [0-9a-f]{16}\), .* a new store"
     log += r"(.|\n)*listening at(.|\n)*ended, as it was asked to: 2 messages"
     trial.check(
         "the log",
-        status == 0 and re.search(log, said) is not None and "was not told" not in said,
+        status == 0
+        and re.search(log, said) is not None
+        and "was not told" not in said
+        and "WARNING" not in said,
         f"{status}: {said}",
     )
+    while_it_is_down(trial)
     again = Service(trial)
     again.wait_ready()
+    wrong_clocks(trial)
     status, said = again.stop()
     trial.check("a second start", status == 0 and "2 messages in" in said, said)
+    over_tcp(trial)
+
+
+def over_tcp(trial: Trial) -> None:
+    """An address of TCP is served as well, and the log says what it means."""
+    running = Service(trial, {"ADDR": outsider.PORT})
+    running.wait_ready()
+    trial.does("over TCP", *outsider.NOBODY, *outsider.curl(outsider.PORT, "/v1/parked"))
+    status, said = running.stop()
+    told = re.search("WARNING: EVERY ACCOUNT OF THIS MACHINE .*: set ADDR=unix:/run/desk/", said)
+    trial.check("what it means", status == 0 and told is not None, said)
 
 
 def furnish(folder: str, fresh: str) -> str:
@@ -694,7 +839,7 @@ def inside(fresh: str) -> None:
     with tempfile.TemporaryDirectory() as folder:
         trial = Trial(furnish(folder, fresh))
         try:
-            for part in (install, tools, tour, bad_starts, traced, served, later_on):
+            for part in (install, tools, tour, bad_starts, relay, traced, served, later_on):
                 began = time.monotonic()
                 part(trial)
                 print(f"{part.__name__}: {time.monotonic() - began:.1f} s", flush=True)

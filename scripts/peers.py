@@ -214,6 +214,7 @@ def inside() -> NoReturn:
     sys.exit(1 if refused or odd_refused or wrong else 0)
 
 
-if sys.argv[1:] == ["--inside"]:
-    inside()
-enter_namespace(__file__)
+if __name__ == "__main__":
+    if sys.argv[1:] == ["--inside"]:
+        inside()
+    enter_namespace(__file__)

@@ -43,7 +43,7 @@ GRANTS = 8_000
 AT = "20260105093000Z"
 REQUEST, APPROVAL = desk.request(), desk.approval()
 LISTED = desk.asked(b"GET", b"/v1/messages")
-STATED = (b"serving ", b"ended: ")
+STATED = (b"serving ", b"ended: ", b"WARNING: EVERY ACCOUNT OF THIS MACHINE ")
 NAMED = ("F1 FileFailed\n", "K1 RosterChanged\n", "K2 NotADesk\n", "K4 Storage\n")
 REPLIES = (b"HTTP/1.1 200 OK\r\n", b"HTTP/1.1 503 Service Unavailable\r\n")
 # what a delivery brings to a disk that is full, and more pages than it needs

@@ -12,6 +12,8 @@ import collections
 import concurrent.futures
 import os
 import re
+import shutil
+import signal
 import socket
 import subprocess
 import sys
@@ -21,12 +23,15 @@ import time
 
 import desk
 import front
+import outsider
 from ports import free_port
 
 OTHERS = 200
 FETCHERS = 20
 CROWD = 120
 BESIDE = 5  # the seconds in which a file comes beside a client that stops
+# what another account posts as a relay's
+POSTED = ["/v1/relays/chat/messages", "--data-binary", desk.approval()]
 
 
 def message(number: int) -> bytes:
@@ -69,6 +74,8 @@ ROUTES = [
     ("GET", "/v1/hosts/db1/sudoers/20260105110000Z", None, ("host", "db1")),
     ("HEAD", "/v1/hosts/db1/sudoers/20260105110000Z", None, ("host", "db1")),
     ("GET", "/v1/hosts/db2/sudoers/20260105110000Z", None, ("host", "db2")),
+    ("GET", "/v1/count", None, ("host auditor", None)),
+    ("HEAD", "/v1/count", None, ("host auditor", None)),
     ("GET", "/v1/reviews/20260105093000Z", None, ("auditor", None)),
     ("HEAD", "/v1/grants/20260105093000Z", None, ("auditor", None)),
     ("GET", "/v1/parked", None, ("auditor", None)),
@@ -82,6 +89,8 @@ ROUTES = [
     ("POST", "/v1/hosts/db1/sudoers/20260105110000Z", message(3), None),
     ("GET", "/v1/relays/chat/messages", None, None),
     ("PUT", "/v1/relays/chat/messages", message(3), None),
+    ("POST", "/v1/count", message(3), None),
+    ("GET", "/v1/count/", None, None),
     ("POST", "/v1/hosts/db1/sudoers", message(3), None),
     ("POST", "/v1/parked", message(3), None),
     ("DELETE", "/v1/parked", None, None),
@@ -102,6 +111,11 @@ def make_certificates(folder: str) -> None:
     ca = os.path.join(folder, "ca")
     front.certify(ca, "init")
     front.certify(ca, "server", "desk.example", "127.0.0.1")
+    # (the host's certificate is revoked, and made again below)
+    for kind, name in (("host", "db1"), ("auditor", "dave")):
+        front.certify(ca, kind, name)
+        front.certify(ca, "revoke", f"{kind}-{name}")
+        put_away(ca, folder, "gone", f"{kind}-{name}")
     for kind, name in SOUND.values():
         front.certify(ca, kind, name)
     for number in range(FETCHERS):
@@ -113,15 +127,6 @@ def make_certificates(folder: str) -> None:
         ("early", ("20900101000000Z", "20900102000000Z")),
     ):
         keep(ca, folder, kept, "relay", "chat2", dates, "chat")
-    keep(ca, folder, "gone", "host", "db1b", None, "db1")
-    front.certify(ca, "revoke", "../gone/host-db1")
-    front.certify(ca, "auditor", "dave")
-    for end in ("pem", "key"):
-        os.rename(
-            os.path.join(ca, f"auditor-dave.{end}"),
-            os.path.join(folder, "gone", f"auditor-dave.{end}"),
-        )
-    front.certify(ca, "revoke", "../gone/auditor-dave")
     front.certify(ca, "renew")
     other = os.path.join(folder, "other")
     front.certify(other, "init")
@@ -145,17 +150,23 @@ def second_server(folder: str) -> tuple[int, int]:
     return 1, int(not is_right)
 
 
+def put_away(ca: str, folder: str, kept: str, name: str) -> None:
+    """Puts a certificate and its key into a folder of their own."""
+    os.makedirs(os.path.join(folder, kept), exist_ok=True)
+    for file in (f"{name}.pem", f"{name}.key"):
+        os.rename(os.path.join(ca, file), os.path.join(folder, kept, file))
+
+
 def keep(
-    ca: str, folder: str, kept: str, kind: str, held: str, dates: tuple[str, str] | None, name: str
+    ca: str, folder: str, kept: str, kind: str, held: str, dates: tuple[str, str], name: str
 ) -> None:
     """A second certificate of a name, put into a folder of its own."""
     safe = [os.path.join(ca, f"{kind}-{name}.{end}") for end in ("pem", "key")]
     for path in safe:
         os.rename(path, f"{path}.{held}")
     front.certify(ca, kind, name, dates=dates)
-    os.makedirs(os.path.join(folder, kept))
+    put_away(ca, folder, kept, f"{kind}-{name}")
     for path in safe:
-        os.rename(path, os.path.join(folder, kept, os.path.basename(path)))
         os.rename(f"{path}.{held}", path)
 
 
@@ -204,7 +215,7 @@ def ask_routes(folder: str, port: int) -> tuple[int, int]:
             is_right = (
                 mine is not None
                 and whose is not None
-                and mine[0] == whose[0]
+                and mine[0] in whose[0].split()
                 and whose[1] in (None, mine[1])
             )
             got = status(front.exchange(client, port, request(method, target, body)))
@@ -513,10 +524,46 @@ def logged(line: dict[str, str]) -> tuple[str, str]:
     return f"{line['request'].split()[0]} {re.sub('^https?://[^/]*', '', target)}", line["posted"]
 
 
+def served(folder: str, store: str = "-") -> desk.Server:
+    """A desk at a socket in a folder that only its account and group may enter, as the package's
+    unit makes it."""
+    path = os.path.join(folder, "run")
+    os.makedirs(path, mode=0o750, exist_ok=True)
+    return desk.Server(store, program=desk.named(), listen=f"unix:{path}/desk.sock")
+
+
+def outsiders(folder: str, port: int, server: desk.Server) -> tuple[int, int]:
+    """Another account of the machine gets no answer of the desk's, and cannot take its place while
+    it is down: then a host gets no file through the front. The desk is ended here."""
+    if os.geteuid():
+        print("(LEFT OUT: what another account of the machine tries, which needs root)")
+        return 0, 0
+    found = []
+    for route, *more in (["/v1/messages"], POSTED, ["/v1/hosts/db1/sudoers"]):
+        for address in (server.address, outsider.PORT):
+            ran = desk.run([*outsider.NOBODY, *outsider.curl(address, route, *more)])
+            found.append((f"{address}{route}", ran.returncode == 7 and not ran.stdout, ran))
+    for how in (signal.SIGKILL, None):
+        if how:
+            server.end(how)
+        else:
+            shutil.rmtree(os.path.dirname(server.address.removeprefix("unix:")))
+        with outsider.Usurper(server.address, outsider.PORT) as usurper:
+            host = front.context(folder, "host-db1")
+            reply = front.exchange(host, port, request("GET", "/v1/hosts/db1/sudoers"))
+        found.append(("its place", not usurper.has_taken(server.address), usurper.said))
+        is_right = status(reply) in ("502", "503") and b"NOPASSWD" not in reply
+        found.append(("a host's file", is_right, reply))
+    wrong = [(what, said) for what, is_right, said in found if not is_right]
+    for what, said in wrong:
+        print(f"an account that is nobody's, {what}: {said}")
+    return len(found), len(wrong)
+
+
 def under_nginx(folder: str) -> list[tuple[int, int]]:
     store, port = os.path.join(folder, "desk.db"), free_port()
-    with desk.Server(store, program=desk.named()) as server:
-        recorder = front.Recorder(server.address)
+    with served(folder, store) as server:
+        recorder = front.Recorder(server.address, os.path.join(folder, "recorder.sock"))
         with front.front(front.nginx_words(folder, port, recorder.address), port):
             parts = [
                 ask_routes(folder, port),
@@ -524,15 +571,23 @@ def under_nginx(folder: str) -> list[tuple[int, int]]:
                 crowd(folder, port),
                 smuggle(folder, port),
             ]
-    return [*parts, compare_log(folder, recorder, store)]
+    parts.append(compare_log(folder, recorder, store))
+    with served(folder) as server, front.front(
+        front.nginx_words(folder, port, server.address), port
+    ):
+        return [*parts, outsiders(folder, port, server)]
 
 
 def under_haproxy(folder: str) -> list[tuple[int, int]]:
     port = free_port()
-    with desk.Server(program=desk.named()) as server, front.front(
+    with served(folder) as server, front.front(
         front.haproxy_words(folder, port, server.address), port
     ):
-        return [ask_routes(folder, port), slow_body(folder, port)]
+        return [
+            ask_routes(folder, port),
+            slow_body(folder, port),
+            outsiders(folder, port, server),
+        ]
 
 
 def ended_list(folder: str) -> tuple[int, int]:
@@ -544,7 +599,7 @@ def ended_list(folder: str) -> tuple[int, int]:
     for before in (a_year_ago, []):
         authority = [*before, "sh", front.AUTHORITY, os.path.join(folder, "ca"), "renew"]
         subprocess.run(authority, check=True)
-        with desk.Server(program=desk.named()) as server, front.front(
+        with served(folder) as server, front.front(
             front.nginx_words(folder, port, server.address), port
         ):
             for name in ("auditor-carol", "gone/auditor-dave"):

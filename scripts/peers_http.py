@@ -22,14 +22,14 @@ import struct
 import subprocess
 import sys
 import tempfile
-import threading
 import time
 import tomllib
-from collections.abc import Iterator, Sequence
+from collections.abc import Callable, Iterator, Sequence
 
 import desk
 import http_oracle
 import random_reports
+import replies
 
 FETCH = os.path.join(desk.EXAMPLES, "fetch-sudoers.sh")
 CHANGED = 10_000
@@ -87,6 +87,12 @@ ASKED: list[tuple[list[str | bytes], tuple[str, bytes]]] = [
     (["/v1/messages?x"], ("400 Bad Request", b"T2 BadTarget\n")),
     (["-X", "DELETE", "/v1/messages"], ("405 Method Not Allowed", b"T4 BadMethod\n")),
     ([*post("chat", APPROVAL)[:-1], "/v1/messages"], ("405 Method Not Allowed", b"T4 BadMethod\n")),
+    (["--head", "/v1/count"], ("200 OK", b"")),
+    (["/v1/count/"], ("404 Not Found", b"T3 NoRoute\n")),
+    (["/v1/counts"], ("404 Not Found", b"T3 NoRoute\n")),
+    (["/v1/count?x"], ("400 Bad Request", b"T2 BadTarget\n")),
+    (["-X", "DELETE", "/v1/count"], ("405 Method Not Allowed", b"T4 BadMethod\n")),
+    ([*post("chat", APPROVAL)[:-1], "/v1/count"], ("405 Method Not Allowed", b"T4 BadMethod\n")),
     (["--head", "/v1/hosts/db1/sudoers/20260105110000Z"], ("200 OK", b"")),
     (["/v1/hosts/db9/sudoers/20260105110000Z"], ("404 Not Found", b"P2 UnknownHost\n")),
     (["/v1/hosts/db9/sudoers/20260105"], ("400 Bad Request", b"T8 BadMoment\n")),
@@ -197,9 +203,11 @@ def reply(status: bytes, body: bytes, length: int | None = None, allow: bytes = 
     )
 
 
-def exchanges(request: bytes) -> list[tuple[bytes, bytes]]:
-    """Exchanges over a roster with the relay web, byte for byte; the request that is approved is
-    given."""
+def exchanges(request: bytes, roster: bytes) -> list[tuple[bytes, bytes]]:
+    """Exchanges over an empty base and a roster with the relay web, byte for byte; the request that
+    is approved is given."""
+    counted = (http_oracle.count_line(texts, roster, b"") for texts in ([], [APPROVAL, request]))
+    none, two = (reply(b"200 OK", line) for line in counted)
     spaced = APPROVAL.replace(b",", b", ", 1)
     grants = b"/v1/grants/20260105093000Z"
     line = b"ann 7 db-root 20260105090000Z 20260105110000Z\n"
@@ -218,6 +226,7 @@ def exchanges(request: bytes) -> list[tuple[bytes, bytes]]:
         (desk.posted(b"fax", APPROVAL), reply(b"403 Forbidden", b"P1 UnknownRelay\n")),
         (desk.posted(b"web", b"", 70)[:-2], reply(bad, b"T1 BadHead\n")),
         (desk.asked(b"GET", b"/v1/parked"), reply(b"200 OK", b"")),
+        (desk.asked(b"GET", b"/v1/count"), none),
         # an approval and its request
         (desk.posted(b"web", APPROVAL), reply(b"200 OK", b"ack\n")),
         (desk.asked(b"GET", b"/v1/parked"), reply(b"200 OK", APPROVAL + b"\n")),
@@ -241,6 +250,15 @@ def exchanges(request: bytes) -> list[tuple[bytes, bytes]]:
         ),
         (desk.asked(b"GET", b"/v1/messages"), reply(b"200 OK", both)),
         (desk.asked(b"HEAD", b"/v1/messages"), reply(b"200 OK", b"", len(both))),
+        # a repeat adds nothing
+        (desk.posted(b"web", APPROVAL), reply(b"200 OK", b"ack\n")),
+        (desk.asked(b"GET", b"/v1/count"), two),
+        (desk.asked(b"HEAD", b"/v1/count"), reply(b"200 OK", b"", 132)),
+        (
+            desk.asked(b"POST", b"/v1/count"),
+            reply(b"405 Method Not Allowed", b"T4 BadMethod\n", None, b"Allow: GET, HEAD\r\n"),
+        ),
+        (desk.asked(b"GET", b"/v1/count/"), reply(b"404 Not Found", b"T3 NoRoute\n")),
         (
             desk.asked(b"POST", b"/v1/messages"),
             reply(b"405 Method Not Allowed", b"T4 BadMethod\n", None, b"Allow: GET, HEAD\r\n"),
@@ -355,13 +373,15 @@ def serving(roster: str, base: str, requests: int | None = None) -> Iterator[str
             yield server.address
             status = server.end() if requests is None else server.wait()
         said.seek(0)
-        begun, *lines = said.read().splitlines()
+        warned, begun, *lines = said.read().splitlines()
         with open(roster, "rb") as file:
             digest = hashlib.sha256(file.read()).hexdigest()
         last = lines[-1:] if requests else ["ended: all connections that were asked for are served"]
-        is_right = begun == f"serving 0 messages, roster {digest}" and last == [
-            "ended: all connections that were asked for are served"
-        ]
+        is_right = (
+            re.fullmatch(desk.EVERY_ACCOUNT, warned) is not None
+            and begun == f"serving 0 messages, roster {digest}"
+            and last == ["ended: all connections that were asked for are served"]
+        )
         if (
             status != (0 if requests else -signal.SIGTERM)
             or not is_right
@@ -373,7 +393,8 @@ def serving(roster: str, base: str, requests: int | None = None) -> Iterator[str
 def ask_exactly() -> Counts:
     """The exchanges, byte for byte, by a server that ends by itself."""
     cases = tomllib.loads(desk.read("cases", "deliver.toml"))
-    wrong, rows = 0, exchanges(cases["message"]["request"].encode("ascii"))
+    given_roster = cases["roster"].encode("utf-8")
+    wrong, rows = 0, exchanges(cases["message"]["request"].encode("ascii"), given_roster)
     with tempfile.TemporaryDirectory() as folder:
         roster = desk.write(folder, "roster.toml", cases["roster"])
         base = desk.write(folder, "base.sudo", "")
@@ -400,6 +421,21 @@ def ask_all(address: str) -> Counts:
         "byte by byte", by_bytes(address, slow, one_at_a_time=True), ("200 OK", GRANT)
     )
     return len(ASKED) + 2 * len(RAW) + 1, wrong
+
+
+def ask_count(address: str) -> Counts:
+    """How many messages there are: as many as `/v1/messages` has lines, no two of them the same,
+    with the digests of the roster's file and of what `desk check` prints of the base."""
+    checked = subprocess.run([*desk.named(), "check", desk.BASE], capture_output=True, check=True)
+    with open(desk.ROSTER, "rb") as file:
+        roster = file.read()
+    wrong = 0
+    for number in range(30, 33):
+        by_bytes(address, desk.posted(b"chat", desk.approval(number).encode()))
+        listed = reply_of(by_curl(address, ["/v1/messages"]))[2].splitlines()
+        wanted = http_oracle.count_line(listed, roster, checked.stdout)
+        wrong += not check("the count", by_curl(address, ["/v1/count"]), ("200 OK", wanted))
+    return 3, wrong
 
 
 def ask_as_python(address: str) -> Counts:
@@ -531,6 +567,8 @@ def is_reply_to(given: bytes, whole: bytes) -> bool:
         return (
             status == "200 OK" and body == b"ack\n" or re.match(rb"[APM][1-8] ", body) is not None
         ) and is_known == (body != b"P1 UnknownRelay\n")
+    if what == "count" and not bare:
+        return status == "200 OK" and re.fullmatch(rb"[0-9]+( [0-9a-f]{64}){2}\n", body) is not None
     if what == "report" and not bare:
         return status == "200 OK" and body.startswith(b"REVIEW %s\nLIVE\n" % part)
     if what in ("file", "file after") and part != b"db1":
@@ -553,6 +591,7 @@ def change_requests(address: str) -> Counts:
         desk.asked(b"GET", b"/v1/reviews/20260105093000Z"),
         desk.asked(b"GET", b"/v1/hosts/db1/sudoers/20260105110000Z"),
         desk.asked(b"GET", b"/v1/messages"),
+        desk.asked(b"GET", b"/v1/count"),
         b"POST /v1/relays/chat/messages HTTP/1.1\r\nhOST: desk\r\nA:b\r\nContent-length: \t70"
         b" \r\nTransfer-encoding: x\r\n\r\n" + APPROVAL,
         b"\r\nHEAD /v1/relays/chat/messages HTTP/1.0\n\n",
@@ -626,28 +665,16 @@ def ask_later_files(address: str) -> Counts:
     return len(rows), wrong
 
 
-def answer_once(whole: bytes) -> str:
-    """The address of a server that is no desk: it gives one peer these bytes."""
-    listener = socket.create_server(("127.0.0.1", 0))
-
-    def answer() -> None:
-        with listener, listener.accept()[0] as peer:
-            peer.recv(65536)
-            peer.sendall(whole)
-
-    threading.Thread(target=answer, daemon=True).start()
-    return "127.0.0.1:%d" % listener.getsockname()[1]
-
-
 def fetch(words: Sequence[str], file: str) -> tuple[int, str]:
-    """The status of examples/fetch-sudoers.sh, and what it says."""
-    ran = subprocess.run(
-        ["sh", FETCH, *words, file],
-        stdout=subprocess.PIPE,
-        stderr=subprocess.STDOUT,
-        check=False,
-        env=dict(os.environ, PATH=desk.PATH, LC_ALL="C"),
-    )
+    """The status of examples/fetch-sudoers.sh, and what it says, on a host that has no record."""
+    with tempfile.TemporaryDirectory() as state:
+        ran = subprocess.run(
+            ["sh", FETCH, "--state", state, *words, file],
+            stdout=subprocess.PIPE,
+            stderr=subprocess.STDOUT,
+            check=False,
+            env=dict(os.environ, PATH=desk.PATH, LC_ALL="C"),
+        )
     return ran.returncode, ran.stdout.decode()
 
 
@@ -672,122 +699,68 @@ def grant_now(address: str) -> bytes:
     return LINE.replace(b"20260105090000Z", first).replace(b"20260105110000Z", last)
 
 
-def answer_old(whole: bytes) -> str:
-    """The address of a desk that has no file after a moment, and gives each peer the whole file."""
-    listener = socket.create_server(("127.0.0.1", 0))
+def strangers(line: bytes) -> dict[str, Callable[[str], bytes]]:
+    """What servers that are no desk give, by their names."""
+    count, whole = replies.counted(2), replies.reply(line)
+    dated = replies.reply(line, more="Date: Mon, 05 Jan 2026 09:00:00 GMT\r\n")
+    no_alias = replies.reply(line.replace(b"ann", b"OPS", 1))
+    no_moment = replies.reply(re.sub(rb"NOTAFTER=[0-9]{6}", b"NOTAFTER=202613", line))
+    old = replies.of_a_host(whole, count)
+    return {
+        "odd": replies.of_a_host(replies.reply(b"ann db1 = (\n"), count),
+        "bad": replies.of_a_host(no_alias, count),
+        "late": replies.of_a_host(no_moment, count),
+        "cut": replies.of_a_host(replies.reply(line * 9)[:-60], count),
+        "old": lambda target: replies.NO_ROUTE if target.endswith("Z") else old(target),
+        "uncounted": replies.of_a_host(whole),
+        "dated": replies.of_a_host(dated, count),
+    }
 
-    def answer() -> None:
-        with listener:
-            while True:
-                with listener.accept()[0] as peer:
-                    target = peer.recv(65536).split(b" ")[1]
-                    peer.sendall(
-                        reply(b"200 OK", whole)
-                        if target == b"/v1/hosts/db1/sudoers"
-                        else reply(b"404 Not Found", b"T3 NoRoute\n")
-                    )
 
-    threading.Thread(target=answer, daemon=True).start()
-    return "127.0.0.1:%d" % listener.getsockname()[1]
-
-
-def fetch_rows(address: str, line: bytes) -> list[tuple[str, list[str], int, str | None]]:
-    """What fetch-sudoers.sh is given, its status, and a part of what it says; None is silence. A
-    server that is no desk answers once."""
-    desk, nobody = f"http://{address}", "http://127.0.0.1:1"
-    no_sudoers = b"HTTP/1.1 200 OK\r\nContent-Length: 12\r\n\r\nann db1 = (\n"
-    cut_short = b"HTTP/1.1 200 OK\r\nContent-Length: 99\r\n\r\nann db1 = /bin/ls\n"
-    long_ago = (
-        b"HTTP/1.1 200 OK\r\nDate: Mon, 05 Jan 2026 09:00:00 GMT\r\nContent-Length: %d\r\n\r\n%s"
-        % (len(line), line)
-    )
-    bad = lambda: f"http://{answer_once(no_sudoers)}"
-    return [
-        ("a host's file", [desk, "db1"], 0, None),
-        ("the same again", [desk, "db1"], 0, None),
-        ("a desk without the file after a moment", [f"http://{answer_old(line)}", "db1"], 0, None),
-        ("a host that the roster lacks", [desk, "db9"], 1, "the desk's roster has no host db9"),
-        (
-            "what is no sudoers file",
-            [bad(), "db1"],
-            1,
-            "db1: visudo refuses what came from http://127.0.0.1:",
-        ),
-        ("and visudo's fault", [bad(), "db1"], 1, ":1:12: syntax error"),
-        (
-            "and once more",
-            [bad(), "db1"],
-            1,
-            "db1: visudo refuses what came from http://127.0.0.1:",
-        ),
-        (
-            "a file that is cut short",
-            [f"http://{answer_once(cut_short)}", "db1"],
-            1,
-            "did not answer with a file: curl: (18)",
-        ),
-        ("no server", [nobody, "db1"], 1, f"{nobody} did not answer with a file: curl: (7)"),
-        (
-            "no server, then a desk",
-            [nobody, desk, "db1"],
-            0,
-            f"{nobody} did not answer with a file: curl: (7)",
-        ),
-        (
-            "what is no sudoers file, then a desk",
-            [bad(), desk, "db1"],
-            0,
-            "visudo refuses what came from",
-        ),
-        ("a desk, then none", [desk, nobody, "db1"], 0, None),
-        (
-            "none twice",
-            [nobody, nobody, "db1"],
-            1,
-            "no desk answered with a file for db1 that visudo accepts",
-        ),
-        (
-            "a clock that differs",
-            [f"http://{answer_once(long_ago)}", "db1"],
-            0,
-            "seconds from that of http://127.0.0.1:",
-        ),
-        ("the file again", [desk, "db1"], 0, None),
-        (
-            "no certificate",
-            ["--cert", "/nowhere.pem", desk, "db1"],
-            1,
-            "cannot read the certificate /nowhere.pem",
-        ),
-        (
-            "empty words in their places",
-            ["--cert", "", "--key", "", "--ca", "", desk, "db1"],
-            0,
-            None,
-        ),
-        ("no key", ["--key", "/nowhere.key", desk, "db1"], 1, "cannot read the key /nowhere.key"),
-        (
-            "no authority",
-            ["--ca", "/nowhere.pem", desk, "db1"],
-            1,
-            "cannot read the CA certificate /nowhere.pem",
-        ),
-        ("an option that it has not", ["--no", "x", desk, "db1"], 2, "usage: "),
-        ("no desk", ["db1"], 2, "usage: "),
-    ]
+# What fetch-sudoers.sh is given, its status, and a part of what it says; None is silence. DESK is
+# the desk, NOBODY an address where nobody listens, and the rest are servers that are no desk.
+FETCHES: list[tuple[str, str, int, str | None]] = [
+    ("a host's file", "DESK db1", 0, None),
+    ("the same again", "DESK db1", 0, None),
+    ("a desk without the file after a moment", "old db1", 0, None),
+    ("a host that the roster lacks", "DESK db9", 1, "the desk's roster has no host db9"),
+    ("what is no sudoers file", "odd db1", 1, "line 1 is none that a desk writes: ann db1 = ("),
+    ("what visudo refuses", "bad db1", 1, "visudo refuses it: "),
+    ("and its place", "bad db1", 1, "/desk:1:"),
+    ("a thirteenth month", "late db1", 1, "line 1 has a moment that is none: 202613"),
+    ("a file that is cut short", "cut db1", 1, "its 200 was cut short"),
+    ("no server", "NOBODY db1", 1, "NOBODY: [Errno 111] Connection refused"),
+    ("no server, then a desk", "NOBODY DESK db1", 0, "NOBODY: [Errno 111] Connection refused"),
+    ("what is no sudoers file, then a desk", "odd DESK db1", 0, "none that a desk writes"),
+    ("a desk, then none", "DESK NOBODY db1", 0, None),
+    ("none twice", "NOBODY NOBODY db1", 1, "no desk gave a file for db1 that can be taken"),
+    ("a desk that is too old", "uncounted db1", 1, "how many messages it holds: the desk is too"),
+    ("where that is allowed", "--without-count uncounted db1", 0, "as WITHOUT_COUNT says"),
+    ("a clock that differs", "dated db1", 0, "seconds from that of http://127.0.0.1:"),
+    ("the file again", "DESK db1", 0, None),
+    ("no certificate", "--cert /no.pem DESK db1", 1, "cannot read the certificate /no.pem"),
+    ("empty words in their places", "--cert= --key= --ca= DESK db1", 0, None),
+    ("no key", "--key /no.key DESK db1", 1, "cannot read the key /no.key"),
+    ("no authority", "--ca /no.pem DESK db1", 1, "cannot read the CA certificate /no.pem"),
+    ("an option that it has not", "--no x DESK db1", 2, "usage: "),
+    ("no desk", "db1", 2, "usage: "),
+]
 
 
 def fetch_files(address: str) -> Counts:
     """examples/fetch-sudoers.sh puts the host's file in place, and on any fault keeps the old one
     and leaves nothing else."""
-    line = grant_now(address)
-    wrong, rows = 0, fetch_rows(address, line)
-    with tempfile.TemporaryDirectory() as folder:
+    line, wrong = grant_now(address), 0
+    with contextlib.ExitStack() as stack:
+        folder = stack.enter_context(tempfile.TemporaryDirectory())
+        servers = {name: replies.Replies(it) for name, it in strangers(line).items()}
+        urls = {name: stack.enter_context(it).url for name, it in servers.items()}
+        urls |= {"DESK": f"http://{address}", "NOBODY": "http://127.0.0.1:1"}
         file = os.path.join(folder, "desk")
-        for what, words, status, says in rows:
+        for what, words, status, says in FETCHES:
             if os.path.exists(file):
                 os.utime(file, (0, 0))
-            ended, said = fetch(words, file)
+            ended, said = fetch([urls.get(word, word) for word in words.split()], file)
             with open(file, "rb") as found:
                 text = found.read()
                 is_right = (
@@ -798,10 +771,11 @@ def fetch_files(address: str) -> Counts:
                 )
             # (the file's time is that of the last fetch that succeeded)
             is_right = is_right and (os.stat(file).st_mtime > 0) == (status == 0)
-            if ended != status or not is_right or (says or "") not in said or says is None and said:
+            part = (says or "").replace("NOBODY", urls["NOBODY"])
+            if ended != status or not is_right or part not in said or says is None and said:
                 wrong += 1
                 print(f"fetch-sudoers.sh, {what}: status {ended}, {os.listdir(folder)}: {said}")
-    return len(rows), wrong
+    return len(FETCHES), wrong
 
 
 def long_history() -> Counts:
@@ -846,6 +820,7 @@ def main() -> None:
         for part in (
             ask_all,
             ask_as_python,
+            ask_count,
             check_file,
             ask_later_files,
             fetch_files,

@@ -13,53 +13,16 @@ import random
 import sys
 import tempfile
 import time
-from collections.abc import Mapping, Sequence
+from collections.abc import Mapping
 from typing import NoReturn
 
 import desk
+from random_policies import FILES, HOSTS, TARGETS, USERS, alias_policy
 from sudo_peer import accepts, allows, clear, enter_namespace, furnish
 
 POLICIES, TIMES = 2000, 200
-USERS, HOSTS, TARGETS = ("ann", "bob", "eve", "kim"), ("db1", "db2", "web1"), ("root", "op", "dba")
-FILES = ("/srv/bin/ls", "/srv/bin/kill", "/srv/lib/tool", "/srv/lib/deep/tool")
-COMMANDS = (*FILES, "/srv/bin/", "/srv/lib/", '/srv/bin/ls ""', "/srv/bin/ls -l")
-KINDS = (
-    ("User_Alias", USERS),
-    ("Host_Alias", HOSTS),
-    ("Runas_Alias", TARGETS),
-    ("Cmnd_Alias", COMMANDS),
-)
 LAST = 4102444799
 NO_OR_ONE: list[list[str]] = [[], [], ["-l"], ["-a"]]
-
-
-def signed(rng: random.Random, word: str) -> str:
-    return rng.choice(("", "", "", "!", "!!")) + word
-
-
-def some_of(rng: random.Random, words: Sequence[str], aliases: list[str], most: int) -> str:
-    """A list of words and aliases, some of them negated."""
-    return ", ".join(
-        signed(rng, rng.choice([*words, "ALL", *aliases * 3])) for _ in range(rng.randint(1, most))
-    )
-
-
-def alias_policy(rng: random.Random) -> str:
-    """Aliases of each kind, each over those above it, and rules over all of them."""
-    lines: list[str] = []
-    names: dict[str, list[str]] = {}
-    for kind, words in KINDS:
-        names[kind] = []
-        for number in range(rng.randint(1, 5)):
-            name = f"{kind[0]}{number}"
-            lines.append(f"{kind} {name} = {some_of(rng, words, names[kind], 3)}")
-            names[kind].append(name)
-    for _ in range(rng.randint(1, 3)):
-        users, hosts, targets, commands = (
-            some_of(rng, words, names[kind], 2) for kind, words in KINDS
-        )
-        lines.append(f"{users} {hosts} = ({targets}) {commands}")
-    return "".join(f"{line}\n" for line in lines)
 
 
 def invocation(rng: random.Random) -> list[str]:
@@ -101,6 +64,12 @@ def bound(rng: random.Random) -> int:
     return moment - rng.choice((0, moment % 60, moment % 3600))
 
 
+def dated(rng: random.Random) -> tuple[str, int]:
+    """A policy with one bound, and that moment."""
+    moment, option = bound(rng), rng.choice(("NOTBEFORE", "NOTAFTER"))
+    return f"ann db1 = (root) {option}={spelled(rng, moment)} /srv/bin/ls\n", moment
+
+
 class Run:
     """The comparison, and its counts."""
 
@@ -135,8 +104,7 @@ class Run:
             self.ask(path, invocation(rng), text)
 
     def times(self, rng: random.Random) -> None:
-        moment, option = bound(rng), rng.choice(("NOTBEFORE", "NOTAFTER"))
-        text = f"ann db1 = (root) {option}={spelled(rng, moment)} /srv/bin/ls\n"
+        text, moment = dated(rng)
         path = self.policy(text)
         for at in (moment - 1, moment, moment + 1):
             if path:
@@ -165,7 +133,8 @@ def inside() -> NoReturn:
     sys.exit(1 if ran.wrong or aliases < POLICIES else 0)
 
 
-if sys.argv[1:] == ["--inside"]:
-    inside()
-desk.check_built()
-enter_namespace(__file__)
+if __name__ == "__main__":
+    if sys.argv[1:] == ["--inside"]:
+        inside()
+    desk.check_built()
+    enter_namespace(__file__)

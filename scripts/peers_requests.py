@@ -3,10 +3,11 @@
 
 The desk is told requests and approvals of people, hosts, targets, commands and arguments that mean
 something to sudo, or use every lawful byte at either end, and has to acknowledge each. Each host's
-file has to pass `visudo -c`, and `cvtsudoers -f json` has to read of it, line by line, the user,
-host, target, command, arguments and dates that were asked for. Of some of them `sudo -l` is asked
-too (scripts/sudo_peer.py): at a moment of the window, which it has to allow, and a second before
-and after it, and with one argument more. `desk decide` has to answer each as sudo does. It prints
+file has to pass `visudo -c` and what `desk-host` takes, and `cvtsudoers -f json` has to read of it,
+line by line, the user, host, target, command, arguments and dates that were asked for. Of some of
+them `sudo -l` is asked too (scripts/sudo_peer.py): at a moment of the window, which it has to
+allow, and a second before and after it, and with one argument more. `desk decide` has to answer
+each as sudo does. It prints
 what is otherwise, and ends with the counts; the seed is fixed.
 """
 
@@ -22,7 +23,7 @@ from collections.abc import Iterator, Mapping
 from typing import NamedTuple, NoReturn
 
 import desk
-from sudo_peer import accepts, allows, clear, enter_namespace, furnish
+from sudo_peer import accepts, allows, clear, desk_host, enter_namespace, furnish
 
 MANUAL = "/usr/share/man/man5/sudoers.5.gz"
 DESKS, REQUESTS, HOSTS, ASKED = 40, 50, 10, 500
@@ -259,8 +260,13 @@ def lines_of(text: str, cvtsudoers: str) -> str | list[Line]:
     answer = desk.run([cvtsudoers, "-f", "json"], given=text)
     if answer.returncode != 0:
         return f"{answer.stdout}{answer.stderr}"
+    return specified(answer.stdout)
+
+
+def specified(converted: str) -> list[Line]:
+    """The lines of what cvtsudoers makes of a file."""
     found = []
-    for spec in json.loads(answer.stdout).get("User_Specs", []):
+    for spec in json.loads(converted).get("User_Specs", []):
         (user,), (host,), (cmnd,) = spec["User_List"], spec["Host_List"], spec["Cmnd_Specs"]
         (target,), (command,) = cmnd["runasusers"], cmnd["Commands"]
         options = {key: value for option in cmnd["Options"] for key, value in option.items()}
@@ -290,13 +296,18 @@ def first_difference(wanted: list[Line], found: str | list[Line]) -> tuple[objec
     return next((pair for pair in pairs if pair[0] != pair[1]), None)
 
 
+# What sudo may be asked of: a host's file, and the requests that are in it.
+Asks = list[tuple[str, list[Request]]]
+
+
 class Run:
     """The whole comparison, and its counts."""
 
     def __init__(self, folder: str, programs: Mapping[str, str]) -> None:
         self.folder, self.programs = folder, programs
+        self.host_program = desk_host()
         self.accepted = self.files = self.read = self.asked = self.wrong = 0
-        self.asks: list[tuple[str, list[Request]]] = []
+        self.asks: Asks = []
 
     def fault(self, what: str) -> None:
         self.wrong += 1
@@ -326,6 +337,9 @@ class Run:
         if not accepts(self.programs["visudo"], f"the file of {host}", text, self.folder):
             self.fault(f"visudo refuses {text!r}")
             return
+        strange = self.host_program.unlawful(text.encode())
+        if strange:
+            self.fault(f"a host takes no such file: {strange}")
         wanted, found = site.lines(host), lines_of(text, self.programs["cvtsudoers"])
         self.read += len(wanted)
         difference = first_difference(wanted, found)
@@ -333,10 +347,10 @@ class Run:
             self.fault(f"wanted {difference[0]}, and sudo reads {difference[1]}")
         self.asks.append((text, [q for q in site.requests if q.host == host]))
 
-    def ask_some(self, rng: random.Random, sudoers: str) -> None:
+    def ask_some(self, rng: random.Random, sudoers: str, most: int = ASKED) -> None:
         """Asks sudo and the desk of some requests whose command is a file that is there."""
         for text, requests in rng.sample(self.asks, len(self.asks)):
-            if self.asked >= ASKED:
+            if self.asked >= most:
                 return
             with open(sudoers, "w") as file:
                 file.write(text)
@@ -347,7 +361,7 @@ class Run:
                     for it in q.commands
                     if it[0] != "ALL" and not it[0].endswith("/") and it[1] is not None
                 ]
-                if files and self.asked < ASKED:
+                if files and self.asked < most:
                     self.asked += 1
                     self.ask(policy, q, rng.choice(files), rng)
 
@@ -374,11 +388,9 @@ class Run:
             )
 
 
-def inside() -> NoReturn:
-    programs = {name: desk.tool(name) for name in ("sudo", "visudo", "faketime", "cvtsudoers")}
-    os.environ["TZ"] = "UTC"
-    words = Words(1)
-    sites = [Site(words, number) for number in range(DESKS)]
+def lie_below_srv(sites: list[Site]) -> list[str]:
+    """The files that the requests name, by their paths below /srv. (A path that is another's folder
+    is left to the folder.)"""
     below = {
         it[0].removeprefix("/srv/")
         for site in sites
@@ -386,22 +398,32 @@ def inside() -> NoReturn:
         for it in q.commands
         if it[0] != "ALL" and not it[0].endswith("/")
     }
-    # (a path that is another's folder is left to the folder)
-    commands = sorted(it for it in below if not any(other.startswith(it + "/") for other in below))
+    return sorted(it for it in below if not any(other.startswith(it + "/") for other in below))
+
+
+def only_there(asks: Asks, files: list[str]) -> Asks:
+    """The requests whose commands are all there."""
+    there = {"/srv/" + it for it in files}
+
+    def is_there(q: Request) -> bool:
+        return all(it[0] in there or it[1] is None for it in q.commands)
+
+    return [(text, [q for q in requests if is_there(q)]) for text, requests in asks]
+
+
+def inside() -> NoReturn:
+    programs = {name: desk.tool(name) for name in ("sudo", "visudo", "faketime", "cvtsudoers")}
+    os.environ["TZ"] = "UTC"
+    words = Words(1)
+    sites = [Site(words, number) for number in range(DESKS)]
+    commands = lie_below_srv(sites)
     users = sorted({name for site in sites for name in [*site.people, *site.targets]})
     with tempfile.TemporaryDirectory() as folder:
         sudoers = furnish(folder, users, commands)
         ran = Run(folder, programs)
         for site in sites:
             ran.site(site)
-        there = {"/srv/" + it for it in commands}
-        ran.asks = [
-            (
-                text,
-                [q for q in requests if all(it[0] in there or it[1] is None for it in q.commands)],
-            )
-            for text, requests in ran.asks
-        ]
+        ran.asks = only_there(ran.asks, commands)
         ran.ask_some(random.Random(2), sudoers)
         clear()
     print(
@@ -413,7 +435,8 @@ def inside() -> NoReturn:
     sys.exit(1 if ran.wrong else 0)
 
 
-if sys.argv[1:] == ["--inside"]:
-    inside()
-desk.check_built()
-enter_namespace(__file__)
+if __name__ == "__main__":
+    if sys.argv[1:] == ["--inside"]:
+        inside()
+    desk.check_built()
+    enter_namespace(__file__)

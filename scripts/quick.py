@@ -114,7 +114,7 @@ def not_made() -> Iterator[str]:
         return
     for name, text in texts.items():
         if desk.read(name) != text:
-            yield f"{name}: it is not what the heads of the edits say: run make docs"
+            yield f"{name}: it is not what the definitions say: run make docs"
 
 
 def not_there() -> Iterator[str]:

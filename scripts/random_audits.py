@@ -1,6 +1,6 @@
 #!/usr/bin/env python3
-"""Compares `desk-audit --json` with a second reading of the rules (docs/AUDIT.md, docs/MESSAGES.md)
-on random rosters and messages, and its text with what its JSON says.
+"""Compares `desk-audit --json` with a second reading of the rules (docs/AUDITING.md,
+docs/MESSAGES.md) on random rosters and messages, and its text with what its JSON says.
 
 Each set is asked about whole, and once more with random options. Which messages a desk holds is
 what `desk deliver` acknowledges; all else is made here. The statuses are compared with those of

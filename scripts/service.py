@@ -1,8 +1,9 @@
-"""Runs a unit's program where systemd is not: as its user, without capabilities, over files that
-are read only but for its folder."""
+"""Runs a unit's program where systemd is not: as its user and groups, without capabilities, over
+files that are read only but for its folders."""
 
 import os
 import shlex
+import shutil
 import socket
 import subprocess
 
@@ -45,6 +46,43 @@ def words(settings: dict[str, list[str]], held: dict[str, str], instance: str) -
     return made
 
 
+def ids(root: str, table: str, name: str) -> tuple[int, int]:
+    """The numbers of an account (`passwd`), or twice that of a group (`group`), in the root."""
+    with open(os.path.join(root, "etc", table), encoding="utf-8") as file:
+        rows = [line.split(":") for line in file]
+    number, group = next((int(row[2]), row[3]) for row in rows if row[0] == name)
+    return number, int(group) if table == "passwd" else number
+
+
+def settings_of(root: str, name: str) -> dict[str, list[str]]:
+    with open(os.path.join(root, "lib/systemd/system", name), encoding="utf-8") as file:
+        return unit(file.read())
+
+
+def group_of(settings: dict[str, list[str]]) -> str:
+    return settings.get("Group", settings.get("User", ["root"]))[0]
+
+
+def make_runtime(root: str, name: str) -> list[str]:
+    """Makes the unit's folders in /run, as its own; those that were not there."""
+    settings, made = settings_of(root, name), []
+    for each in settings.get("RuntimeDirectory", []):
+        path = os.path.join(root, "run", each)
+        if not os.path.exists(path):
+            os.mkdir(path)
+            user, _ = ids(root, "passwd", settings["User"][0])
+            os.chown(path, user, ids(root, "group", group_of(settings))[0])
+            os.chmod(path, int(settings["RuntimeDirectoryMode"][0], 8))
+            made.append(path)
+    return made
+
+
+def remove(made: list[str]) -> None:
+    """Takes the folders of /run away, as systemd does when the unit ends."""
+    for path in made:
+        shutil.rmtree(path)
+
+
 def start(
     root: str,
     name: str,
@@ -53,8 +91,7 @@ def start(
     extra: dict[str, str] | None = None,
 ) -> subprocess.Popen[str]:
     """Starts the unit's program in the root: its standard output and error are one stream."""
-    with open(os.path.join(root, "lib/systemd/system", name), encoding="utf-8") as file:
-        settings = unit(file.read())
+    settings = settings_of(root, name)
     held = environment(root, settings) | (extra or {})
     writable = [
         *(f"/var/lib/{each}" for each in settings.get("StateDirectory", [])),
@@ -63,7 +100,9 @@ def start(
     mounts = "".join(f"mount --rbind {each} {each} && " for each in writable)
     user = settings.get("User", ["root"])[0]
     bare = "mount -o remount,bind,ro / && mount -t tmpfs tmpfs /tmp && cd / && "
-    drop = f"exec setpriv --reuid {user} --regid {user} --clear-groups"
+    more = settings.get("SupplementaryGroups", [])
+    drop = f"exec setpriv --reuid {user} --regid {group_of(settings)}"
+    drop += f" --groups {','.join(more)}" if more else " --clear-groups"
     drop += " --no-new-privs --bounding-set=-all --inh-caps=-all"
     given = shlex.join(f"{key}={value}" for key, value in held.items())
     asked = [*(before or []), *words(settings, held, instance)]

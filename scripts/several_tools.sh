@@ -9,6 +9,7 @@ wanted=()
 for package in pika pytest; do
     /usr/bin/python3 -c "import $package" 2>/dev/null || wanted+=("python3-$package")
 done
+command -v systemd-analyze >/dev/null || wanted+=(systemd)
 command -v unshare >/dev/null && command -v mount >/dev/null || wanted+=(util-linux mount)
 if [ "${#wanted[@]}" -gt 0 ] && [ "$(id -u)" = 0 ] && command -v apt-get >/dev/null; then
     # Debian's way to say that no service is to start

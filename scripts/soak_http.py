@@ -32,6 +32,7 @@ PIECES = [
     *(b"HTTP/2.0", b"Host: x\r\n", b"Content-Length: 70\r\n", b"Content-Length: 16385\r\n"),
     *(b"Content-Length: 0000000070\r\n", b"Transfer-Encoding: chunked\r\n", b"X: y\r\n" * 31),
     *("é".encode(), b"web", b"db1", b"db9", b"20260105093000Z", b"sudoers", b"messages", b"parked"),
+    b"count",
 ]
 REPLY = re.compile(
     rb"HTTP/1\.1 ([0-9]{3} [A-Za-z ]+)\r\nContent-Type: text/plain\r\n(?:Allow: ([A-Z, ]+)\r\n)?"
@@ -99,6 +100,10 @@ class Served:
             if part.decode() not in self.site.hosts:
                 return Reply("404 Not Found", b"P2 UnknownHost\n")
             return Reply("200 OK", BASE.encode(), is_whole=False)
+        if what == "count":
+            texts = [text.encode() for text in self.held]
+            line = http_oracle.count_line(texts, self.text.encode(), BASE.encode())
+            return Reply("200 OK", line)
         if what == "grants":
             lines = self.grants(part.decode())
         else:
@@ -128,7 +133,7 @@ def drawn(chance: random.Random) -> bytes:
             b"/v1/grants/%s" % moment(chance),
             b"/v1/reviews/%s" % moment(chance),
             b"/v1/hosts/db1/sudoers/%s" % moment(chance),
-            *(b"/v1/parked", b"/v1/messages", b"/v1/hosts/db2/sudoers"),
+            *(b"/v1/parked", b"/v1/messages", b"/v1/count", b"/v1/hosts/db2/sudoers"),
         ]
     )
     kind = chance.random()

@@ -7,9 +7,11 @@ Debian's sudo asks for a host's canonical name, and no resolver is to be asked h
 are bound over the machine's in that namespace alone, so nothing of the machine changes.
 """
 
+import importlib.machinery
 import os
 import subprocess
 import sys
+import types
 from collections.abc import Iterable, Mapping, Sequence
 from typing import NoReturn
 
@@ -38,25 +40,35 @@ def bind(source: str, target: str) -> None:
     subprocess.run(["mount", "--bind", source, target], check=True)
 
 
-def furnish(folder: str, users: Iterable[str], commands: Iterable[str]) -> str:
-    """Commands, given by their paths below /srv, users and an empty sudoers file, bound over the
-    machine's; the path of the file is answered."""
-    os.chmod(folder, 0o755)
-    top = os.path.join(folder, "srv")
-    os.makedirs(top, exist_ok=True)
+def put_commands(top: str, commands: Iterable[str]) -> None:
+    """Commands, given by their paths below this folder: each a small file of its own."""
     for name in commands:
         path = os.path.join(top, name)
         os.makedirs(os.path.dirname(path), exist_ok=True)
         with open(path, "w") as file:
             file.write(f"#!/bin/sh\n# {name}\n")
         os.chmod(path, 0o755)
+
+
+def passwd_of(users: Iterable[str]) -> str:
+    """/etc/passwd with root and these users."""
+    named = enumerate(it for it in users if it != "root")
+    lines = [f"{user}:x:{2001 + number}:2001::/:/bin/sh\n" for number, user in named]
+    return "root:x:0:0:root:/root:/bin/sh\n" + "".join(lines)
+
+
+def furnish(folder: str, users: Iterable[str], commands: Iterable[str]) -> str:
+    """Commands, given by their paths below /srv, users and an empty sudoers file, bound over the
+    machine's; the path of the file is answered."""
+    os.chmod(folder, 0o755)
+    top = os.path.join(folder, "srv")
+    os.makedirs(top, exist_ok=True)
+    put_commands(top, commands)
     os.makedirs("/srv", exist_ok=True)
     bind(top, "/srv")
     passwd = os.path.join(folder, "passwd")
     with open(passwd, "w") as file:
-        file.write("root:x:0:0:root:/root:/bin/sh\n")
-        for number, user in enumerate(it for it in users if it != "root"):
-            file.write(f"{user}:x:{2001 + number}:2001::/:/bin/sh\n")
+        file.write(passwd_of(users))
     os.chmod(passwd, 0o644)
     bind(passwd, "/etc/passwd")
     lookups = os.path.join(folder, "nsswitch.conf")
@@ -88,6 +100,20 @@ def accepts(visudo: str, what: str, text: str, folder: str) -> bool:
     if answer.returncode != 0:
         print(f"visudo refuses {what}: {answer.stdout}{answer.stderr}")
     return answer.returncode == 0
+
+
+def desk_host() -> types.ModuleType:
+    """packaging/desk-host as a module."""
+    loader = importlib.machinery.SourceFileLoader(
+        "desk_host", os.path.join(desk.ROOT, "packaging", "desk-host")
+    )
+    made = types.ModuleType("desk_host")
+    sys.modules["desk_host"] = made
+    is_written = sys.dont_write_bytecode
+    sys.dont_write_bytecode = True
+    loader.exec_module(made)
+    sys.dont_write_bytecode = is_written
+    return made
 
 
 def allows(programs: Mapping[str, str], words: Sequence[str]) -> bool:

@@ -1,7 +1,8 @@
 #!/usr/bin/env bash
 # The whole gate: what can be seen without a proof; `rt ci`; and then, over the program that it
 # left, the demo, the cases, sudo beside the desk, the desk served over loopback, its file beside
-# sqlite3, each request for memory refused, the relays and tools, and several desks behind a broker.
+# sqlite3, each request for memory refused, the relays and tools, hosts with their sudo, and several
+# desks behind a broker.
 # With WHOLE=1 a part that cannot run here fails; without it, it is left out and named. The last
 # line is 'N passed, M failed'.
 set -euo pipefail
@@ -58,7 +59,9 @@ cases() {
 peers() {
     python3 scripts/peers.py && python3 scripts/peers_policies.py &&
         python3 scripts/peers_requests.py && python3 scripts/peers_http.py &&
-        python3 scripts/peers_patience.py && python3 scripts/peers_store.py &&
+        python3 scripts/peers_socket.py &&
+        python3 scripts/peers_patience.py && python3 scripts/peers_crowd.py &&
+        python3 scripts/peers_store.py &&
         python3 scripts/peers_monitoring.py
 }
 
@@ -70,7 +73,8 @@ soak() {
 }
 
 front() {
-    python3 scripts/peers_front.py
+    python3 scripts/peers_front.py && python3 scripts/peers_front_certificates.py &&
+        python3 scripts/peers_authority.py
 }
 
 pages() {
@@ -103,16 +107,18 @@ cp crates/desk_audit_cli/out/desk_audit_cli build/desk-audit
 
 part demo demo
 part_with cases setpriv jq -- cases
-part_with peers root sudo visudo cvtsudoers faketime unshare curl nc sqlite3 -- peers
+part_with peers root sudo visudo cvtsudoers faketime unshare curl nc sqlite3 nginx openssl -- peers
 part_with faults cc -- python3 scripts/faults.py
 part_with soak root cc visudo unshare mount prlimit setpriv -- soak
 part_with relays-test root apt-get -- bash relays/test.sh
 part_with tools-test root apt-get -- bash tools/test.sh
+part_with hosts root debootstrap unshare sudo visudo faketime ip -- \
+    /usr/bin/python3 scripts/hosts.py --short
 part_with pages root mandoc zsh unshare ip visudo sudo faketime curl jq sqlite3 nginx openssl -- \
     pages
-part_with peers nginx haproxy openssl sqlite3 -- front
+part_with peers nginx haproxy openssl sqlite3 strace flock -- front
 part_with package-test root dpkg-buildpackage dh lintian systemd-analyze sudo faketime unshare ip \
-    nginx openssl strace -- package_test
+    nginx haproxy openssl strace -- package_test
 part_with several root unshare mount -- bash scripts/several.sh --short
 echo "$passed passed, $failed failed"
 [ "$failed" = 0 ]

@@ -1,8 +1,9 @@
 #!/usr/bin/env bash
-# Builds the programs without proving them, side by side: desk and desk-audit, or those whose
-# crates are named (desk_cli, desk_audit_cli), and leaves them at build/desk-unproved and
-# build/desk-audit-unproved. `rt try` runs what it builds in a folder that it removes: the run here
-# reads a pipe, and while it waits for that, the program is taken out of the folder.
+# Builds the programs without proving them, side by side where memory allows: desk and desk-audit,
+# or those whose crates are named (desk_cli, desk_audit_cli), and leaves them at
+# build/desk-unproved and build/desk-audit-unproved. `rt try` runs what it builds in a folder that
+# it removes: the run here reads a pipe, and while it waits for that, the program is taken out of
+# the folder.
 set -euo pipefail
 cd "$(dirname "$0")/.."
 command -v rt > /dev/null || {
@@ -53,17 +54,30 @@ build() {
     echo "built build/$name-unproved"
 }
 
-[ $# -gt 0 ] || set -- desk_cli desk_audit_cli
-builders=()
-for crate in "$@"; do
-    case $crate in
+# Starts the building of a crate's program.
+start() {
+    case $1 in
         desk_cli) build desk_cli desk check PIPE & ;;
         desk_audit_cli) build desk_audit_cli desk-audit PIPE PIPE - & ;;
-        *) echo "no program's crate: $crate" >&2 && exit 1 ;;
+        *) echo "no program's crate: $1" >&2 && exit 1 ;;
     esac
-    builders+=("$!")
-done
+}
+
+# Two at once take 9.5 GB of memory, so with less than this they are built one after the other.
+enough_for_two=$((16 * 1024 * 1024))
+available=$(awk '$1 == "MemAvailable:" { print $2 }' /proc/meminfo)
+
+[ $# -gt 0 ] || set -- desk_cli desk_audit_cli
+builders=()
 failed=0
+for crate in "$@"; do
+    start "$crate"
+    if [ "${available:-0}" -lt "$enough_for_two" ]; then
+        wait "$!" || failed=1
+    else
+        builders+=("$!")
+    fi
+done
 for builder in "${builders[@]}"; do
     wait "$builder" || failed=1
 done

@@ -1,13 +1,20 @@
-"""Takes messages from a desk's queue and posts them to the desk, one after the other.
+"""Takes messages from a desk's queue and posts them to the desk, several at once (flight.py).
 
 A message leaves the queue only when the desk said `ack`, or refused it for good and the broker
 confirmed it in the queue of what was refused. Whatever else happens, it is tried again: a message
 may be posted twice, which changes nothing, and none is lost. One consumer for each desk.
+
+No message holds up those behind it by what a relay wrote into it: headers decide nothing
+(reading.py), and one at which this program itself fails twice is put by as a refusal is. One that
+ends the program's process each time is put by by the broker, after as many deliveries as its policy
+says (definitions.py). So that this counts against hardly any other, the head of the queue comes
+alone after each start: each start settles at least one of the few that were posted at once, and
+then that message is the head.
 """
 
 from __future__ import annotations
 
-import dataclasses
+import contextlib
 import logging
 import os
 import signal
@@ -20,35 +27,70 @@ import pika
 from pika.adapters.blocking_connection import BlockingChannel, BlockingConnection
 from pika.exceptions import NackError, UnroutableError
 
-from desk_broker import names
+from desk_broker import names, reading
 from desk_broker.backoff import Backoff
 from desk_broker.desk import Answer, Desk, Kind
+from desk_broker.flight import Acks, Delivery, Flight
 from desk_broker.settings import AWAY, BadSettings, Broker, required
 from desk_broker.tally import Tally
 
 LOG = logging.getLogger("desk-consume")
-PREFETCH = 64
+PREFETCH = 256
 HEARTBEAT = 60  # seconds: more than a post to the desk may take
-NO_RELAY = "C1 NoRelay"  # published by an account that is no relay's
+EMPTY = 0.5  # seconds between two looks at a queue that is empty
 
 
-@dataclasses.dataclass(frozen=True)
-class Delivery:
-    """A message as it came from the queue."""
+class Link:
+    """One connection to the broker: what came over it, and what was settled of that."""
 
-    tag: int
-    relay: str | None
-    body: bytes
-    sent: float | None  # when it was published, in seconds since 1970
+    def __init__(self, connection: BlockingConnection, queue: str) -> None:
+        self.connection, self._queue = connection, queue
+        self.refusals = connection.channel()
+        self.refusals.confirm_delivery()
+        self._channel = connection.channel()
+        self._acks = Acks()
 
-    @classmethod
-    def of(cls, tag: int, properties: pika.BasicProperties, body: bytes) -> Delivery:
-        sent = (properties.headers or {}).get("sent-ms")
-        seconds = sent / 1000 if isinstance(sent, int) else None
-        return cls(tag, names.relay_of(properties.user_id), body, seconds)
+    def wake(self) -> None:
+        """Ends `wait`; any thread may call it."""
+        with contextlib.suppress(*AWAY):
+            self.connection.add_callback_threadsafe(lambda: None)
 
-    def lag(self) -> float | None:
-        return None if self.sent is None else max(0.0, time.time() - self.sent)
+    def wait(self) -> None:
+        """Waits for what comes, or until it is woken, for a while."""
+        self.connection.process_data_events(EMPTY)
+
+    def take_head(self, flight: Flight) -> bool:
+        """Takes the message at the head of the queue alone, where there is one."""
+        method, properties, body = self._channel.basic_get(self._queue)
+        if method is not None:
+            self._begin(flight, Delivery.of(method.delivery_tag, properties, body))
+        return method is not None
+
+    def take_all(self, flight: Flight) -> None:
+        """From here on takes what comes, so many at a time."""
+        self._channel.basic_qos(prefetch_count=PREFETCH)
+        self._channel.basic_consume(
+            self._queue,
+            lambda _, method, properties, body: self._begin(
+                flight, Delivery.of(method.delivery_tag, properties, body)
+            ),
+        )
+
+    def _begin(self, flight: Flight, delivery: Delivery) -> None:
+        self._acks.begin(delivery.tag)
+        flight.begin(delivery)
+
+    def is_taking(self) -> bool:
+        """Not, where the broker closed the channel, or cancelled it with its queue."""
+        return bool(self._channel.is_open and self._channel.consumer_tags)
+
+    def settle(self, delivery: Delivery) -> None:
+        self._acks.settle(delivery.tag)
+
+    def acknowledge(self) -> None:
+        """Takes off the queue what is settled, up to the first that is not."""
+        if (last := self._acks.due()) is not None:
+            self._channel.basic_ack(last, multiple=True)
 
 
 class Consumer:
@@ -60,11 +102,14 @@ class Consumer:
         self.tally = Tally(name, tell_every)
 
     def stop(self, *_: int | FrameType | None) -> None:
-        """Asks it to end after the message at hand; a handler of signals."""
+        """Asks it to end after the posts that have begun; a handler of signals."""
         self._stopping = True
 
+    def is_stopping(self) -> bool:
+        return self._stopping
+
     def run(self) -> None:
-        turn, backoff = self._broker.first_turn(), Backoff(0.2, 10.0)
+        turn, backoff = self._broker.first_turn(), Backoff(0.2, 5.0)
         while not self._stopping:
             before = self.tally.taken + self.tally.refused
             try:
@@ -84,55 +129,55 @@ class Consumer:
         connection = pika.BlockingConnection(parameters)
         try:
             LOG.info("desk %s: connected to %s", self._name, parameters.host)
-            refusals = connection.channel()
-            refusals.confirm_delivery()
-            channel = connection.channel()
-            channel.basic_qos(prefetch_count=PREFETCH)
-            queue = names.queue(self._name)
-            for method, properties, body in channel.consume(queue, inactivity_timeout=0.5):
-                if method is not None:
-                    delivery = Delivery.of(method.delivery_tag, properties, body)
-                    if self._settle(connection, refusals, delivery):
-                        channel.basic_ack(delivery.tag)
-                self.tally.tell_if_due()
-                if self._stopping:
-                    break
+            link = Link(connection, names.queue(self._name))
+            flight = Flight(self._name, self._desk, self.tally, self.is_stopping, link.wake)
+            try:
+                self._carry(link, flight)
+            finally:
+                flight.end()
         finally:
             close(connection)
 
+    def _carry(self, link: Link, flight: Flight) -> None:
+        """The head of the queue alone; once that is settled many at a time."""
+        is_open = link.take_head(flight)
+        while is_open and not self._stopping:
+            link.wait()
+            is_open = not self._settle_done(link, flight)
+        if not self._stopping:
+            link.take_all(flight)
+        while not self._stopping and link.is_taking():
+            link.wait()
+            self._settle_done(link, flight)
+            self.tally.tell_if_due()
+        if self._stopping:
+            flight.finish()
+            self._settle_done(link, flight)
+
+    def _settle_done(self, link: Link, flight: Flight) -> int:
+        """Takes off the queue what was answered; how many answers there were."""
+        count = 0
+        for delivery, answer in flight.done():
+            count += 1
+            if self._settle(link.connection, link.refusals, delivery, answer):
+                link.settle(delivery)
+        link.acknowledge()
+        return count
+
     def _settle(
-        self, connection: BlockingConnection, refusals: BlockingChannel, delivery: Delivery
+        self,
+        connection: BlockingConnection,
+        refusals: BlockingChannel,
+        delivery: Delivery,
+        answer: Answer | None,
     ) -> bool:
         """Whether the message may leave the queue; not, where it is time to stop before."""
-        answer = self._answer(connection, delivery)
         if answer is None:
             return False
         if answer.kind is Kind.REFUSED and not self._put_by(connection, refusals, delivery, answer):
             return False
         self.tally.done(answer.kind is Kind.TAKEN, delivery.lag())
         return True
-
-    def _answer(self, connection: BlockingConnection, delivery: Delivery) -> Answer | None:
-        """The desk's last word on a message, after as many tries as it takes; None: stopped."""
-        if delivery.relay is None:
-            return Answer(Kind.REFUSED, NO_RELAY)
-        backoff, begun = Backoff(0.1, 10.0), time.monotonic()
-        while True:
-            answer = self._desk.post(delivery.relay, delivery.body)
-            if answer.kind is not Kind.WAITS:
-                if backoff.tries:
-                    waited = time.monotonic() - begun
-                    LOG.info("desk %s: it goes on after %.1f s", self._name, waited)
-                return answer
-            wait = backoff.next()
-            self.tally.tried_again += 1
-            LOG.warning(
-                "desk %s: no answer (%s), try %d; the next in %.1f s",
-                self._name, answer.said, backoff.tries, wait,
-            )
-            self._pause(wait, connection)
-            if self._stopping:
-                return None
 
     def _put_by(
         self,
@@ -206,6 +251,7 @@ def main() -> int:
         return 2
     signal.signal(signal.SIGTERM, consumer.stop)
     signal.signal(signal.SIGINT, consumer.stop)
+    reading.install()
     consumer.run()
     return 0
 

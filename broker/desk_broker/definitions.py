@@ -22,6 +22,9 @@ from desk_broker import names
 
 VHOST = "/"
 NOTHING = "^$"
+# A message that ends its consumer each time leaves the queue after so many deliveries. A good one
+# stays through as many ends of a consumer whose desk is down: keep this large.
+MOST_DELIVERIES = 100
 Json = dict[str, object]
 
 
@@ -47,6 +50,21 @@ def binding(source: str, queue: str) -> Json:
     }
 
 
+def policy(desks: list[str]) -> Json:
+    """What leaves a desk's queue in another way than by its consumer goes to the refused ones: a
+    message that was given out too often, or that expired. None of them is lost on the way, which
+    needs the overflow so. As a policy it also holds for queues that are there already."""
+    names_of = "|".join(desks)
+    definition = {
+        "delivery-limit": MOST_DELIVERIES, "dead-letter-exchange": names.REFUSED,
+        "dead-letter-strategy": "at-least-once", "overflow": "reject-publish",
+    }
+    return {
+        "vhost": VHOST, "name": "desks", "pattern": rf"^desk\.({names_of})$", "apply-to": "queues",
+        "priority": 1, "definition": definition,
+    }
+
+
 def topology(desks: list[str]) -> Json:
     """Every message goes to the queue of every desk; what is refused goes to one queue."""
     queues = [names.queue(desk) for desk in desks]
@@ -58,6 +76,7 @@ def topology(desks: list[str]) -> Json:
             *(binding(names.MESSAGES, name) for name in queues),
             binding(names.REFUSED, names.REFUSED),
         ],
+        "policies": [policy(desks)],
     }
 
 
@@ -111,7 +130,7 @@ def definitions(desks: list[str], relays: list[str], passwords: pathlib.Path | N
 
 def main() -> int:
     parser = argparse.ArgumentParser(description="Prints the broker's definitions.")
-    parser.add_argument("--desks", nargs="+", required=True, type=names.label)
+    parser.add_argument("--desks", nargs="+", required=True, type=names.desk)
     parser.add_argument("--relays", nargs="*", default=[], type=names.label)
     parser.add_argument("--passwords", type=pathlib.Path, help="a folder with a file for each")
     words = parser.parse_args()

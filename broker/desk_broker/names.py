@@ -9,6 +9,10 @@ REFUSED = "desk.refused"  # the exchange, and its one queue, for what a desk ref
 RELAY_USER = "relay-"  # a relay's account at the broker is this and the relay's name
 DESK_USER = "desk-"  # so is that of a desk's consumer
 READER = "refused-reader"  # the account that may read what was refused
+# Why a consumer puts a message by without asking its desk.
+NO_RELAY = "C1 NoRelay"  # an account published it that is no relay's
+EXPIRES = "C2 Expires"  # its relay gave it a time to live, which a desk that lags would outlast
+FAILS = "C3 Fails"  # the consumer failed at it, twice, or the broker gave it out too often
 LABEL = re.compile(r"[a-z][a-z0-9-]{0,31}")
 
 
@@ -19,9 +23,22 @@ def label(text: str) -> str:
     return text
 
 
-def queue(desk: str) -> str:
+def desk(text: str) -> str:
+    """The text, where it can be the name of a desk; else a ValueError."""
+    if f"desk.{label(text)}" == REFUSED:
+        raise ValueError(f"{text!r} is no name of a desk: the queue {REFUSED} has another use")
+    return text
+
+
+def queue(name: str) -> str:
     """The queue of a desk."""
-    return f"desk.{label(desk)}"
+    return f"desk.{desk(name)}"
+
+
+def desk_of(queue: str) -> str | None:
+    """The desk whose queue this is."""
+    name = queue.removeprefix("desk.")
+    return name if queue not in (name, REFUSED) and LABEL.fullmatch(name) else None
 
 
 def relay_of(user: str | None) -> str | None:

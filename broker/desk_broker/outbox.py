@@ -4,6 +4,7 @@ from __future__ import annotations
 
 import concurrent.futures
 import contextlib
+import itertools
 import time
 from collections import deque
 
@@ -76,5 +77,7 @@ class Outbox:
             sent.settle(NotConfirmed("no desk has a queue at the broker"))
 
     def _leave(self, last: int, multiple: bool) -> list[Sent]:
-        numbers = [number for number in self._open if number <= last] if multiple else [last]
+        numbers = [last]
+        if multiple:  # (they stand in the order of their numbers)
+            numbers = list(itertools.takewhile(lambda number: number <= last, self._open))
         return [self._open.pop(number) for number in numbers if number in self._open]

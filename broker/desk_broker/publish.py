@@ -45,6 +45,7 @@ class Publisher:
         self._channel: Channel | None = None
         self._connection: pika.SelectConnection | None = None
         self._lock = threading.Lock()  # of the connection, which other threads wake
+        self._is_woken = False  # and has not heard it yet
         self._closing = threading.Event()
         self._thread = threading.Thread(target=self._run, name="desk-publish", daemon=True)
         self._thread.start()
@@ -73,9 +74,11 @@ class Publisher:
         self._thread.join(20)
 
     def _wake(self) -> None:
+        """One wake is for all that is given before it is heard."""
         with self._lock:
-            if self._connection is not None:
+            if self._connection is not None and not self._is_woken:
                 self._connection.ioloop.add_callback_threadsafe(self._go_on)
+                self._is_woken = True
 
     # All below runs in the thread of the connection.
 
@@ -128,6 +131,8 @@ class Publisher:
 
     def _go_on(self) -> None:
         """Sends what was given, as far as the window has room; or ends."""
+        with self._lock:
+            self._is_woken = False
         if self._closing.is_set():
             self._end()
         while self._channel is not None and (taken := self._outbox.take()) is not None:

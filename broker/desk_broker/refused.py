@@ -3,7 +3,9 @@
     python3 -m desk_broker.refused          # leaves them in the queue
     python3 -m desk_broker.refused --take   # takes each off the queue, once it is printed
 
-A byte of a body that is no UTF-8 is printed as `\\udcXX`.
+A byte of a body that is no UTF-8 is printed as `\\udcXX`. The headers of what a desk's consumer put
+by are the consumer's. What the broker itself put there, because it expired or was given out too
+often, has its relay's headers still: there only the broker's word counts.
 """
 
 from __future__ import annotations
@@ -16,17 +18,33 @@ from collections.abc import Iterator
 
 import pika
 
-from desk_broker import names
+from desk_broker import names, reading
 from desk_broker.settings import AWAY, BadSettings, Broker
 
 QUIET = 2.0  # seconds without a message: the queue is empty
 
 
 def line(properties: pika.BasicProperties, body: bytes) -> str:
-    headers = properties.headers or {}
-    told = {name: headers.get(name, "") for name in ("code", "desk", "relay")}
+    if str(properties.user_id).startswith(names.DESK_USER):
+        headers = properties.headers or {}
+        told = {name: str(headers.get(name, "")) for name in ("code", "desk", "relay")}
+    else:
+        told = by_broker(properties)
     told["body"] = body.decode("utf-8", "surrogateescape")
     return json.dumps(told, sort_keys=True)
+
+
+def by_broker(properties: pika.BasicProperties) -> dict[str, str]:
+    """What the broker says of a message that it put by itself. The first entry of x-death is the
+    latest, and so the broker's; where the headers cannot be read the desk is not known."""
+    deaths = (properties.headers or {}).get("x-death")
+    death = deaths[0] if isinstance(deaths, list) and deaths else {}
+    death = death if isinstance(death, dict) else {}
+    return {
+        "code": names.EXPIRES if death.get("reason") == "expired" else names.FAILS,
+        "desk": names.desk_of(str(death.get("queue", ""))) or "",
+        "relay": names.relay_of(properties.user_id) or "",
+    }
 
 
 def body_of(told: dict[str, str]) -> bytes:
@@ -54,6 +72,7 @@ def main() -> int:
     parser = argparse.ArgumentParser(description="Prints the messages that desks refused.")
     parser.add_argument("--take", action="store_true", help="take them off the queue")
     words = parser.parse_args()
+    reading.install()
     try:
         for each in lines(Broker.read(os.environ, names.READER), words.take):
             print(each, flush=True)

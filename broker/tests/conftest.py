@@ -4,6 +4,8 @@ from __future__ import annotations
 
 import http.server
 import pathlib
+import socket
+import socketserver
 import sys
 import threading
 from collections.abc import Iterator
@@ -17,8 +19,8 @@ sys.path[:0] = [str(ROOT / "broker"), str(ROOT / "scripts")]
 class Scripted(http.server.ThreadingHTTPServer):
     """Gives each POST the next reply: a status and a body, None to hang up, or seconds to wait."""
 
-    def __init__(self) -> None:
-        super().__init__(("127.0.0.1", 0), Handler)
+    def __init__(self, place: object = ("127.0.0.1", 0)) -> None:
+        super().__init__(place, Handler)
         self.replies: list[tuple[int, str] | float | None] = []
         self.seen: list[tuple[str, bytes]] = []
         self.fields: list[dict[str, str]] = []
@@ -27,6 +29,19 @@ class Scripted(http.server.ThreadingHTTPServer):
     @property
     def address(self) -> str:
         return f"http://127.0.0.1:{self.server_address[1]}"
+
+
+class ScriptedSocket(Scripted):
+    """The same at the socket of a path."""
+
+    address_family = socket.AF_UNIX
+
+    def server_bind(self) -> None:
+        socketserver.TCPServer.server_bind(self)
+
+    @property
+    def address(self) -> str:
+        return f"unix:{self.server_address}"
 
 
 class Handler(http.server.BaseHTTPRequestHandler):
@@ -53,9 +68,12 @@ class Handler(http.server.BaseHTTPRequestHandler):
         pass
 
 
-@pytest.fixture
-def scripted() -> Iterator[Scripted]:
-    server = Scripted()
+@pytest.fixture(params=["a port", "a socket"])
+def scripted(
+    request: pytest.FixtureRequest, tmp_path: pathlib.Path
+) -> Iterator[Scripted]:
+    is_socket = request.param == "a socket"
+    server = ScriptedSocket(str(tmp_path / "desk.sock")) if is_socket else Scripted()
     thread = threading.Thread(target=server.serve_forever, args=(0.02,), daemon=True)
     thread.start()
     yield server

@@ -5,9 +5,10 @@ import time
 
 import pika
 import pytest
-from desk_broker import consume
-from desk_broker.consume import Consumer, Delivery
+from desk_broker import consume, flight
+from desk_broker.consume import Consumer
 from desk_broker.desk import Answer, Kind
+from desk_broker.flight import Acks, Delivery, Flight
 from desk_broker.settings import BadSettings, Broker
 from pika.exceptions import AMQPConnectionError, NackError
 
@@ -19,11 +20,12 @@ BROKER = Broker([("127.0.0.1", 1)], "desk-a", "secret")
 class Told:
     """A desk that answers as it was told; what is left over or wanting fails the test."""
 
-    def __init__(self, answers):
-        self.answers, self.posted = list(answers), []
+    def __init__(self, answers, on_post=lambda: None):
+        self.answers, self.posted, self.on_post = list(answers), [], on_post
 
     def post(self, relay, body):
         self.posted.append((relay, body))
+        self.on_post()
         return self.answers.pop(0)
 
 
@@ -50,7 +52,9 @@ class Refusals:
 
 @pytest.fixture(autouse=True)
 def quick(monkeypatch):
-    monkeypatch.setattr(consume, "Backoff", lambda first, most: Quick())
+    for module in (consume, flight):
+        monkeypatch.setattr(module, "Backoff", lambda first, most: Quick())
+    monkeypatch.setattr(Flight, "_pause", lambda self, seconds: time.sleep(seconds / 50))
 
 
 class Quick:
@@ -64,17 +68,20 @@ class Quick:
         self.tries = 0
 
 
-def delivery(user="relay-web"):
-    properties = pika.BasicProperties(user_id=user, headers={"sent-ms": 5_000})
+def delivery(user="relay-web", **more):
+    properties = pika.BasicProperties(user_id=user, headers={"sent-ms": 5_000}, **more)
     return Delivery.of(7, properties, b"{}")
 
 
 def settle(desk, refusals=None, link=None, given=None):
     consumer = Consumer("a", desk, BROKER)
-    link = link or Link()
+    link, given = link or Link(), given or delivery()
     if link.on_sleep == "stop":
         link.on_sleep = consumer.stop
-    return consumer, consumer._settle(link, refusals or Refusals(), given or delivery())
+    if desk.on_post == "stop":
+        desk.on_post = consumer.stop
+    answer = Flight("a", desk, consumer.tally, consumer.is_stopping).judged(given)
+    return consumer, consumer._settle(link, refusals or Refusals(), given, answer)
 
 
 def test_the_relay_is_the_account_that_published():
@@ -88,6 +95,48 @@ def test_what_no_relay_published_is_refused_and_not_posted(user):
     desk, refusals = Told([]), Refusals()
     assert settle(desk, refusals, given=delivery(user))[1]
     assert refusals.published[0][2] == {"code": "C1 NoRelay", "relay": "", "desk": "a"}
+
+
+@pytest.mark.parametrize("after", ["0", "600000", ""])
+def test_what_may_expire_is_refused_and_not_posted(after):
+    desk, refusals = Told([]), Refusals()
+    assert settle(desk, refusals, given=delivery(expiration=after))[1]
+    assert refusals.published[0][2] == {"code": "C2 Expires", "relay": "web", "desk": "a"}
+
+
+class Fails(Told):
+    """A desk whose client fails so often at a message."""
+
+    def __init__(self, often, on_post=lambda: None):
+        super().__init__([TAKEN], on_post)
+        self.often = often
+
+    def post(self, relay, body):
+        if self.often:
+            self.on_post()
+            self.often -= 1
+            raise RecursionError
+        return super().post(relay, body)
+
+
+def test_what_fails_once_is_tried_again():
+    refusals = Refusals()
+    assert settle(Fails(1), refusals)[1]
+    assert refusals.published == []
+
+
+def test_what_fails_twice_is_put_by(caplog):
+    refusals = Refusals()
+    with caplog.at_level(logging.WARNING):
+        assert settle(Fails(2), refusals)[1]
+    assert refusals.published[0][2] == {"code": "C3 Fails", "relay": "web", "desk": "a"}
+    assert "failed at a message, relay web, 2 bytes, try 2 of 2" in caplog.text
+
+
+def test_stopped_before_it_fails_twice_it_leaves_the_message():
+    refusals = Refusals()
+    assert not settle(Fails(2, "stop"), refusals)[1]
+    assert refusals.published == []
 
 
 def test_it_tries_again_until_the_desk_knows():
@@ -119,8 +168,8 @@ def test_a_refusal_that_cannot_be_put_by_leaves_the_message():
 
 
 def test_stopped_while_it_waits_it_leaves_the_message():
-    desk = Told([BUSY, BUSY])
-    consumer, settled = settle(desk, link=Link("stop"))
+    desk = Told([BUSY, BUSY], "stop")
+    consumer, settled = settle(desk)
     assert not settled
     assert len(desk.posted) == 1
 
@@ -137,6 +186,86 @@ def test_it_says_why_it_waits_and_that_it_goes_on(caplog):
     said = [record.getMessage() for record in caplog.records]
     assert said[0].startswith("desk a: no answer (503 K4 Storage), try 1")
     assert said[1].startswith("desk a: it goes on after")
+
+
+class Queue:
+    """A link to a queue of these messages, which tells what is on its way at each step; it stops
+    the consumer when nothing is left."""
+
+    refusals = None
+
+    def __init__(self, bodies, at_once=3):
+        self.bodies, self.at_once, self.connection = list(bodies), at_once, Link()
+        self.tag, self.flight, self.steps, self.acks = 0, None, [], Acks()
+        self.acknowledged, self.stop = 0, None
+
+    def wake(self):
+        pass
+
+    def _give(self):
+        self.tag += 1
+        properties = pika.BasicProperties(user_id="relay-web")
+        self.acks.begin(self.tag)
+        self.flight.begin(Delivery.of(self.tag, properties, self.bodies.pop(0)))
+
+    def take_head(self, flight):
+        self.flight = flight
+        self.steps.append("head")
+        if self.bodies:
+            self._give()
+        return self.tag > 0
+
+    def take_all(self, _):
+        self.steps.append(("all", self.acknowledged))
+
+    def wait(self):
+        time.sleep(0.01)
+        while "all" in str(self.steps) and self.bodies and self.open() < self.at_once:
+            self._give()
+        if not self.bodies and not self.open():
+            self.stop()
+
+    def open(self):
+        return self.tag - self.acknowledged
+
+    def is_taking(self):
+        return True
+
+    def settle(self, delivery):
+        self.acks.settle(delivery.tag)
+
+    def acknowledge(self):
+        self.acknowledged = self.acks.due() or self.acknowledged
+
+
+def carried(desk, queue):
+    consumer = Consumer("a", desk, BROKER)
+    queue.stop = consumer.stop
+    on_its_way = Flight("a", desk, consumer.tally, consumer.is_stopping, queue.wake)
+    consumer._carry(queue, on_its_way)
+    on_its_way.end()
+    return consumer
+
+
+def test_the_head_comes_alone_and_then_many():
+    desk, queue = Told([TAKEN] * 50), Queue([b"%d" % number for number in range(50)])
+    consumer = carried(desk, queue)
+    assert queue.steps == ["head", ("all", 1)]
+    assert (queue.acknowledged, consumer.tally.taken) == (50, 50)
+    assert {body for _, body in desk.posted} == {b"%d" % number for number in range(50)}
+
+
+def test_an_empty_queue_is_taken_from_at_once():
+    queue = Queue([])
+    carried(Told([]), queue)
+    assert queue.steps == ["head", ("all", 0)]
+
+
+def test_what_is_not_settled_stays_when_it_is_time_to_stop():
+    queue = Queue([b"1", b"2"])
+    desk = Told([TAKEN, BUSY], lambda: len(desk.posted) == 2 and queue.stop())
+    consumer = carried(desk, queue)
+    assert (queue.acknowledged, consumer.tally.taken) == (1, 1)
 
 
 def test_it_reads_its_settings(tmp_path):

@@ -29,6 +29,16 @@ def test_every_queue_is_replicated_and_bound():
     }
 
 
+def test_what_leaves_a_desks_queue_goes_to_the_refused_ones():
+    [policy] = definitions.topology(["a", "b"])["policies"]
+    covered = [name for name in (*OWN, "desk.c", "deskxa") if re.search(policy["pattern"], name)]
+    assert covered == ["desk.a", "desk.b"]
+    assert policy["definition"]["dead-letter-exchange"] == names.REFUSED
+    assert policy["definition"]["dead-letter-strategy"] == "at-least-once"
+    # (fewer would put by what a desk that is down cannot take)
+    assert 100 <= policy["definition"]["delivery-limit"] <= 1_000
+
+
 def may(granted, user, right, name):
     [rights] = [each for each in granted if each["user"] == user]
     return re.search(rights[right], name) is not None
@@ -65,7 +75,7 @@ def test_a_password_is_hashed_as_the_broker_does():
     assert whole[4:] == hashlib.sha256(b"\x90\x8d\xc6\x0atest12").digest()
 
 
-@pytest.mark.parametrize("text", ["", "A", "a b", "a.b", "../a", "a\n", "x" * 33])
+@pytest.mark.parametrize("text", ["", "A", "a b", "a.b", "../a", "a\n", "x" * 33, "refused"])
 def test_no_name(text):
     with pytest.raises(ValueError, match="no name"):
         names.queue(text)

@@ -1,5 +1,9 @@
 """What a reply of the desk means, and what no reply does."""
 
+import socket
+import threading
+import time
+
 import pytest
 from desk_broker.desk import Desk, Kind, judge
 from ports import free_port
@@ -33,7 +37,7 @@ def test_judge(status, text, kind):
 
 def test_posts_to_the_relays_route(scripted):
     scripted.replies = [(200, "ack\n")]
-    assert Desk(scripted.address + "/").post("web", b'{"a":1}').kind is Kind.TAKEN
+    assert Desk(scripted.address).post("web", b'{"a":1}').kind is Kind.TAKEN
     assert scripted.seen == [("/v1/relays/web/messages", b'{"a":1}')]
     assert "Transfer-Encoding" not in scripted.fields[0]
 
@@ -67,13 +71,76 @@ def test_a_peer_that_is_silent(scripted):
     assert (answer.kind, answer.said) == (Kind.WAITS, "no reply: timed out")
 
 
+INCOMPLETE, DISCONNECTED = "no reply: IncompleteRead", "no reply: RemoteDisconnected"
+CHUNKS = b"4\r\nack\n\r\n0\r\n\r\n"
+
+
+class Raw:
+    """A peer that answers with these bytes, in pieces, and hangs up, or stays until it is told."""
+
+    def __init__(self, *pieces, stays=False):
+        self.listener = socket.create_server(("127.0.0.1", 0))
+        self.address = "http://127.0.0.1:%d" % self.listener.getsockname()[1]
+        self.pieces, self.stays, self.over = pieces, stays, threading.Event()
+        threading.Thread(target=self.serve, daemon=True).start()
+
+    def serve(self):
+        peer, _ = self.listener.accept()
+        with peer:
+            peer.recv(65_536)
+            for piece in self.pieces:
+                peer.sendall(piece)
+                time.sleep(0.02)
+            if self.stays:
+                self.over.wait(10)
+
+
+@pytest.mark.parametrize(
+    ("pieces", "kind", "said"),
+    [
+        ([b"HTTP/1.1 200 OK\r\nContent-Length: 4\r\n\r\nack\n"], Kind.TAKEN, "ack"),
+        ([b"HTTP/1.1 200 OK\r\nCon", b"tent-length:4\r\n\r\na", b"ck\n"], Kind.TAKEN, "ack"),
+        ([b"HTTP/1.0 200\r\n\r\nack", b"\n"], Kind.TAKEN, "ack"),
+        ([b"HTTP/1.1 403 No\r\nContent-Length: 12\r\n\r\nA3 NotAsker\n"], Kind.REFUSED, "A3"),
+        # cut short, longer than it says, in chunks, or none at all
+        ([b"HTTP/1.1 200 OK\r\nContent-Length: 5\r\n\r\nack\n"], Kind.WAITS, INCOMPLETE),
+        ([b"HTTP/1.1 403 No\r\nContent-Length: 12\r\n\r\nA3 Not"], Kind.WAITS, INCOMPLETE),
+        ([b"HTTP/1.1 200 OK\r\n\r\nack\nmore"], Kind.WAITS, "200 ack more"),
+        ([b"HTTP/1.1 200 OK\r\nTransfer-Encoding: chunked\r\n\r\n" + CHUNKS], Kind.WAITS, "200 4"),
+        ([b"HTTP/1.1 200 OK\r\nContent-Le"], Kind.WAITS, DISCONNECTED),
+        ([b"SSH-2.0-OpenSSH_9.2\r\n"], Kind.WAITS, DISCONNECTED),
+        ([b"x" * 9_000] * 3, Kind.WAITS, DISCONNECTED),
+    ],
+)
+def test_replies_by_their_bytes(pieces, kind, said):
+    answer = Desk(Raw(*pieces).address).post("web", b"{}")
+    assert answer.kind is kind
+    assert answer.said.startswith(said) or answer.said == "no reply: ConnectionResetError"
+
+
+def test_it_does_not_wait_for_the_end_of_a_whole_reply():
+    peer = Raw(b"HTTP/1.1 200 OK\r\nContent-Length: 4\r\n\r\nack\n", stays=True)
+    assert Desk(peer.address, patience=5).post("web", b"{}").kind is Kind.TAKEN
+    peer.over.set()
+
+
+def test_a_slash_behind_the_port():
+    assert Desk("http://127.0.0.1:1/").post("web", b"1").said == "no reply: ConnectionRefusedError"
+
+
+def test_a_socket_that_is_not_there(tmp_path):
+    answer = Desk(f"unix:{tmp_path}/desk.sock").post("web", b"{}")
+    assert (answer.kind, answer.said) == (Kind.WAITS, "no reply: FileNotFoundError")
+
+
 def test_nobody_listens():
     answer = Desk(f"http://127.0.0.1:{free_port()}").post("web", b"{}")
     assert (answer.kind, answer.said) == (Kind.WAITS, "no reply: ConnectionRefusedError")
 
 
 @pytest.mark.parametrize(
-    "address", ["", "127.0.0.1:80", "https://desk", "http://", "http://desk/v1", "http://desk:x"]
+    "address",
+    ["", "127.0.0.1:80", "https://desk", "http://", "http://desk/v1", "http://desk:x", "unix:desk"],
 )
 def test_no_address(address):
     with pytest.raises(ValueError, match="."):

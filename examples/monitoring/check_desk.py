@@ -2,25 +2,42 @@
 """Looks after a desk and a host's file: for Nagios and its like, and as a text file for Prometheus.
 
     check_desk.py --desk https://desk.example --cert auditor.pem --key auditor.key --ca ca.pem
-    --store /var/lib/desk/desk.db check_desk.py --file /etc/sudoers.d/desk                    (on a
-    host: how old its file is)
+    check_desk.py --store /var/lib/desk/desk.db           (beside the desk: its size and its disk)
+    check_desk.py --certificate /etc/desk/front/server.pem --crl /etc/desk/front/crl.pem
+                  --front-pid /run/nginx.pid              (beside the front)
+    check_desk.py --outbox /var/lib/desk-relay/outbox.db  (beside a relay: its oldest message)
+    check_desk.py --file /etc/sudoers.d/desk              (on a host: how old its file is)
 
-One line on the output, and the status 0 (all is well), 1 (somebody has to look) or 2 (the desk does
-not answer, or a host's file is too old). With --textfile the figures are written there as well, in
-one step. It asks only what an auditor's certificate may: /v1/parked and /v1/reviews/NOW.
+On the desk's machine `--desk unix:/run/desk/desk.sock` asks the desk itself, as root or as a member
+of the group desk-front, and without a certificate.
+
+Each may be given with the others. One line on the output, and the status 0 (all is well), 1
+(somebody has to look), 2 (the desk does not answer, what is looked at cannot be read, or a limit is
+passed) or 3 (the words are wrong: nothing was looked at). With --textfile the figures are written
+there as well, in one step. It asks the desk only what an auditor's certificate may: /v1/parked and
+/v1/reviews/NOW; and with `--roster` /v1/messages and /v1/grants, to remark below that line each
+grant that begins after the last day on which its asker may ask.
 """
 
 import argparse
-import contextlib
+import dataclasses
 import datetime
+import http.client
 import json
 import os
+import re
+import socket
+import sqlite3
 import ssl
+import subprocess
 import sys
 import tempfile
 import time
 import urllib.error
+import urllib.parse
 import urllib.request
+from collections.abc import Callable
+from typing import NoReturn
 
 DAY = 86_400
 HEADINGS = ("LIVE", "BARRED", "CONFLICTS", "BROAD", "PARKED")
@@ -33,17 +50,45 @@ FIGURES = {
     "desk_broad": "commands in force that are ALL or a directory",
     "desk_parked": "verdicts whose request has not come",
     "desk_parked_old": "verdicts that have waited for more than a day",
+    "desk_grants_after_last_day": "grants that begin after their asker's last day",
     "desk_store_bytes": "the size of the store and its log",
+    "desk_store_free_percent": "how much of the store's disk is free",
+    "desk_certificate_seconds": "the time until the first of the certificates ends",
+    "desk_crl_seconds": "the time until the first of the lists of revoked certificates ends",
+    "desk_outbox_waiting": "messages that a relay keeps and the desk has not answered",
+    "desk_outbox_oldest_seconds": "the age of the oldest of them",
     "desk_host_file_age_seconds": "the age of the host's file since its last fetch",
 }
+# What is looked at; each may be left out, but not all.
+LOOKED_AT = ("desk", "store", "certificate", "crl", "outbox", "file")
+# Each limit: the option, its two values, what it limits, and whether less is worse.
+LIMITS = (
+    ("days", 30, 7, "days that a certificate or a list of revoked ones still holds", True),
+    ("free", 15, 5, "percent of the store's disk that are free", True),
+    ("waits", 300, 3600, "seconds for which a relay's message waits", False),
+)
+# What one clock may be ahead of another, in seconds.
+AHEAD = 300
+
+
+class Words(argparse.ArgumentParser):
+    def error(self, message: str) -> NoReturn:
+        """Wrong words: Nagios's 'unknown'."""
+        print(f"DESK UNKNOWN - {message}")
+        sys.exit(3)
 
 
 def words() -> argparse.Namespace:
-    parser = argparse.ArgumentParser(description="Looks after a desk and a host's file.")
-    parser.add_argument("--desk", help="the desk, as https://desk.example")
+    parser = Words(description="Looks after a desk and a host's file.", allow_abbrev=False)
+    parser.add_argument(
+        "--desk", help="the desk, as https://desk.example or unix:/run/desk/desk.sock"
+    )
     parser.add_argument("--cert", help="an auditor's certificate")
     parser.add_argument("--key", help="its key")
     parser.add_argument("--ca", help="the authority of the front's certificate")
+    parser.add_argument(
+        "--roster", help="the desk's roster: remark grants that begin after their asker's last day"
+    )
     parser.add_argument("--store", help="the store, where this runs beside the desk")
     parser.add_argument(
         "--store-most",
@@ -51,6 +96,21 @@ def words() -> argparse.Namespace:
         default=1 << 30,
         help="bytes of the store that are too many (1 GiB)",
     )
+    parser.add_argument(
+        "--certificate", action="append", help="a file of certificates (may be given again)"
+    )
+    parser.add_argument(
+        "--crl", action="append", help="a list of revoked certificates (may be given again)"
+    )
+    parser.add_argument(
+        "--front-pid",
+        help="the front's file with its process: it has to have read these certificates and lists",
+    )
+    parser.add_argument("--outbox", help="a relay's outbox.db")
+    for name, warning, critical, what, _ in LIMITS:
+        for level, value in (("warning", warning), ("critical", critical)):
+            said = f"{what}: the limit of a {level} ({value})"
+            parser.add_argument(f"--{name}-{level}", type=int, default=value, help=said)
     parser.add_argument("--file", help="a host's sudoers file")
     parser.add_argument(
         "--file-age", type=int, default=3600, help="seconds after which the file is too old (3600)"
@@ -60,12 +120,61 @@ def words() -> argparse.Namespace:
         help="a file of Prometheus's node exporter, as /var/lib/node_exporter/desk.prom",
     )
     given = parser.parse_args()
-    if not (given.desk or given.file):
-        parser.error("name a desk, a host's file, or both")
+    check_words(parser, given)
     return given
 
 
+def check_words(parser: Words, given: argparse.Namespace) -> None:
+    """An empty word is a variable of a script's that has no value: it must not look as if all were
+    well."""
+    for name, value in vars(given).items():
+        if value == "" or isinstance(value, list) and "" in value:
+            parser.error(f"--{name.replace('_', '-')} has an empty value")
+    if not any(getattr(given, name) for name in LOOKED_AT):
+        parser.error("name what to look at: " + ", ".join(f"--{name}" for name in LOOKED_AT))
+    if given.roster and not given.desk:
+        parser.error("--roster needs a --desk")
+    if given.front_pid and not (given.certificate or given.crl):
+        parser.error("--front-pid needs a --certificate or a --crl")
+    for name, _, _, _, is_less_worse in LIMITS:
+        warning, critical = getattr(given, f"{name}_warning"), getattr(given, f"{name}_critical")
+        if min(warning, critical) < 0:
+            parser.error(f"--{name}-warning and --{name}-critical are 0 or more")
+        if warning < critical if is_less_worse else warning > critical:
+            parser.error(f"--{name}-warning comes after --{name}-critical")
+
+
+class SocketConnection(http.client.HTTPConnection):
+    """A connection to the socket of a path."""
+
+    def __init__(self, path: str, timeout: float) -> None:
+        super().__init__("localhost", timeout=timeout)
+        self.path = path
+
+    def connect(self) -> None:
+        self.sock = socket.socket(socket.AF_UNIX)
+        self.sock.settimeout(self.timeout)
+        self.sock.connect(self.path)
+
+
+def ask_socket(path: str, route: str) -> str:
+    client = SocketConnection(path, 30)
+    try:
+        client.request("GET", route)
+        reply = client.getresponse()
+        text = reply.read().decode()
+    except http.client.HTTPException as fault:
+        raise ValueError(f"no reply: {type(fault).__name__}") from None
+    finally:
+        client.close()
+    if reply.status != 200:
+        raise ValueError(f"it answers {reply.status}, {text.strip()}")
+    return text
+
+
 def ask(given: argparse.Namespace, route: str) -> str:
+    if given.desk.startswith("unix:"):
+        return ask_socket(given.desk.removeprefix("unix:"), route)
     context = None
     if given.desk.startswith("https:"):
         context = ssl.create_default_context(cafile=given.ca)
@@ -94,7 +203,12 @@ def sections(report: str) -> dict[str, list[str]]:
 def of_desk(given: argparse.Namespace, now: float) -> dict[str, int]:
     """The figures of what the desk answers."""
     parked = ask(given, "/v1/parked").splitlines()
-    report = sections(ask(given, f"/v1/reviews/{stamp(now)}"))
+    text = ask(given, f"/v1/reviews/{stamp(now)}")
+    # (a page of something before the desk is no report, and must not be taken for an empty one)
+    lines = text.splitlines()
+    if lines[:1] != [f"REVIEW {stamp(now)}"] or not set(HEADINGS) <= set(lines):
+        raise ValueError("what comes is not a report")
+    report = sections(text)
     return {
         "desk_up": 1,
         "desk_grants": len(report["LIVE"]),
@@ -106,60 +220,234 @@ def of_desk(given: argparse.Namespace, now: float) -> dict[str, int]:
     }
 
 
+def last_day(roster: dict, person: str, duty: str) -> str:
+    """The last day on which somebody holds a duty; nothing where there is none."""
+    days = [""]
+    for entry in roster["people"].get(person, []):
+        if entry == duty:
+            return "99991231"
+        if isinstance(entry, dict) and entry["duty"] == duty:
+            days.append(entry["until"])
+    return max(days)
+
+
+def late_grants(given: argparse.Namespace, now: float) -> list[str]:
+    """Each grant, now or to come, that begins after the last day on which its asker holds the duty
+    that the ceiling asks for."""
+    # (hosts, which need none of this, may have a Python before 3.11)
+    import tomllib
+
+    with open(given.roster, "rb") as file:
+        roster = tomllib.load(file)
+    moments = {stamp(now)}
+    for line in ask(given, "/v1/messages").splitlines():
+        it = json.loads(line)
+        if it["kind"] == "request" and it["from"] > stamp(now):
+            ceiling = roster["ceilings"].get(it["ceiling"])
+            if ceiling and it["from"][:8] > last_day(roster, it["by"], ceiling["ask"]):
+                moments.add(it["from"])
+    found = set()
+    for moment in sorted(moments):
+        for line in ask(given, f"/v1/grants/{moment}").splitlines():
+            person, number, ceiling, first, _ = line.split()
+            day = last_day(roster, person, roster["ceilings"][ceiling]["ask"])
+            if first[:8] > day:
+                said = f"{person}'s last day is {day or 'none'}"
+                found.add(f"{person} {number} begins at {first}, and {said}")
+    return sorted(found)
+
+
 def size(store: str) -> int:
     return sum(os.path.getsize(path) for path in (store, f"{store}-wal") if os.path.exists(path))
 
 
-def gather(given: argparse.Namespace, now: float) -> tuple[dict[str, int], list[str]]:
-    """The figures, and what could not be found out."""
-    figures: dict[str, int] = {}
-    faults: list[str] = []
+def free(path: str) -> int:
+    """How many percent of a file's disk are free for those who are not root: of its bytes, or of
+    its files, whichever is less."""
+    disk = os.statvfs(path)
+    shares = [(disk.f_bavail, disk.f_blocks), (disk.f_favail, disk.f_files)]
+    return min(100 * left // whole for left, whole in shares if whole)
+
+
+def date_of(kind: str, option: str, name: str, text: str) -> float:
+    """A date that openssl tells of a certificate (`x509`) or a list of revoked ones (`crl`)."""
+    words = ["openssl", kind, "-noout", option]
+    ran = subprocess.run(words, input=text, capture_output=True, text=True, check=False)
+    found = re.fullmatch(rf"{name}=(.*)\n", ran.stdout)
+    if ran.returncode or not found:
+        raise ValueError(f"openssl {kind} finds no {name} there")
+    return ssl.cert_time_to_seconds(found[1])
+
+
+def certificate_end(path: str, now: float) -> float:
+    """When the first of a file's certificates ends."""
+    with open(path, encoding="latin-1") as file:
+        parts = re.split(r"^(?=-----BEGIN )", file.read(), flags=re.MULTILINE)
+    certificates = [part for part in parts if re.match(r"-----BEGIN [A-Z ]*CERTIFICATE-", part)]
+    if not certificates:
+        raise ValueError("it has no certificate")
+    if any(date_of("x509", "-startdate", "notBefore", it) > now + AHEAD for it in certificates):
+        raise ValueError("it does not hold yet")
+    return min(date_of("x509", "-enddate", "notAfter", it) for it in certificates)
+
+
+def crl_end(path: str, now: float) -> float:
+    with open(path, encoding="latin-1") as file:
+        text = file.read()
+    if date_of("crl", "-lastupdate", "lastUpdate", text) > now + AHEAD:
+        raise ValueError("it does not hold yet")
+    return date_of("crl", "-nextupdate", "nextUpdate", text)
+
+
+def started(process: int) -> float:
+    """When a process started."""
+    with open(f"/proc/{process}/stat", encoding="latin-1") as file:
+        ticks = int(file.read().rpartition(")")[2].split()[19])
+    since_boot = ticks / os.sysconf("SC_CLK_TCK")
+    return time.time() - time.clock_gettime(time.CLOCK_BOOTTIME) + since_boot
+
+
+def front_started(path: str) -> float:
+    """When the oldest process of a front started that serves. (A reload begins new ones; an old one
+    that still has connections goes by what it read.)"""
+    with open(path, encoding="ascii") as file:
+        first = int(file.read().split()[0])
+    with open(f"/proc/{first}/task/{first}/children", encoding="ascii") as file:
+        workers = [int(word) for word in file.read().split()]
+    return min(map(started, workers or [first]))
+
+
+def waiting(path: str, now: float) -> tuple[int, int]:
+    """How many messages an outbox keeps that the desk has not answered, and the age of the oldest
+    one."""
+    os.stat(path)
+    base = sqlite3.connect(f"file:{urllib.parse.quote(path)}?mode=ro", uri=True, timeout=20)
+    try:
+        bodies = [row[0] for row in base.execute("SELECT body FROM messages WHERE state = 'kept'")]
+    finally:
+        base.close()
+    texts = [json.loads(body)["at"] for body in bodies]
+    moments = [datetime.datetime.strptime(text, "%Y%m%d%H%M%S%z") for text in texts]
+    return len(bodies), max((int(now - it.timestamp()) for it in moments), default=0)
+
+
+@dataclasses.dataclass
+class Found:
+    """The figures, and what is wrong."""
+
+    given: argparse.Namespace
+    now: float
+    figures: dict[str, int] = dataclasses.field(default_factory=dict)
+    critical: list[str] = dataclasses.field(default_factory=list)
+    warning: list[str] = dataclasses.field(default_factory=list)
+    remarks: list[str] = dataclasses.field(default_factory=list)
+
+    def look(self, at: str, part: Callable[[str], None]) -> None:
+        """Looks at a file; where it cannot be read, that is critical."""
+        try:
+            part(at)
+        except FileNotFoundError as fault:
+            self.critical.append(f"there is no {fault.filename or at}")
+        except PermissionError:
+            self.critical.append(f"cannot look at {at} (Permission denied): run as root or desk")
+        except (OSError, ValueError, KeyError, TypeError, sqlite3.Error) as fault:
+            self.critical.append(f"cannot look at {at}: {fault}")
+
+    def limit(self, name: str, value: int, said: str) -> None:
+        """Compares a value with a limit's two values."""
+        is_less_worse = next(row[4] for row in LIMITS if row[0] == name)
+        for level in ("critical", "warning"):
+            most = getattr(self.given, f"{name}_{level}")
+            if value < most if is_less_worse else value > most:
+                getattr(self, level).append(said)
+                break
+
+    def least(self, name: str, value: float) -> None:
+        """A figure of which the least counts; what is past is 0."""
+        self.figures[name] = min(self.figures.get(name, sys.maxsize), max(0, int(value)))
+
+    def desk(self) -> None:
+        try:
+            self.figures |= of_desk(self.given, self.now)
+        except (OSError, ValueError, KeyError, TypeError) as fault:
+            self.figures["desk_up"] = 0
+            self.critical.append(f"{self.given.desk} does not answer: {fault}")
+        for name, said in (
+            ("desk_conflicts", "conflicting duties held by one person"),
+            ("desk_grants_needless", "needless grants"),
+            ("desk_broad", "broad commands in force"),
+            ("desk_parked_old", "verdicts waiting for more than a day"),
+        ):
+            if self.figures.get(name):
+                self.warning.append(f"{self.figures[name]} {said}")
+
+    def roster(self, path: str) -> None:
+        self.remarks = late_grants(self.given, self.now)
+        self.figures["desk_grants_after_last_day"] = len(self.remarks)
+
+    def store(self, path: str) -> None:
+        os.stat(path)
+        self.figures["desk_store_bytes"] = size(path)
+        self.figures["desk_store_free_percent"] = left = free(path)
+        if size(path) > self.given.store_most:
+            self.warning.append(f"the store has {size(path)} bytes")
+        self.limit("free", left, f"{left} % of the store's disk are free")
+
+    def certificate(self, path: str) -> None:
+        self.holds_until("desk_certificate_seconds", path, certificate_end(path, self.now))
+
+    def crl(self, path: str) -> None:
+        self.holds_until("desk_crl_seconds", path, crl_end(path, self.now))
+
+    def holds_until(self, name: str, path: str, end: float) -> None:
+        left = end - self.now
+        self.least(name, left)
+        said = f"{path} ends in {int(left // DAY)} days" if left > 0 else f"{path} has ended"
+        self.limit("days", int(left // DAY), said)
+
+    def front_pid(self, path: str) -> None:
+        began = front_started(path)
+        for file in (self.given.certificate or []) + (self.given.crl or []):
+            if os.path.getmtime(file) > began:
+                self.critical.append(f"{file} is newer than what the front has read: restart it")
+
+    def outbox(self, path: str) -> None:
+        count, age = waiting(path, self.now)
+        self.figures |= {"desk_outbox_waiting": count, "desk_outbox_oldest_seconds": max(0, age)}
+        if age < -AHEAD:
+            raise ValueError("it has a message from the future: look at the clock")
+        self.limit("waits", age, f"{count} messages wait in {path}, one for {age} seconds")
+
+    def file(self, path: str) -> None:
+        age = int(self.now - os.path.getmtime(path))
+        if age < -AHEAD:
+            raise ValueError("it is from the future: look at the clock")
+        self.figures["desk_host_file_age_seconds"] = max(0, age)
+        if age > self.given.file_age:
+            self.critical.append(
+                f"{path} was fetched {age} seconds ago: look at desk-fetch on this host"
+            )
+
+
+def gather(given: argparse.Namespace, now: float) -> Found:
+    found = Found(given, now)
     if given.desk:
-        try:
-            figures |= of_desk(given, now)
-        except (OSError, ValueError, KeyError) as fault:
-            figures["desk_up"] = 0
-            faults.append(f"{given.desk} does not answer: {fault}")
-    if given.store:
-        try:
-            os.stat(given.store)
-            figures["desk_store_bytes"] = size(given.store)
-        except FileNotFoundError:
-            faults.append(f"there is no store {given.store}")
-        except OSError as fault:
-            faults.append(f"cannot look at {given.store} ({fault.strerror}): run as root or desk")
-    if given.file:
-        try:
-            figures["desk_host_file_age_seconds"] = max(0, int(now - os.path.getmtime(given.file)))
-        except OSError as fault:
-            faults.append(f"no host's file: {fault}")
-    return figures, faults
+        found.desk()
+    if given.roster and found.figures["desk_up"]:
+        found.look(given.roster, found.roster)
+    for part in ("store", "certificate", "crl", "front_pid", "outbox", "file"):
+        named = getattr(given, part) or []
+        for path in [named] if isinstance(named, str) else named:
+            found.look(path, getattr(found, part))
+    return found
 
 
-def verdict(
-    given: argparse.Namespace, figures: dict[str, int], faults: list[str]
-) -> tuple[int, str]:
+def verdict(found: Found) -> tuple[int, str]:
     """The status, and the line that says why."""
-    critical, warning = list(faults), []
-    age = figures.get("desk_host_file_age_seconds", 0)
-    if age > given.file_age:
-        critical.append(
-            f"{given.file} was fetched {age} seconds ago: look at desk-fetch on this host"
-        )
-    if figures.get("desk_store_bytes", 0) > given.store_most:
-        warning.append(f"the store has {figures['desk_store_bytes']} bytes")
-    for name, said in (
-        ("desk_conflicts", "conflicting duties held by one person"),
-        ("desk_grants_needless", "needless grants"),
-        ("desk_broad", "broad commands in force"),
-        ("desk_parked_old", "verdicts waiting for more than a day"),
-    ):
-        if figures.get(name):
-            warning.append(f"{figures[name]} {said}")
-    if critical:
-        return 2, "DESK CRITICAL - " + "; ".join(critical + warning)
-    if warning:
-        return 1, "DESK WARNING - " + "; ".join(warning)
+    if found.critical:
+        return 2, "DESK CRITICAL - " + "; ".join(found.critical + found.warning)
+    if found.warning:
+        return 1, "DESK WARNING - " + "; ".join(found.warning)
     return 0, "DESK OK"
 
 
@@ -175,14 +463,24 @@ def write_textfile(path: str, figures: dict[str, int]) -> None:
 
 def main() -> int:
     given = words()
-    figures, faults = gather(given, time.time())
-    status, line = verdict(given, figures, faults)
+    found = gather(given, time.time())
     if given.textfile:
-        with contextlib.suppress(OSError):
-            write_textfile(given.textfile, figures)
-    print(line + " |" + "".join(f" {name}={value}" for name, value in figures.items()))
+        try:
+            write_textfile(given.textfile, found.figures)
+        except OSError as fault:
+            found.critical.append(f"cannot write {given.textfile}: {fault.strerror}")
+    status, line = verdict(found)
+    # (one line, and behind the first bar the figures)
+    line = " ".join(line.split()).replace("|", "/")
+    print(line + " |" + "".join(f" {name}={value}" for name, value in found.figures.items()))
+    # (Nagios's long output: it changes no status)
+    print("".join(f"{remark}\n" for remark in found.remarks), end="")
     return status
 
 
 if __name__ == "__main__":
-    sys.exit(main())
+    try:
+        sys.exit(main())
+    except Exception as fault:  # whatever it is, nobody may take it for a warning
+        print(f"DESK UNKNOWN - {type(fault).__name__}: {fault}")
+        sys.exit(3)

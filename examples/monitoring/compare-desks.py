@@ -4,7 +4,7 @@
     compare-desks.py answers ROSTER URL URL.. [--at MOMENT].. [--patience SECONDS]
 
 asks each desk for every host's file, for the verdicts that wait, and for the report at each
-moment, and compares the digests. Messages that are still in a desk's queue make it differ: it is
+moment, and compares the digests. A URL is http://HOST:PORT, or unix:/PATH for the desk's socket. Messages that are still in a desk's queue make it differ: it is
 asked again until all agree, or the patience is over. Status 0: they agree; 1: they differ; 2: one
 did not answer.
 
@@ -21,7 +21,10 @@ from __future__ import annotations
 
 import argparse
 import concurrent.futures
+import contextlib
 import hashlib
+import http.client
+import socket
 import sys
 import time
 import tomllib
@@ -37,11 +40,36 @@ class NoAnswer(Exception):
     """A desk did not answer, or not with 200."""
 
 
+class SocketConnection(http.client.HTTPConnection):
+    """A connection to the socket of a path."""
+
+    def __init__(self, path: str, timeout: float) -> None:
+        super().__init__("localhost", timeout=timeout)
+        self.path = path
+
+    def connect(self) -> None:
+        self.sock = socket.socket(socket.AF_UNIX)
+        self.sock.settimeout(self.timeout)
+        self.sock.connect(self.path)
+
+
+def fetch(url: str, target: str) -> bytes:
+    """The body of a reply 200."""
+    if not url.startswith("unix:"):
+        with OPENER.open(url.rstrip("/") + target, timeout=60) as reply:
+            return reply.read()
+    with contextlib.closing(SocketConnection(url.removeprefix("unix:"), 60)) as client:
+        client.request("GET", target)
+        reply = client.getresponse()
+        if reply.status != 200:
+            raise NoAnswer(f"{url}{target}: {reply.status}")
+        return reply.read()
+
+
 def digest(url: str, target: str) -> str:
     try:
-        with OPENER.open(url.rstrip("/") + target, timeout=60) as reply:
-            return hashlib.sha256(reply.read()).hexdigest()
-    except (urllib.error.URLError, OSError) as error:
+        return hashlib.sha256(fetch(url, target)).hexdigest()
+    except (urllib.error.URLError, http.client.HTTPException, OSError) as error:
         raise NoAnswer(f"{url}{target}: {error}") from error
 
 

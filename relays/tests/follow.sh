@@ -15,10 +15,25 @@ clone=$root/root/clone
 mkdir -p "$clone" "$root/etc/desk" "$root/run/sshd" "$root/tmp"
 chmod 1777 "$root/tmp"
 cp -r "$here/relays" "$here/examples" "$here/docs" "$clone/"
+# What the package would put in place, and its script.
+(cd "$here" && PREFIX=/usr DESTDIR=$folder/tree bash scripts/install.sh > /dev/null)
+mkdir "$root/root/package"
+(cd "$folder/tree" && xargs tar -c < "$here/packaging/debian/steelnewt-relay.install") |
+    tar -x -C "$root/root/package" --no-same-owner
+cp "$here/packaging/debian/steelnewt-relay.postinst" "$root/root/postinst"
 cp "$desk" "$clone/desk"
-cp "$here/examples/roster.toml" "$root/etc/desk/site.roster"
-# (the packages are there, and there is no systemd: the first two lines stand for theirs)
-printf '#!/bin/sh\nexit 0\n' > "$root/usr/local/sbin/apt-get"
+cp "$here/examples/roster.toml" "$root/etc/desk/roster.toml"
+# (what apt needs of Debian is there, and there is no systemd: these lines stand for theirs)
+cat > "$root/usr/local/sbin/apt" <<'E'
+#!/bin/sh
+case $* in *steelnewt-relay_*)
+    tar -C /root/package -c . | tar -C / -x --keep-directory-symlink
+    sh /root/postinst configure ''
+    ;;
+esac
+E
+# (dpkg knows no such package here)
+printf '#!/bin/sh\nexit 0\n' > "$root/usr/local/sbin/py3compile"
 cp "$here/relays/tests/systemctl.sh" "$root/usr/local/sbin/systemctl"
-chmod 755 "$root/usr/local/sbin/apt-get" "$root/usr/local/sbin/systemctl"
+chmod 755 "$root/usr/local/sbin/"{apt,py3compile,systemctl}
 exec chroot "$root" /bin/bash /root/clone/relays/tests/followed.sh

@@ -14,6 +14,7 @@ NGINX = "/usr/sbin/nginx"
 EXAMPLE = ROOT / "relays" / "front.example.conf"
 CONFIG = """\
 daemon off;
+user root;
 pid {folder}/nginx.pid;
 error_log {folder}/nginx.log;
 worker_processes 1;
@@ -33,7 +34,7 @@ SERVER = """\
     server {{
         listen 127.0.0.1:{port};
         location / {{
-            proxy_pass http://127.0.0.1:{page};
+            proxy_pass http://unix:{page};
             proxy_set_header Host $http_host;
             proxy_set_header X-Desk-Person {person};
             proxy_set_header X-Desk-Front {secret};
@@ -63,10 +64,10 @@ class Front:
         self.certificate("minted", people[0], "/CN=bob")
         with open(self.path("minted.pem"), "a", encoding="ascii") as file:
             file.write((self.folder / f"{people[0]}.pem").read_text())
-        values = {"folder": self.folder, "page": site.page, "secret": SECRET}
+        values = {"folder": self.folder, "page": site.socket, "secret": SECRET}
         (self.folder / "page.front").write_text(f"proxy_set_header X-Desk-Front {SECRET};\n")
         shipped = EXAMPLE.read_text().replace("8443", f"127.0.0.1:{self.tls}")
-        shipped = shipped.replace("127.0.0.1:8090", f"127.0.0.1:{site.page}")
+        shipped = shipped.replace("/run/desk-relay/page.sock", str(site.socket))
         shipped = shipped.replace("people-ca.pem", "people.pem").replace(
             "/etc/desk", str(self.folder)
         )

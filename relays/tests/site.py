@@ -1,5 +1,6 @@
 """A small site for tests: a desk that is served, a relay's settings, and its program."""
 
+import http.client
 import json
 import os
 import signal
@@ -10,7 +11,7 @@ import time
 from contextlib import closing
 from pathlib import Path
 
-from scripts.ports import free_ports
+from relays.desk import Desk
 
 ROOT = Path(__file__).resolve().parents[2]
 DESK = os.environ.get("DESK", str(ROOT / "build" / "desk"))
@@ -18,17 +19,19 @@ RELAY = str(ROOT / "relays" / "desk-relay")
 ROSTER = ROOT / "examples" / "roster.toml"
 BASE = ROOT / "examples" / "site.sudo"
 SETTINGS = """\
-desk = "http://127.0.0.1:{port}"
+desk = "unix:{folder}/desk.sock"
 relay = "chat"
 roster = "{folder}/site.roster"
 outbox = "{folder}/outbox.db"
 zone = "Europe/Berlin"
 auditors = "audit"
 [page]
-listen = "127.0.0.1:{page}"
+listen = "unix:{folder}/page.sock"
 secret = "{folder}/page.secret"
+signing_key = "{folder}/page.key"
 """
 SECRET = "0123456789abcdef0123456789abcdef"
+SIGNING_KEY = "fedcba9876543210fedcba9876543210"
 
 
 def wait_for_port(port: int, seconds: float = 120.0) -> None:
@@ -42,22 +45,36 @@ def wait_for_port(port: int, seconds: float = 120.0) -> None:
     raise TimeoutError(f"nothing listens at port {port}")
 
 
+class PageConnection(http.client.HTTPConnection):
+    """A connection to a page's socket, past the front."""
+
+    def __init__(self, path: Path) -> None:
+        super().__init__("page", timeout=60)
+        self.path = str(path)
+
+    def connect(self) -> None:
+        self.sock = socket.socket(socket.AF_UNIX)
+        self.sock.settimeout(60)
+        self.sock.connect(self.path)
+
+
 class Site:
     """A desk over a file, and a relay beside it."""
 
     def __init__(self, folder: Path) -> None:
-        self.folder, (self.port, self.page) = folder, free_ports(2)
+        self.folder = folder
         self.desk: subprocess.Popen[str] | None = None
         self.started: list[subprocess.Popen[bytes]] = []
         (folder / "site.roster").write_bytes(ROSTER.read_bytes())
-        (folder / "page.secret").write_text(SECRET + "\n")
-        self.config = folder / "relay.toml"
-        values = {"port": self.port, "folder": folder, "page": self.page}
-        self.config.write_text(SETTINGS.format(**values))
+        for name, key in (("page.secret", SECRET), ("page.key", SIGNING_KEY)):
+            (folder / name).write_text(key + "\n")
+            (folder / name).chmod(0o600)
+        self.config, self.socket = folder / "relay.toml", folder / "page.sock"
+        self.config.write_text(SETTINGS.format(folder=folder))
 
     @property
     def url(self) -> str:
-        return f"http://127.0.0.1:{self.port}"
+        return f"unix:{self.folder}/desk.sock"
 
     @property
     def store(self) -> Path:
@@ -65,11 +82,15 @@ class Site:
 
     def start_desk(self) -> None:
         words = [DESK, "serve", str(self.folder / "site.roster"), str(BASE), str(self.store)]
-        words.append(f"127.0.0.1:{self.port}")
+        words.append(self.url)
         self.desk = subprocess.Popen(words, stdout=subprocess.PIPE, text=True)
         assert self.desk.stdout
         first = self.desk.stdout.readline()
-        assert first == f"listening 127.0.0.1:{self.port}\n", first
+        assert first == f"listening {self.url}\n", first
+
+    def ask(self, route: str) -> str:
+        """What the desk answers to a question."""
+        return Desk(self.url, "chat", None, None).exchange("GET", route).text
 
     def stop_desk(self) -> None:
         if self.desk:
@@ -86,6 +107,23 @@ class Site:
             job = subprocess.Popen([RELAY, "--config", str(self.config), *words], stderr=log)
         self.started.append(job)
         return job
+
+    def start_page(self) -> subprocess.Popen[bytes]:
+        """The page, once it listens."""
+        job, until = self.start("page"), time.monotonic() + 60
+        while time.monotonic() < until:
+            with socket.socket(socket.AF_UNIX) as peer:
+                if peer.connect_ex(str(self.socket)) == 0:
+                    return job
+            time.sleep(0.05)
+        raise TimeoutError((self.folder / "page.log").read_text())
+
+    def ask_page(self, path: str, headers: dict[str, str]) -> tuple[int, str]:
+        """What the page answers to whoever reaches its socket."""
+        with closing(PageConnection(self.socket)) as peer:
+            peer.request("GET", path, headers=headers)
+            reply = peer.getresponse()
+            return reply.status, reply.read().decode("utf-8")
 
     def close(self) -> None:
         for job in self.started:

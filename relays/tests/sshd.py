@@ -5,10 +5,11 @@ import pwd
 import subprocess
 from pathlib import Path
 
-from relays.tests.site import RELAY, Site, wait_for_port
+from relays.tests.site import RELAY, ROOT, Site, wait_for_port
 from scripts.ports import free_port
 
 SSHD = "/usr/sbin/sshd"
+PERSON = str(ROOT / "relays" / "desk-relay-person")
 CONFIG = """\
 ListenAddress 127.0.0.1:{port}
 HostKey {folder}/host
@@ -39,16 +40,20 @@ class Sshd:
             keygen("-t", "ed25519", "-N", "", "-C", name, "-f", str(self.folder / name))
         public = self.folder / f"{certified}.pub"
         keygen("-s", str(self.folder / "ca"), "-I", "id", "-n", certified, str(public))
-        lines = [
-            f"{self.options(it)} {(self.folder / it).with_suffix('.pub').read_text()}"
-            for it in keys
-        ]
-        (self.folder / "authorized_keys").write_text("".join(lines))
+        for name in keys:
+            self.person("add", "--config", str(self.config), name, str(self.folder / f"{name}.pub"))
         principal = f"{self.options(certified)} {certified}\n"
         (self.folder / "authorized_principals").write_text(principal)
         config = CONFIG.format(port=self.port, folder=self.folder)
         (self.folder / "sshd_config").write_text(config)
         self.start()
+
+    def person(self, *words: str, status: int = 0) -> str:
+        """Runs desk-relay-person over this daemon's file of keys: what it says."""
+        keys = ["--keys", str(self.folder / "authorized_keys")]
+        ran = subprocess.run([PERSON, *keys, *words], capture_output=True, text=True, check=False)
+        assert ran.returncode == status, ran
+        return ran.stdout + ran.stderr
 
     def options(self, person: str) -> str:
         return f'restrict,pty,command="{RELAY} --config {self.config} --person {person}"'

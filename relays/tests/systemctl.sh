@@ -1,14 +1,21 @@
 #!/bin/sh
-# What systemd would do of a unit, in a test: starts its ExecStart as its User.
+# What systemd would do of a unit, in a test: starts its ExecStart as its User and Group, with its
+# RuntimeDirectory.
 set -eu
 case $1 in
     enable)
-        unit=/etc/systemd/system/$3.service
+        unit=/lib/systemd/system/$3.service
         line=$(sed -n 's/^ExecStart=//p' "$unit")
         user=$(sed -n 's/^User=//p' "$unit")
+        group=$(sed -n 's/^Group=//p' "$unit")
+        group=${group:-$user}
+        run=$(sed -n 's/^RuntimeDirectory=//p' "$unit")
+        mode=$(sed -n 's/^RuntimeDirectoryMode=//p' "$unit")
+        [ -z "$run" ] || install -d -o "$user" -g "$group" -m "${mode:-0755}" "/run/$run"
         # shellcheck disable=SC2086
-        setsid setpriv --reuid "$user" --regid "$user" --init-groups env -i PATH=/usr/bin:/bin \
+        setsid setpriv --reuid "$user" --regid "$group" --init-groups env -i PATH=/usr/bin:/bin \
             $line > "/tmp/$3.log" 2>&1 < /dev/null &
+        echo $! > "/tmp/$3.pid"
         ;;
     reload) setsid "$2" < /dev/null > /dev/null 2>&1 & ;;
 esac

@@ -6,7 +6,6 @@ from collections.abc import Iterator
 from pathlib import Path
 
 import pytest
-import requests
 from selenium import webdriver
 from selenium.common.exceptions import NoSuchElementException, StaleElementReferenceException
 from selenium.webdriver.chrome.service import Service
@@ -17,7 +16,7 @@ from selenium.webdriver.support.wait import WebDriverWait
 from relays.moments import now, of_stamp, stamp
 from relays.tests import sudo_says
 from relays.tests.front import Front
-from relays.tests.site import ROOT, Site, wait_for_port
+from relays.tests.site import ROOT, Site
 
 SHOTS = ROOT / "build" / "relays-screenshots"
 # The contrast of each text with what is behind it, by WCAG 2: 4.5, and 3 for large texts.
@@ -62,8 +61,7 @@ def fronted(tmp_path_factory: pytest.TempPathFactory) -> Iterator[tuple[Site, Fr
     site = Site(tmp_path_factory.mktemp("browser"))
     try:
         site.start_desk()
-        site.start("page")
-        wait_for_port(site.page)
+        site.start_page()
         front = Front(site, ["ann", "bob", "dave"])
         yield site, front
         front.stop()
@@ -104,7 +102,7 @@ def press(driver: webdriver.Chrome, selector: str) -> None:
 
 
 def fetched(site: Site) -> str:
-    return requests.get(f"{site.url}/v1/hosts/db1/sudoers", timeout=60).text
+    return site.ask("/v1/hosts/db1/sudoers")
 
 
 def test_a_grants_life_in_two_browsers(
@@ -231,6 +229,28 @@ def test_labels_and_headings(
     assert all(it.accessible_name for it in ann.find_elements(By.TAG_NAME, "svg"))
 
 
+def on_a_phone(driver: webdriver.Chrome, front: Front) -> None:
+    """Each page at 360 pixels: nothing stands beside the screen, and what is pressed is large."""
+    screen = {"width": 360, "height": 780, "deviceScaleFactor": 1, "mobile": True}
+    driver.execute_cdp_cmd("Emulation.setDeviceMetricsOverride", screen)
+    asked = "/verdict?kind=revoke&of=ann&no=1"
+    for name, url in (
+        ("home", front.url("bob")), ("revoke", front.url("bob") + asked),
+        ("mine", front.url("ann")), ("again", front.url("ann") + "/again?no=1"),
+        ("history", front.url("ann") + "/history"),
+    ):  # fmt: skip
+        driver.get(url)
+        size = "return [document.documentElement.scrollWidth, document.body.scrollHeight]"
+        wide, high = driver.execute_script(size)
+        assert wide <= 360, (name, wide)
+        whole = screen | {"height": min(high, 4000)}
+        driver.execute_cdp_cmd("Emulation.setDeviceMetricsOverride", whole)
+        shoot(driver, f"phone-{name}")
+        driver.execute_cdp_cmd("Emulation.setDeviceMetricsOverride", screen)
+        for button in driver.find_elements(By.TAG_NAME, "button"):
+            assert button.size["height"] >= 40, name
+
+
 def test_contrast(fronted: tuple[Site, Front], tmp_path: Path) -> None:
     _, front = fronted
     dave = browser(tmp_path, with_scripts=True)
@@ -240,6 +260,7 @@ def test_contrast(fronted: tuple[Site, Front], tmp_path: Path) -> None:
             found = dave.execute_script(CONTRAST)
             assert len(found) > 10 and not [it for it in found if it[0] < 4.5], found
         shoot(dave, "7-findings")
+        on_a_phone(dave, front)
         faults = [it for it in dave.get_log("browser") if "favicon" not in it["message"]]
         assert not faults
     finally:

@@ -30,8 +30,15 @@ def test_a_new_reader_follows_it(tmp_path: Path) -> None:
     counts = re.search(r"lines: ([0-9]+) ([0-9]+)", said)
     assert counts and int(counts[1]) <= 10 and int(counts[2]) <= 20, said
     assert "Kept as ann 1." in said and "It is in force from" in said
+    assert "carol.pub is refused" in said and "mallory is refused" in said, said
+    assert "uid=" not in said, said
     assert "You are <strong>bob</strong>" in said and "through its front alone" in said
-    for secret in ("page.secret", "page.front", "people-ca.key", "outbox.db", "outbox.db-wal"):
+    # nobody else gets past the front, or into the page's place
+    assert said.count("thief at unix:/run/desk-relay/page.sock as 65534: not reached") == 3, said
+    assert said.count("thief takes nothing: PermissionError") == 3, said
+    assert "thief took" not in said and "thief has" not in said, said
+    secrets = ("page.secret", "page.key", "page.front", "people-ca.key")
+    for secret in (*secrets, "outbox.db", "outbox.db-wal"):
         assert re.search(rf"^-rw------- .* {re.escape(secret)}$", said, re.MULTILINE), said
 
 

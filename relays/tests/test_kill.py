@@ -15,7 +15,7 @@ import pytest
 import requests
 
 from relays.tests.front import Front
-from relays.tests.site import Site, wait_for_port
+from relays.tests.site import Site
 from relays.tests.test_page import confirmation, token
 
 ROUNDS = 100
@@ -91,8 +91,7 @@ def test_killed_between_a_word_and_the_ack(site: Site) -> None:
 
 def test_the_page_is_killed(site: Site) -> None:
     chance = random.Random(5)
-    page = site.start("page")
-    wait_for_port(site.page)
+    page = site.start_page()
     front, sent = Front(site, ["ann"]), 0
     try:
         for number in range(PAGE_ROUNDS):
@@ -106,8 +105,7 @@ def test_the_page_is_killed(site: Site) -> None:
             sent += first.status_code == 303
             timer.join()
             page.wait(timeout=20)
-            page = site.start("page")
-            wait_for_port(site.page)
+            page = site.start_page()
             again = requests.post(
                 f"{front.url('ann')}/send", data, timeout=60, allow_redirects=False
             )

@@ -21,11 +21,14 @@ AT = "20260105080000Z"
 
 @contextmanager
 def answering(status: int, body: str) -> Iterator[str]:
-    """A server that is no desk: it answers each POST so."""
+    """A server that is no desk: it answers each request so."""
 
     class Handler(BaseHTTPRequestHandler):
         def do_POST(self) -> None:
             self.rfile.read(int(self.headers["Content-Length"]))
+            self.do_GET()
+
+        def do_GET(self) -> None:
             self.send_response(status)
             self.send_header("Content-Length", str(len(body)))
             self.end_headers()
@@ -35,7 +38,7 @@ def answering(status: int, body: str) -> Iterator[str]:
             pass
 
     with HTTPServer(("127.0.0.1", 0), Handler) as server:
-        threading.Thread(target=server.serve_forever, daemon=True).start()
+        threading.Thread(target=server.serve_forever, args=(0.02,), daemon=True).start()
         yield f"http://127.0.0.1:{server.server_port}"
         server.shutdown()
 
@@ -83,7 +86,7 @@ def test_nothing_can_be_reached(quiet_site: Site) -> None:
     for _ in range(3):
         outbox.keep_request("ann", WISH, AT)
     tried = post_kept(outbox, Desk(quiet_site.url, "chat", None, None))
-    assert len(tried) == 1 and "connection refused" in tried[0].answer
+    assert len(tried) == 1 and "there is no socket" in tried[0].answer
     assert len(outbox.unposted()) == 3
 
 

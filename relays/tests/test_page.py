@@ -9,7 +9,7 @@ import requests
 from itsdangerous import URLSafeTimedSerializer
 
 from relays.tests.front import Front
-from relays.tests.site import SECRET, Site, wait_for_port
+from relays.tests.site import SECRET, SIGNING_KEY, Site
 
 ASKED = {
     "ceiling": "db-care",
@@ -26,8 +26,7 @@ def fronted(tmp_path_factory: pytest.TempPathFactory) -> Iterator[tuple[Site, Fr
     site = Site(tmp_path_factory.mktemp("page"))
     try:
         site.start_desk()
-        site.start("page")
-        wait_for_port(site.page)
+        site.start_page()
         front = Front(site, ["ann", "bob", "dave", "eve"])
         yield site, front
         front.stop()
@@ -106,14 +105,16 @@ def test_a_header_from_beside_the_front(
 ) -> None:
     site, _ = fronted
     for path in ("/", "/verdict?kind=approve&of=ann&no=1", "/static/page.css", "/nothing"):
-        reply = get(f"http://127.0.0.1:{site.page}{path}", **headers)
-        assert reply.status_code == 403 and "You are" not in reply.text
+        status, text = site.ask_page(path, headers)
+        assert status == 403 and "You are" not in text
 
 
 def test_the_header_twice(fronted: tuple[Site, Front]) -> None:
     site, _ = fronted
     head = f"GET / HTTP/1.1\r\nHost: a\r\nX-Desk-Front: {SECRET}\r\nConnection: close\r\n"
-    with socket.create_connection(("127.0.0.1", site.page), timeout=60) as peer:
+    with socket.socket(socket.AF_UNIX) as peer:
+        peer.settimeout(60)
+        peer.connect(str(site.socket))
         peer.sendall(f"{head}X-Desk-Person: ann\r\nX-Desk-Person: bob\r\n\r\n".encode())
         assert peer.makefile("rb").readline().startswith(b"HTTP/1.1 403")
 
@@ -167,7 +168,7 @@ def test_what_is_confirmed_is_what_is_sent(fronted: tuple[Site, Front]) -> None:
 
 def test_a_yes_that_comes_too_late(fronted: tuple[Site, Front]) -> None:
     site, front = fronted
-    before, signer = site.kept(), URLSafeTimedSerializer(SECRET, salt="desk-relay page")
+    before, signer = site.kept(), URLSafeTimedSerializer(SIGNING_KEY, salt="desk-relay page")
     window = {"begins": "20260105090000Z", "ends": "20260105100000Z"}
     wish = {"ceiling": "db-care", "hosts": ["db1"], "runas": "root", "commands": ["/usr/bin/id"]}
     said = {"by": "ann", "what": "send-request", "once": "late", "wish": wish | window}

@@ -7,7 +7,6 @@ import subprocess
 from collections.abc import Iterator
 
 import pytest
-import requests
 
 from relays.tests.site import Site
 from relays.tests.sshd import Sshd
@@ -39,7 +38,7 @@ def messages(site: Site) -> int:
 
 
 def sudoers(site: Site, host: str) -> str:
-    return requests.get(f"{site.url}/v1/hosts/{host}/sudoers", timeout=30).text
+    return site.ask(f"/v1/hosts/{host}/sudoers")
 
 
 def test_a_grants_whole_life(both: tuple[Site, Sshd]) -> None:
@@ -217,7 +216,7 @@ PAST = [
     ("ann", "db-care", "db1", "www", "2h", "/usr/bin/id", "A5 RunasOutside"),
     ("ann", "db-care", "db1", "root", "2h", "ALL", "A6 CommandOutside"),
     ("ann", "db-care", "db1", "root", "2h", "/usr/sbin/reboot", "A6 CommandOutside"),
-    ("ann", "db-care", "db1", "root", "2h1s", "/usr/bin/id", "A7 WindowTooLong"),
+    ("ann", "db-care", "db1", "root", "3h", "/usr/bin/id", "A7 WindowTooLong"),
 ]
 
 

@@ -1,6 +1,7 @@
 """A relay whose desk stands behind the front of examples/: it posts with its own certificate, and
 reads with an auditor's."""
 
+import os
 import subprocess
 from collections.abc import Iterator
 from contextlib import contextmanager
@@ -32,10 +33,10 @@ def fronted(site: Site, more: str) -> Iterator[None]:
         subprocess.run(["sh", AUTHORITY, str(ca), *words], check=True)
     text = FRONT.read_text(encoding="utf-8").replace("/etc/desk/front", str(ca))
     text = text.replace("/var/log/nginx", str(folder)).replace("listen 443", f"listen {port}")
-    text = text.replace("127.0.0.1:8080", f"127.0.0.1:{site.port}")
+    text = text.replace("unix:/run/desk/desk.sock", site.url)
     conf = folder / "nginx.conf"
     conf.write_text(
-        f"daemon off; pid {folder}/pid; error_log {folder}/error.log;\nevents {{}}\n"
+        f"{'user root;' if os.geteuid() == 0 else ''} daemon off; pid {folder}/pid; error_log {folder}/error.log;\nevents {{}}\n"
         f"http {{ client_body_temp_path {folder}/b; proxy_temp_path {folder}/p;\n{text}}}\n"
     )
     settings = site.config.read_text().replace(site.url, f"https://127.0.0.1:{port}")
@@ -64,6 +65,14 @@ def test_it_reads_as_an_auditor(site: Site) -> None:
 def test_without_it_the_front_says_nothing(site: Site) -> None:
     with fronted(site, ""):
         assert "not known" in asked(site)
+
+
+@pytest.mark.parametrize("text", ["", "unix:desk.sock", "127.0.0.1:8080", "ftp://desk.example"])
+def test_no_address_of_a_desk(quiet_site: Site, text: str) -> None:
+    settings = quiet_site.config.read_text().replace(quiet_site.url, text)
+    quiet_site.config.write_text(settings)
+    with pytest.raises(BadConfig, match="neither unix:/PATH nor https://HOST"):
+        read_config(str(quiet_site.config))
 
 
 def test_a_certificate_without_its_key(site: Site, tmp_path: Path) -> None:

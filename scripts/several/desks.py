@@ -2,22 +2,36 @@
 
 from __future__ import annotations
 
+import contextlib
 import hashlib
 import http.client
 import pathlib
 import re
 import signal
+import socket
 import subprocess
 import sys
 import threading
 import time
 
 from desk_broker import snapshot
-from ports import free_ports
-from several.programs import Failure, Program, Programs, is_listening, wait_until
+from several.programs import Failure, Program, Programs, wait_until
 from several.sites import RELAYS
 
 LAG = re.compile(r"the longest lag ([0-9.]+) s")
+
+
+class SocketConnection(http.client.HTTPConnection):
+    """A connection to the socket of a path."""
+
+    def __init__(self, path: str) -> None:
+        super().__init__("localhost", timeout=60)
+        self._path = path
+
+    def connect(self) -> None:
+        self.sock = socket.socket(socket.AF_UNIX)
+        self.sock.settimeout(self.timeout)
+        self.sock.connect(self._path)
 
 
 class Files:
@@ -31,20 +45,20 @@ class Files:
 
 
 class Desk:
-    """A desk over a store of its own, at one port, however often it is started."""
+    """A desk over a store of its own, at one socket, however often it is started."""
 
     def __init__(
         self, name: str, files: Files, folder: pathlib.Path, started: Programs,
         environment: dict[str, str],
     ) -> None:
         self.name, self._files = name, files
-        [self.port] = free_ports(1)
+        self.socket = folder / f"desk-{name}.sock"
         self.folder = folder / name
         self.folder.mkdir(exist_ok=True)
         self.store = self.folder / "desk.db"
         words = [
             *files.program, "serve", str(files.roster), str(files.base), str(self.store),
-            f"127.0.0.1:{self.port}",
+            self.address,
         ]
         log = folder / f"desk-{name}.out"
         self.program = started.add(Program(f"desk {name}", words, environment, log))
@@ -52,13 +66,29 @@ class Desk:
 
     @property
     def address(self) -> str:
-        return f"http://127.0.0.1:{self.port}"
+        return f"unix:{self.socket}"
+
+    def connected(self, seconds: float) -> socket.socket:
+        """A connection to it."""
+        peer = socket.socket(socket.AF_UNIX)
+        peer.settimeout(seconds)
+        try:
+            peer.connect(str(self.socket))
+        except OSError:
+            peer.close()
+            raise
+        return peer
+
+    def is_listening(self) -> bool:
+        with contextlib.suppress(OSError), self.connected(1):
+            return True
+        return False
 
     def start(self) -> None:
         """Starts it, and again where it ends at once, as a unit with Restart=always does."""
         self.program.start()
         until = time.monotonic() + 60
-        while not is_listening(self.port):
+        while not self.is_listening():
             if not self.program.is_running():
                 time.sleep(0.3)
                 self.program.start()
@@ -85,7 +115,7 @@ class Desk:
         return {body.encode() for body in snapshot.messages(self.store)}
 
     def get(self, target: str) -> bytes:
-        client = http.client.HTTPConnection("127.0.0.1", self.port, timeout=60)
+        client = SocketConnection(str(self.socket))
         client.request("GET", target)
         reply = client.getresponse()
         body = reply.read()
@@ -93,6 +123,16 @@ class Desk:
         if reply.status != 200:
             raise Failure(f"desk {self.name}: {target}: {reply.status} {body[:80]!r}")
         return body
+
+    def count(self) -> int:
+        """How many messages it says that it holds."""
+        return int(self.get("/v1/count").split()[0])
+
+    def in_flight(self) -> int:
+        """How many connections to its socket are there (unix(7): those that were made have the path
+        at which the listener was made; a desk makes it with a ~, and renames it)."""
+        lines = pathlib.Path("/proc/net/unix").read_text(encoding="utf-8").splitlines()
+        return sum(line.endswith((f" {self.socket}", f" {self.socket}~")) for line in lines) - 1
 
     def digests(self, hosts: list[str], moments: list[str]) -> dict[str, str]:
         """The digest of every host's file, of what is parked, and of the reports."""

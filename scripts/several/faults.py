@@ -10,6 +10,7 @@ import signal
 import time
 import typing
 
+from desk_broker.flight import POSTS
 from several.bench import Bench
 from several.desks import Consumer, Desk
 from several.nodes import COUNT
@@ -71,6 +72,37 @@ def kill_programs(bench: Bench, chance: random.Random) -> None:
         pause(chance, 0.5, 2.5)
         victim.restart(signal.SIGKILL, chance.uniform(0.0, 1.5))
     bench.tell(f"{len(victims)} kills of desks and consumers are done")
+
+
+def kill_in_flight(bench: Bench, _: random.Random) -> None:
+    """The consumer of desk a, and then the desk, are killed with several posts in flight."""
+    desk, consumer = bench.desks["a"], bench.consumers["a"]
+    victims: list[tuple[Desk | Consumer, str]] = [(consumer, "consumer"), (desk, "desk")]
+    for victim, what in victims:
+        with desk.lock, consumer.lock:
+            stand_still_in_flight(desk)
+            try:
+                victim.program.end(signal.SIGKILL)
+            finally:
+                desk.program.send(signal.SIGCONT)
+            victim.start()
+        bench.tell(f"a {what} was killed with {POSTS} posts in flight")
+
+
+def stand_still_in_flight(desk: Desk) -> None:
+    """The desk stands still with as many posts on their way as there can be. Where too few come
+    for some seconds, as while the broker's nodes are killed, it goes on for a while: a post that
+    gets no answer is tried again alone, and no other begins meanwhile."""
+    until = time.monotonic() + 240
+    while time.monotonic() < until:
+        desk.program.send(signal.SIGSTOP)
+        try:
+            wait_until("posts are in flight", lambda: desk.in_flight() >= POSTS, 3)
+            return
+        except Failure:
+            desk.program.send(signal.SIGCONT)
+            time.sleep(2)
+    raise Failure(f"there were never {POSTS} posts in flight")
 
 
 def harm_stores(bench: Bench, chance: random.Random) -> None:

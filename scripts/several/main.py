@@ -1,10 +1,11 @@
 """Three brokers, three desks, and messages that go on while things are killed.
 
-    bash scripts/several.sh [--short] [--seed N] [--keep] [--folder DIR] [DESK ..]
+    bash scripts/several.sh [--short | --rate] [--seed N] [--keep] [--folder DIR] [DESK ..]
 
 runs this in namespaces of its own; DESK are the words of the program, build/desk without them. All
 data lie below build/, on a disk, or, of the short test, in memory, where it is there: kills do not
-lose what is there either, and how long the test takes does not hang on the disk.
+lose what is there either, and how long the test takes does not hang on the disk. `--rate` only
+measures how many messages a second go through, also to desks that do nothing but answer (stub.py).
 """
 
 from __future__ import annotations
@@ -21,7 +22,7 @@ import tempfile
 import time
 
 from desk import PROGRAM
-from several import faults, rates, verdict
+from several import faults, poison, rates, verdict
 from several.bench import Bench
 from several.desks import Desk, wait_for_stores
 from several.nodes import ROOT
@@ -44,7 +45,13 @@ def start(bench: Bench) -> None:
 
 def disturb(bench: Bench, seed: int) -> None:
     """All faults, some at the same time; what a thread raises is raised here."""
-    kinds = (faults.kill_nodes, faults.kill_programs, faults.hold_queue, faults.harm_stores)
+    kinds = (
+        faults.kill_nodes,
+        faults.kill_programs,
+        faults.kill_in_flight,
+        faults.hold_queue,
+        faults.harm_stores,
+    )
     with concurrent.futures.ThreadPoolExecutor(len(kinds)) as pool:
         chances = [random.Random(f"{seed} {kind.__name__}") for kind in kinds]
         running = [pool.submit(kind, bench, chance) for kind, chance in zip(kinds, chances)]
@@ -101,6 +108,15 @@ def judge(
     bench.tell(f"confirmed by the broker, and lost: {lost}")
 
 
+def rate(words: argparse.Namespace, folder: pathlib.Path, started: Programs) -> int:
+    """The rates alone."""
+    bench = Bench(WHOLE, words.seed, words.desk or PROGRAM, folder, started)
+    start(bench)
+    rates.measure(bench, bench.site.accepted(3 * WHOLE.rated))
+    rates.measure_stubs(bench, bench.site.accepted(WHOLE.rated))
+    return 0
+
+
 def run(words: argparse.Namespace, folder: pathlib.Path, started: Programs) -> int:
     plan, program = SHORT if words.short else WHOLE, words.desk or PROGRAM
     bench = Bench(plan, words.seed, program, folder, started)
@@ -109,9 +125,11 @@ def run(words: argparse.Namespace, folder: pathlib.Path, started: Programs) -> i
         posts = bench.site.messages(plan.messages)
         starting = pool.submit(start, bench)
         rated = bench.site.accepted(3 * plan.rated)
-        oracle, wanted = verdict.by_one_deliver(bench, [*rated, *posts])
+        by_hand = bench.site.accepted(poison.COUNT)
+        oracle, wanted = verdict.by_one_deliver(bench, [*rated, *by_hand, *posts])
         starting.result()
     rates.measure(bench, rated)
+    poison.publish(bench, by_hand)
     confirmed = publish(bench, posts, words.seed)
     drain(bench, wanted)
     judge(bench, posts, confirmed, oracle, wanted)
@@ -122,6 +140,7 @@ def run(words: argparse.Namespace, folder: pathlib.Path, started: Programs) -> i
 def arguments() -> argparse.Namespace:
     parser = argparse.ArgumentParser(description="Several desks behind a broker, tested.")
     parser.add_argument("--short", action="store_true", help="one kill of each kind")
+    parser.add_argument("--rate", action="store_true", help="only measure how fast it is")
     parser.add_argument("--seed", type=int, default=int(time.time()) % 1_000_000)
     parser.add_argument("--keep", action="store_true", help="leave the folder with all logs")
     parser.add_argument("--folder", type=pathlib.Path, help="where a folder for all data is made")
@@ -148,7 +167,7 @@ def main() -> int:
     status = 1
     try:
         with programs() as started:
-            status = run(words, folder, started)
+            status = (rate if words.rate else run)(words, folder, started)
     except Failure as error:
         print(f"FAILED: {error}")
     finally:

@@ -76,6 +76,10 @@ class Program:
         except subprocess.TimeoutExpired as error:
             raise Failure(f"{self.name} does not end by {how.name}") from error
 
+    def send(self, what: signal.Signals) -> None:
+        if self._process is not None and self.is_running():
+            os.kill(self._process.pid, what)
+
     def processor(self) -> float:
         """The seconds of processor time that its process took; the machine's load is not in it."""
         if self._process is None:

@@ -2,22 +2,25 @@
 
 from __future__ import annotations
 
-import socket
+import signal
+import sys
 import time
 
+from several import stub
 from several.bench import Bench
-from several.desks import Desk, wait_for_stores
-from several.programs import Failure
+from several.desks import Desk, Files
+from several.programs import Failure, wait_until
 from several.relays import Traffic
 from several.sites import RELAYS, Post
 
 NAMES = ["a", "b", "c"]
+PATIENCE = 600.0  # seconds
 
 
-def exchange(port: int, body: bytes) -> bytes:
+def exchange(desk: Desk, body: bytes) -> bytes:
     """A post over a connection of its own, by nothing but a socket."""
     head = b"POST /v1/relays/%s/messages HTTP/1.1\r\nHost: desk\r\nContent-Length: %d\r\n\r\n"
-    with socket.create_connection(("127.0.0.1", port), timeout=60) as peer:
+    with desk.connected(60) as peer:
         peer.sendall(head % (RELAYS[0].encode(), len(body)) + body)
         whole = b""
         while piece := peer.recv(65_536):
@@ -31,7 +34,7 @@ def alone(bench: Bench, posts: list[Post]) -> float:
     desk.start()
     begun = time.monotonic()
     for post in posts:
-        if not exchange(desk.port, post.body).endswith(b"\r\n\r\nack\n"):
+        if not exchange(desk, post.body).endswith(b"\r\n\r\nack\n"):
             raise Failure("the desk alone does not acknowledge")
     rate = len(posts) / (time.monotonic() - begun)
     desk.lose_store()
@@ -44,12 +47,18 @@ def through(bench: Bench, posts: list[Post]) -> tuple[float, float]:
     (A relay's program takes a while to start.)
     """
     accounts = {relay: bench.account(f"relay-{relay}") for relay in RELAYS}
+    new = len({post.body for post in posts})
+    wanted = {desk: desk.count() + new for desk in bench.desks.values()}
     traffic = Traffic(posts, 0.0, accounts, bench.folder)
     traffic.start()
-    traffic.join(120)
+    traffic.join(PATIENCE)
     begun = min(relay.first_at for relay in traffic.relays)
     confirmed = time.monotonic() - begun
-    wait_for_stores(list(bench.desks.values()), {post.body for post in posts}, 120)
+
+    def is_held() -> bool:
+        return all(desk.count() >= count for desk, count in wanted.items())
+
+    wait_until("all desks hold what was confirmed", is_held, PATIENCE, 0.02)
     return len(posts) / confirmed, len(posts) / (time.monotonic() - begun)
 
 
@@ -62,8 +71,24 @@ def spent(bench: Bench) -> tuple[float, float, float]:
     return brokers, consuming, serving
 
 
+def tell_rates(bench: Bench, posts: list[Post], what: str) -> None:
+    before = spent(bench)
+    confirmed, held = through(bench, posts)
+    costs = [(now - old) / len(posts) * 1000 for old, now in zip(before, spent(bench))]
+    bench.tell(
+        f"through the broker to each of {what}: {held:.0f} messages a second; {confirmed:.0f} a"
+        " second are confirmed"
+    )
+    bench.tell(
+        f"  each took {costs[0]:.2f} ms of the brokers' processors, {costs[1]:.2f} of the"
+        f" consumers', {costs[2]:.2f} of the desks'"
+    )
+
+
 def measure(bench: Bench, posts: list[Post]) -> None:
     """Starts one desk after the other, and tells the rates, each of a third of the messages."""
+    # (a desk that has a message already would be waited for in vain)
+    posts = list({post.body: post for post in posts}.values())
     each = len(posts) // len(NAMES)
     for count in range(1, len(NAMES) + 1):
         bench.define(NAMES[:count])
@@ -73,14 +98,16 @@ def measure(bench: Bench, posts: list[Post]) -> None:
         some = posts[(count - 1) * each : count * each]
         if count == 1:
             bench.tell(f"a desk alone: {alone(bench, some):.0f} messages a second")
-        before = spent(bench)
-        confirmed, held = through(bench, some)
-        costs = [(now - old) / each * 1000 for old, now in zip(before, spent(bench))]
-        bench.tell(
-            f"through the broker to each of {count}: {held:.0f} messages a second;"
-            f" {confirmed:.0f} a second are confirmed"
-        )
-        bench.tell(
-            f"  each took {costs[0]:.2f} ms of the brokers' processors,"
-            f" {costs[1]:.2f} of the consumers', {costs[2]:.2f} of the desks'"
-        )
+        tell_rates(bench, some, f"{count} desks")
+
+
+def measure_stubs(bench: Bench, posts: list[Post]) -> None:
+    """The same with programs in the desks' places that take no time: what the rest can do."""
+    words = [sys.executable, stub.__file__]
+    roster = bench.files.roster.read_text(encoding="utf-8")
+    files = Files(words, bench.folder, roster, bench.files.base.read_text(encoding="utf-8"))
+    for name, desk in list(bench.desks.items()):
+        desk.program.end(signal.SIGKILL)
+        bench.desks[name] = Desk(name, files, bench.folder, bench.started, bench.plain)
+        bench.desks[name].start()
+    tell_rates(bench, posts, f"{len(bench.desks)} desks that only answer")

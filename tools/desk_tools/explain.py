@@ -44,3 +44,11 @@ def explain(code: str) -> str | None:
             told += [f"  what to do: {row['What to do']}"] if row.get("What to do") else []
             found.append(LINK.sub(r"\1", "\n".join(told)))
     return "\n".join(found) + "\n" if found else None
+
+
+def to_do(code: str) -> str:
+    """What to do about a code; nothing where the document does not say."""
+    for _, row in rows(document()):
+        if row.get("Code", "").strip("`").partition(" ")[0] == code:
+            return LINK.sub(r"\1", row.get("What to do", ""))
+    return ""

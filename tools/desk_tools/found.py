@@ -1,13 +1,16 @@
 """What a linter finds, and how it is shown."""
 
+import argparse
 import json
-from typing import Any, NamedTuple
+from typing import Any, NamedTuple, NoReturn
 
 NAMES = {
     "O1": "NotToml", "O2": "UnknownKey", "O3": "WrongType", "O4": "BadName", "O5": "UnknownName", "O6": "SelfConflict", "O7": "OutOfRange",
     "M1": "TooLong", "M2": "NotCanonical", "M3": "BadField",
     "A1": "UnknownPerson", "A2": "UnknownCeiling", "A3": "NotAsker", "A4": "HostOutside", "A5": "RunasOutside", "A6": "CommandOutside",
     "A7": "WindowTooLong", "A8": "WindowBackwards",
+    "S1": "TooLong", "S2": "BadByte", "S3": "BadWord", "S4": "Unexpected", "S5": "UnknownAlias", "S6": "AliasTwice", "S7": "Reserved",
+    "S8": "BadMoment", "S9": "LeftOut", "S10": "TooLarge", "S11": "NoMemory",
 }  # fmt: skip
 # of several faults the desk names the first of these
 ORDER = [*NAMES]
@@ -32,6 +35,25 @@ class Warning(NamedTuple):
     key: str
     said: str
     is_note: bool = False
+
+
+def visible(text: str) -> str:
+    """A text for a terminal: whatever it would obey, or not show, stands as an escape."""
+    return "".join(it if it.isprintable() else escaped(ord(it)) for it in text)
+
+
+def escaped(code: int) -> str:
+    """A character, or a byte that is no UTF-8."""
+    if 0xDC80 <= code <= 0xDCFF:
+        code -= 0xDC00
+    return f"\\x{code:02x}" if code < 0x100 else f"\\u{code:04x}"
+
+
+class Parser(argparse.ArgumentParser):
+    """A reader of words that repeats none of them to a terminal as it stands."""
+
+    def error(self, message: str) -> NoReturn:
+        super().error(visible(message))
 
 
 def coded(code: str) -> str:

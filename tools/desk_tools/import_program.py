@@ -1,19 +1,19 @@
 """The program `desk-import`."""
 
 import argparse
-import os
-import shutil
 import subprocess
 import sys
 import tempfile
 
-from desk_tools.importing import Import, Note, hosts_of
-from desk_tools.schema import NoJsonschema
-from desk_tools.sudoers import BadSudoers, read
+from desk_tools.cvtsudoers import BadSudoers
+from desk_tools.found import Parser, visible
+from desk_tools.importing import Import, Note
+from desk_tools.judge import NoDesk, program
+from desk_tools.machine import hosts_of
+from desk_tools.sudoers import read
 
 KEPT, LEFT_OUT, FAILED = 0, 1, 2
 MOST_ENTRIES = 4096
-HERE = os.path.dirname(os.path.abspath(__file__))
 
 
 class Failed(Exception):
@@ -21,7 +21,7 @@ class Failed(Exception):
 
 
 def parser() -> argparse.ArgumentParser:
-    found = argparse.ArgumentParser(
+    found = Parser(
         "desk-import",
         description="Makes a base policy for a privileged access desk of a sudoers file, on the standard output, and lists what is left out.",
         epilog="Exit status: 0 everything is kept, 1 something is left out, 2 there is no base.",
@@ -33,13 +33,6 @@ def parser() -> argparse.ArgumentParser:
     return found
 
 
-def program(said: str | None) -> str:
-    for path in (said,) if said else (shutil.which("desk"), os.path.join(HERE, "..", "..", "build", "desk")):
-        if path and os.path.exists(path):
-            return path
-    raise Failed(f"there is no program {said}" if said else "it needs the program desk: --desk PROGRAM")
-
-
 def checked(desk: str, text: str) -> str:
     """The canonical text, by `desk check`."""
     with tempfile.NamedTemporaryFile("w", encoding="ascii") as file:
@@ -47,7 +40,7 @@ def checked(desk: str, text: str) -> str:
         file.flush()
         ran = subprocess.run([desk, "check", file.name], capture_output=True, text=True, check=False)
     if ran.returncode:
-        raise Failed(f"the desk does not read what was made ({ran.stderr.strip()}): report this\n{text}")
+        raise Failed(f"the desk does not read what was made ({ran.stderr.strip()}): report this: {text}")
     return ran.stdout
 
 
@@ -63,7 +56,7 @@ def report(notes: list[Note], entries: int) -> str:
         lines.append(f"the base has {entries:,} entries, and a desk's has up to {MOST_ENTRIES:,} (K6): write aliases and directories in place of many rules")
     left_out = sum(note.is_left_out for note in notes)
     lines.append(f"{counted(entries, 'entry', 'entries')}; {counted(left_out, 'thing is', 'things are')} left out")
-    return "".join(f"{line}\n" for line in lines)
+    return "".join(f"{visible(line)}\n" for line in lines)
 
 
 def imported(said: argparse.Namespace) -> int:
@@ -74,7 +67,7 @@ def imported(said: argparse.Namespace) -> int:
     desk = program(said.desk)
     job = Import(read(said.sudoers), hosts)
     text = checked(desk, job.run())
-    told = report(job.notes, text.count("\n")).encode("utf-8", "backslashreplace").decode()
+    told = report(job.notes, text.count("\n"))
     if said.report:
         with open(said.report, "w", encoding="utf-8") as file:
             file.write(told)
@@ -87,10 +80,11 @@ def main(words: list[str]) -> int:
     said = parser().parse_args(words)
     try:
         return imported(said)
-    except (BadSudoers, Failed) as fault:
-        print(f"desk-import: {fault}", file=sys.stderr)
+    except (BadSudoers, Failed, NoDesk) as fault:
+        why = str(fault)
+    except UnicodeError:
+        why = "the list of hosts is no UTF-8"
     except OSError as fault:
-        print(f"desk-import: {fault.filename}: {fault.strerror}", file=sys.stderr)
-    except NoJsonschema:
-        print("desk-import: it needs Debian's package python3-jsonschema", file=sys.stderr)
+        why = f"{fault.filename}: {fault.strerror}"
+    print(f"desk-import: {visible(why)}", file=sys.stderr)
     return FAILED

@@ -3,22 +3,20 @@
 It never widens. Of a rule that allows, what cannot be said is left out; of one that denies, what cannot be said denies more than it did.
 """
 
-import ipaddress
 import re
-import subprocess
 from collections.abc import Iterator
 from dataclasses import dataclass, field
-from fnmatch import fnmatchcase
-from functools import cache
 from typing import Any, NamedTuple
 
-from desk_tools import schema
+from desk_tools import machine
+from desk_tools.cvtsudoers import BadSudoers
+from desk_tools.machine import Host
+from desk_tools.schema import has_form
 from desk_tools.site import seems_directory, without_slash
-from desk_tools.sudoers import ALIASES, Place, Sudoers
+from desk_tools.sudoers import ALIAS_KEYS, ALIASES, Default, Place, Sudoers
 
 USER, RUNAS, HOST, COMMAND = ALIASES
 KINDS = {USER: "User_Alias", RUNAS: "Runas_Alias", HOST: "Host_Alias", COMMAND: "Cmnd_Alias"}
-ALIAS_KEYS = {USER: "useralias", RUNAS: "runasalias", HOST: "hostalias", COMMAND: "cmndalias"}
 ALIAS_NAME = re.compile(r"[A-Z][A-Z0-9_]{0,31}")
 RESERVED = set(
     "ALL NOTBEFORE NOTAFTER TIMEOUT CWD CHROOT ROLE TYPE PRIVS LIMITPRIVS APPARMOR_PROFILE PASSWD NOPASSWD EXEC NOEXEC SETENV NOSETENV LOG_INPUT NOLOG_INPUT "
@@ -36,12 +34,35 @@ OPTIONS = {
     "selinux": "ROLE and TYPE cannot be said: the command would run without them",
     "privs": "PRIVS and LIMITPRIVS cannot be said: the command would run with other privileges",
 }
+# what stands beside the options
+SPECS = {
+    "SELinux_Spec": "selinux",
+    "AppArmor_Spec": "apparmor_profile",
+    "Solaris_Priv_Spec": "privs",
+}
 HARMLESS = {
     "setenv": "SETENV is left out: the environment cannot be set (`ALL` has it anyway)",
     "log_input": "LOG_INPUT is left out: keep `Defaults log_input` in the host's own sudoers",
     "log_output": "LOG_OUTPUT is left out: keep `Defaults log_output` in the host's own sudoers",
 }
-HOLDS_BACK = {"noexec", "intercept", "targetpw", "rootpw", "runaspw", "requiretty", "use_pty", "env_reset", "secure_path", "env_check", "env_delete"}
+HOLDS_BACK = set(
+    "noexec targetpw rootpw runaspw use_pty env_reset secure_path env_check env_delete fqdn "
+    "command_timeout runcwd role type apparmor_profile privs limitprivs sudoedit_checkdir "
+    "ignore_dot umask umask_override case_insensitive_user case_insensitive_group "
+    "match_group_by_gid netgroup_tuple use_netgroups group_plugin closefrom_override".split()
+)
+# settings by which sudo itself refuses what a rule allows, or takes others for a group's: what is
+# refused, where the value is another than this one
+REFUSES = {
+    "root_sudo": (True, "it takes sudo from root"),
+    "requiretty": (False, "it takes sudo from whoever has no terminal"),
+    "runas_check_shell": (False, "it takes targets away that have no shell of /etc/shells"),
+    "runchroot": (False, "commands are looked for below another root"),
+    "intercept": (False, "it takes away what runs with another's rights (setuid)"),
+    "always_query_group_plugin": (False, "a plugin says who is in a group"),
+}
+# what a command has, beside its options, that comes out of an alias
+IN_ALIAS = {"in_alias": True}
 MARK = "\ufeff"
 KEEP = "a Defaults line gives no right: keep it in the host's own /etc/sudoers"
 HOLD = "it holds back what commands may do: keep it in the host's own /etc/sudoers, else the rules below give more than they did"
@@ -56,28 +77,6 @@ class Note(NamedTuple):
     is_left_out: bool = True
 
 
-def getent(database: str, *keys: str) -> list[list[str]]:
-    """The rows of a database of the machine."""
-    ran = subprocess.run(["getent", database, *keys], stdout=subprocess.PIPE, text=True, check=False)
-    return [line.split(":") for line in ran.stdout.splitlines()]
-
-
-@cache
-def members(group: str) -> tuple[str, ...] | None:
-    """Whoever is in a group of the machine, by name or number; None where there is none."""
-    rows = getent("group", group)
-    if not rows:
-        return None
-    named = [name for row in rows for name in row[3].split(",") if name]
-    first = [row[0] for row in getent("passwd") if row[3] == rows[0][2]]
-    return tuple(dict.fromkeys([*first, *named]))
-
-
-def fits(form: str, text: str) -> bool:
-    """Whether the text has a form of the published schema."""
-    return schema.whole(schema.validator("message").schema["$defs"][form]["pattern"]).search(text) is not None
-
-
 def why_no_name(name: str) -> str:
     """Why no user of the desk has a name."""
     if not name:
@@ -85,12 +84,6 @@ def why_no_name(name: str) -> str:
     if name.startswith(MARK):
         return "a byte order mark stands before it, which sudo takes for a part of the name: save the file without one"
     return "no user of the desk has such a name: it has lower-case letters, digits and . _ - alone, up to 32 bytes"
-
-
-def hosts_of(text: str) -> list[tuple[str, list[str]]]:
-    """A list of hosts, as /etc/hosts has it: each address, and its names."""
-    rows = [line.partition("#")[0].split() for line in text.splitlines()]
-    return [(row[0], row[1:]) for row in rows if len(row) > 1]
 
 
 def command_text(text: str) -> str | None:
@@ -102,7 +95,7 @@ def command_text(text: str) -> str | None:
         found = text
     else:
         found = " ".join([path, *(re.sub(r"([,:=])", r"\\\1", arg) for arg in args)])
-    return found if fits("command", found) else None
+    return found if has_form(found, "command") else None
 
 
 def wider(text: str) -> str | None:
@@ -110,10 +103,10 @@ def wider(text: str) -> str | None:
     path = text.split(" ")[0]
     if path == "list":
         return None
-    if path.startswith("/") and CLEAN_PATH.fullmatch(path) and fits("command", path):
+    if path.startswith("/") and CLEAN_PATH.fullmatch(path) and has_form(path, "command"):
         return path
     folder = path.rpartition("/")[0] + "/"
-    return folder if fits("command", folder) else "ALL"
+    return folder if has_form(folder, "command") else "ALL"
 
 
 @dataclass
@@ -129,17 +122,21 @@ class Words:
         return ", ".join(self.items)
 
     def says_yes(self) -> bool:
-        return any(not it.startswith("!") for it in self.items)
+        """Whether it may mean somebody: denied alone, an alias that denies does too."""
+        return any(not it.startswith("!") or it[1:2].isupper() and it != "!ALL" for it in self.items)
 
 
 class Import:
-    def __init__(self, sudoers: Sudoers, hosts: list[tuple[str, list[str]]]) -> None:
+    def __init__(self, sudoers: Sudoers, hosts: list[Host]) -> None:
         self.sudoers, self.hosts = sudoers, hosts
         self.notes: list[Note] = []
         self.lines: list[str] = []
         self.kept: dict[str, set[str]] = {kind: set() for kind in ALIASES}
         self.target = "root"
+        self.unsaid_target: str | None = None
         self.has_nopasswd = False
+        self.plain_all = ""
+        self.refuses = REFUSES
 
     def note(self, place: Place, what: str, said: str, is_left_out: bool = True) -> None:
         found = Note(place, what, said, is_left_out)
@@ -147,8 +144,9 @@ class Import:
             self.notes.append(found)
 
     def run(self) -> str:
-        for place, what, said in self.sudoers.unread:
-            self.note(place, what, said)
+        for place, folder in self.sudoers.missing:
+            said = "there is no such directory, and sudo passes over it"
+            self.note(place, folder, said, is_left_out=False)
         self.defaults()
         for kind in ALIASES:
             self.aliases(kind)
@@ -159,13 +157,31 @@ class Import:
     # ---- Defaults
 
     def defaults(self) -> None:
-        for place, line in self.sudoers.defaults:
-            words = set(re.findall(r"(?<![!a-z_])[a-z_]+", line))
-            found = re.match(r"Defaults[ \t]+(?:.*,[ \t]*)?runas_default[ \t]*=[ \t]*\"?([\w.-]+)", line)
-            if found and fits("name", found[1]):
-                self.target = found[1]
-                self.note(place, f"runas_default={found[1]}", "it is written into each rule that names no target", is_left_out=False)
-            self.note(place, " ".join(line.split()), HOLD if words & HOLDS_BACK else KEEP)
+        if not any(name == "group_plugin" for it in self.sudoers.defaults for name, _ in it.settings):
+            self.refuses = {name: it for name, it in REFUSES.items() if "group_plugin" not in name}
+        for line in self.sudoers.defaults:
+            for name, value in line.settings:
+                self.setting(line, name, value)
+            names = {name for name, value in line.settings if value is not False}
+            self.note(line.place, line.text, HOLD if names & HOLDS_BACK else KEEP)
+
+    def setting(self, line: Default, name: str, value: Any) -> None:
+        if name in self.refuses and value != self.refuses[name][0]:
+            raise BadSudoers(
+                f"{line.place}: {name}: {self.refuses[name][1]}, which a base cannot say: keep the line "
+                "in the hosts' own /etc/sudoers, and import a copy of the file without it"
+            )
+        if name != "runas_default":
+            return
+        if line.is_scoped or not isinstance(value, str) or not has_form(value, "name"):
+            self.unsaid_target = (
+                f"{line.place}: runas_default: such a target cannot be said: write the target into "
+                "each rule that names none"
+            )
+            return
+        self.target = value
+        said = "it is written into each rule that names no target"
+        self.note(line.place, f"runas_default={value}", said, is_left_out=False)
 
     # ---- words
 
@@ -173,65 +189,76 @@ class Import:
         """The names that an item stands for; None where they cannot be said."""
         if "username" in item:
             name = item["username"]
-            if name == "ALL" or fits("name", name):
+            if name == "ALL" or has_form(name, "name"):
                 return [name]
             self.note(place, name.removeprefix(MARK) or "()", why_no_name(name))
             return None
-        if "usergroup" in item or "usergid" in item:
-            group = str(item.get("usergroup", item.get("usergid")))
-            shown = f"%{'#' if 'usergid' in item else ''}{group}"
-            return self.group(place, group, shown)
+        if "usergroup" in item:
+            return self.group(place, item["usergroup"], None)
+        if "usergid" in item:
+            return self.group(place, None, str(item["usergid"]))
         if "userid" in item:
-            rows = getent("passwd", str(item["userid"]))
-            names = [row[0] for row in rows if fits("name", row[0])]
-            self.note(place, f"#{item['userid']}", f"it is {', '.join(names) or 'nobody'} here, by getent", is_left_out=not names)
-            # (elsewhere it may be somebody)
-            return names or None
+            return self.number(place, str(item["userid"]))
         what = "+" + item["netgroup"] if "netgroup" in item else str(next(iter(item.values())))
         self.note(place, what, "netgroups and groups of other systems cannot be said: name their users")
         return None
 
-    def group(self, place: Place, group: str, shown: str) -> list[str] | None:
-        found = members(group)
+    def number(self, place: Place, number: str) -> list[str] | None:
+        """The names of a user's number; None where one cannot be said, or there is none (elsewhere
+        it may be somebody)."""
+        names = machine.users(number)
+        is_said = bool(names) and all(has_form(name, "name") for name in names)
+        said = f"it is {', '.join(names) or 'nobody'} here, by getent"
+        self.note(place, f"#{number}", said, is_left_out=not is_said)
+        return names if is_said else None
+
+    def group(self, place: Place, name: str | None, number: str | None) -> list[str] | None:
+        shown = f"%{name if name is not None else f'#{number}'}"
+        try:
+            found = machine.members(name, number)
+        except BadSudoers as fault:
+            raise BadSudoers(f"{place}: {fault}") from None
         if found is None:
-            self.note(place, shown, "there is no such group here, by getent: import where the group is known")
+            said = "there is no such group here, by getent: import where the group is known"
+            self.note(place, shown, said)
             return None
-        odd = [name for name in found if not fits("name", name)]
+        odd = [name for name in found if not has_form(name, "name")]
         if odd:
             self.note(place, shown, f"no user of the desk has the names {', '.join(odd)}")
             return None
-        self.note(place, shown, f"it is {', '.join(found) or 'nobody'} here, by getent: who joins later is not in the base", is_left_out=False)
+        said = f"it is {', '.join(found) or 'nobody'} here, by getent: who joins later is not in the base"
+        self.note(place, shown, said, is_left_out=False)
         return list(found)
 
-    def host(self, place: Place, item: dict[str, Any]) -> list[str] | None:
+    def host(self, place: Place, item: dict[str, Any], is_wide: bool) -> tuple[list[str] | None, bool]:
+        """The hosts that an item stands for, more of them where it is wide and they are not sure,
+        else fewer; and whether they are sure."""
         name = item.get("hostname")
         if name == "ALL":
-            return [name]
-        if name is not None and fits("host", name.lower()):
-            return [name.lower()]
-        if self.hosts and (found := self.listed(item)) is not None:
-            what = name or item["networkaddr"]
-            self.note(place, what, f"it is {', '.join(found) or 'no host'} by the list of hosts", is_left_out=not found)
-            return found or None
+            return [name], True
+        if name is not None and has_form(name.lower(), "host"):
+            return [name.lower()], True
         what = str(name or next(iter(item.values())))
-        self.note(place, what, "only short host names can be said: name the hosts, or give --host-list a file of them, as /etc/hosts")
-        return None
+        if self.hosts and (found := self.listed(item)) is not None:
+            names = found.perhaps if is_wide else found.sure
+            said = f"it is {', '.join(names) or 'no host'} by the list of hosts"
+            self.note(place, what, said, is_left_out=not names)
+            return names or None, set(found.sure) == set(found.perhaps)
+        said = "only short host names can be said: name the hosts, or give --host-list a file of them, as /etc/hosts"
+        self.note(place, what, said)
+        return None, False
 
-    def listed(self, item: dict[str, Any]) -> list[str] | None:
+    def listed(self, item: dict[str, Any]) -> machine.Meant | None:
         """The hosts of the list that an address, a network, a whole name or a wildcard stands for."""
-        try:
-            if "networkaddr" in item:
-                network = ipaddress.ip_network(item["networkaddr"], strict=False)
-                found = [names for address, names in self.hosts if ipaddress.ip_address(address) in network]
-            elif "hostname" in item:
-                form = item["hostname"].lower()
-                found = [names for _, names in self.hosts if any(fnmatchcase(name.lower(), form) for name in names)]
-            else:
-                return None
-        except ValueError:
+        matches = None
+        if "networkaddr" in item:
+            matches = machine.by_address(item["networkaddr"])
+        elif "hostname" in item:
+            matches = machine.by_name(item["hostname"].lower())
+        if matches is None:
             return None
-        short = [names[0].lower().partition(".")[0] for names in found]
-        return list(dict.fromkeys(short)) if all(fits("host", name) for name in short) else None
+        found = machine.meant(self.hosts, matches)
+        return found if all(has_form(name, "host") for name in found.perhaps) else None
 
     # ---- lists
 
@@ -256,7 +283,8 @@ class Import:
         """A list of users, targets or hosts: where it cannot say all, it takes in more where it is wide, and else less."""
         found = Words()
         for where, negated, item in self.items(place, kind, held):
-            words = [item] if isinstance(item, str) else self.host(where, item) if kind == HOST else self.user(where, item)
+            words, is_sure = self.words(where, kind, item, is_wide != negated)
+            found.is_exact = found.is_exact and is_sure
             if words is not None:
                 found.items += [f"{'!' if negated else ''}{word}" for word in words]
                 continue
@@ -266,6 +294,14 @@ class Import:
                 found.is_all, found.is_cut = found.is_all or not negated, found.is_cut or (negated and bool(found.items))
                 found.items = [] if negated else ["ALL"]
         return found
+
+    def words(
+        self, place: Place, kind: str, item: Any, is_wide: bool
+    ) -> tuple[list[str] | None, bool]:
+        """What an item stands for; None where that cannot be said; and whether it is sure."""
+        if isinstance(item, str):
+            return [item], True
+        return self.host(place, item, is_wide) if kind == HOST else (self.user(place, item), True)
 
     def aliases(self, kind: str) -> None:
         """The aliases whose lists can be said whole, each behind those that it names."""
@@ -328,11 +364,12 @@ class Import:
 
     def rule(self, place: Place, spec: dict[str, Any]) -> None:
         for part in spec["Cmnd_Specs"]:
-            options: dict[str, Any] = {"selinux": True} if part.get("SELinux_Spec") else {}
+            options: dict[str, Any] = {key: True for name, key in SPECS.items() if part.get(name)}
             for option in part.get("Options", []):
                 options |= option
             for where, negated, item in self.items(place, COMMAND, part["Commands"]):
-                self.one((place, where), spec, part, options, negated, item)
+                within = options if where == place else options | IN_ALIAS
+                self.one((place, where), spec, part, within, negated, item)
 
     def one(self, places: tuple[Place, Place], spec: dict[str, Any], part: dict[str, Any], options: dict[str, Any], negated: bool, item: Any) -> None:
         """One command of a rule, or one alias of commands: where the rule stands, and where the command does."""
@@ -342,12 +379,10 @@ class Import:
         alias = list(self.written_out(item, negated)) if isinstance(item, str) else []
         is_mixed = any(sign != negated for sign, _ in alias)
         lists = self.lists(place, spec, part, is_wide=negated)
-        if lists is None:
-            return
         if is_mixed and (self.holds_back(options, item) or not all(it.is_exact for it in lists)):
             # (what it denies has to be denied to more, and what it allows allowed to fewer)
             for sign, each in alias:
-                self.one(places, spec, part, options, sign, each)
+                self.one(places, spec, part, options | IN_ALIAS, sign, each)
             return
         if not negated and (text is None or self.held_back(place, name, options, item)):
             if text is None:
@@ -370,7 +405,19 @@ class Import:
             said += [f"NOTAFTER={options['notafter']}"] if "notafter" in options else []
             said += ["NOPASSWD:"] if options.get("authenticate") is False else []
             self.has_nopasswd = self.has_nopasswd or said[-1:] == ["NOPASSWD:"]
+            if text == "ALL" and not negated and "in_alias" in options:
+                text = self.all_of_alias()
             self.lines.append(" ".join([f"{users} {hosts} = ({targets})", *said, f"{'!' if negated else ''}{text}"]))
+
+    def all_of_alias(self) -> str:
+        """An alias of ALL alone. ALL in a rule lets its user set the environment, and ALL in an
+        alias does not: what an alias said stays in one."""
+        if not self.plain_all:
+            self.plain_all = "ALL_WITHOUT_SETENV"
+            while self.plain_all in self.sudoers.aliases[COMMAND]:
+                self.plain_all += "_"
+            self.lines.append(f"{KINDS[COMMAND]} {self.plain_all} = ALL")
+        return self.plain_all
 
     def widened(self, place: Place, lists: tuple[Words, Words, Words]) -> None:
         """Notes on what a rule's lists say in place of what cannot be said, and on lists that mean nobody."""
@@ -392,18 +439,35 @@ class Import:
             elif named in self.sudoers.aliases[COMMAND] and named not in (alias, *above):
                 yield from self.written_out(named, negated, (alias, *above))
 
-    def lists(self, place: Place, spec: dict[str, Any], part: dict[str, Any], is_wide: bool) -> tuple[Words, Words, Words] | None:
-        targets = part.get("runasusers")
-        if targets is None and "runasgroups" in part:
-            self.note(place, "(:group)", "a group as target cannot be said: name a target user")
-            return None
-        if "runasgroups" in part:
-            self.note(place, f"(.. : {', '.join(map(group_of, part['runasgroups']))})", "groups as targets cannot be said: `sudo -g` is not allowed")
+    def lists(
+        self, place: Place, spec: dict[str, Any], part: dict[str, Any], is_wide: bool
+    ) -> tuple[Words, Words, Words]:
         return (
             self.names(place, USER, spec["User_List"], is_wide),
             self.names(place, HOST, spec["Host_List"], is_wide),
-            self.names(place, RUNAS, targets, is_wide) if targets is not None else Words([self.target]),
+            self.targets(place, part, is_wide),
         )
+
+    def targets(self, place: Place, part: dict[str, Any], is_wide: bool) -> Words:
+        """The targets of a command. Whoever may name a group alone (`sudo -g`) stays who they are,
+        so what is denied so is denied for each target; and a group that is denied denies those
+        before it."""
+        users, groups = part.get("runasusers"), part.get("runasgroups")
+        if users is None and groups is None:
+            if self.unsaid_target:
+                raise BadSudoers(self.unsaid_target)
+            return Words([self.target])
+        if users is None:
+            self.note(place, "(:group)", "a group as target cannot be said: name a target user")
+            return Words(["ALL"], False, True) if is_wide else Words([], False)
+        found = self.names(place, RUNAS, users, is_wide)
+        if groups is not None:
+            shown = f"(.. : {', '.join(map(group_of, groups))})"
+            self.note(place, shown, "groups as targets cannot be said: `sudo -g` is not allowed")
+            if any("negated" in item or "runasalias" in item for item in groups):
+                found.is_exact = False
+                found.items = found.items if is_wide else []
+        return found
 
     def holds_back(self, options: dict[str, Any], item: Any) -> str | None:
         """Why an option stands against the command: without it the rule would give more. None where none does."""

@@ -7,7 +7,9 @@ from datetime import datetime, timezone
 from typing import Any
 
 from desk_tools import admission, explain, message_faults, roster_faults
-from desk_tools.found import Fault, Warning, coded, first_code
+from desk_tools.base_faults import Base, warnings_of
+from desk_tools.found import Fault, Parser, Warning, coded, first_code, visible
+from desk_tools.judge import NoDesk, program
 from desk_tools.schema import NoJsonschema
 from desk_tools.site import Site
 from desk_tools.warnings import Warnings
@@ -23,6 +25,8 @@ class Looked:
         self.faults: list[Fault] = []
         self.warnings: list[Warning] = []
         self.answers: dict[int, str] = {}
+        self.answer: str | None = None
+        self.is_cut = False
         self.count = 1
 
     def as_data(self) -> dict[str, Any]:
@@ -32,20 +36,20 @@ class Looked:
             "faults": [dict(fault._asdict(), name=coded(fault.code)) for fault in self.faults],
             "warnings": [warning._asdict() for warning in self.warnings],
         }
-        code = first_code(self.faults)
-        if self.kind == "roster":
-            return found | {"answer": coded(code) if code else None}
+        if self.kind != "messages":
+            return found | {"answer": self.answer}
         return found | {"messages": self.count, "answers": {str(line): coded(code) for line, code in self.answers.items()}}
 
     def as_text(self) -> str:
         lines = [f"{self.name}:{it.line}: {coded(it.code)}: {value_of(it.key, it.value)}{it.expected}" for it in self.faults]
         lines += [f"{self.name}:{it.line}: {'note' if it.is_note else 'warning'}: {it.key}: {it.said}" for it in self.warnings]
-        code = first_code(self.faults)
-        if self.kind == "roster" and code:
-            lines.append(f"{self.name}: refused; of these faults the desk names {coded(code)}")
+        if self.is_cut:
+            lines.append(f"{self.name}: there are more faults; correct these, and run it again")
+        if self.answer:
+            lines.append(f"{self.name}: refused; of these faults the desk names {self.answer}")
         elif self.kind == "messages" and self.answers:
             lines.append(f"{self.name}: {len(self.answers)} of {self.count} {'line is' if self.count == 1 else 'lines are'} refused")
-        return "".join(f"{line}\n" for line in lines)
+        return "".join(f"{visible(line)}\n" for line in lines)
 
 
 def value_of(key: str, value: str) -> str:
@@ -54,7 +58,9 @@ def value_of(key: str, value: str) -> str:
 
 
 def kind_of(name: str, data: bytes) -> str:
-    """A roster or messages: by the name, else by the first byte."""
+    """A roster, a base or messages: by the name, else by the first byte."""
+    if name.endswith(".sudo"):
+        return "base"
     if name.endswith(".toml"):
         return "roster"
     if name.endswith((".json", ".jsonl", ".messages")):
@@ -65,8 +71,19 @@ def kind_of(name: str, data: bytes) -> str:
 def look_at_roster(name: str, data: bytes, today: str) -> Looked:
     looked, roster = Looked(name, "roster"), roster_faults.Roster(data)
     looked.faults = roster.look()
+    code = first_code(looked.faults)
+    looked.answer = coded(code) if code else None
     if not looked.faults:
         looked.warnings = Warnings(roster.document, today).look()
+    return looked
+
+
+def look_at_base(name: str, data: bytes, desk: str) -> Looked:
+    looked, base = Looked(name, "base"), Base(desk, data)
+    looked.faults = base.look()
+    looked.answer, looked.is_cut = base.answer, base.is_cut
+    if not looked.faults:
+        looked.warnings = warnings_of(data)
     return looked
 
 
@@ -91,7 +108,7 @@ def look_at_messages(name: str, data: bytes, site: Site | None) -> Looked:
 
 
 class Unread(Exception):
-    """A file that cannot be read or is a base policy, or a roster that has faults where messages are to be admitted by it."""
+    """A file that cannot be read, or a roster that has faults where messages are to be admitted by it."""
 
 
 def read(name: str) -> bytes:
@@ -112,17 +129,19 @@ def site_of(name: str) -> Site:
 
 
 def parser() -> argparse.ArgumentParser:
-    found = argparse.ArgumentParser(
+    found = Parser(
         "desk-lint",
-        description="Looks through rosters and messages of a privileged access desk.",
+        description="Looks through rosters, base policies and messages of a privileged access desk.",
         epilog="Exit status: 0 nothing is wrong, 1 there are warnings and --strict was given, 2 the desk would refuse something.",
     )
     found.add_argument("--json", action="store_true", help="print what is found as JSON")
     found.add_argument("--strict", action="store_true", help="warnings end with status 1")
     found.add_argument("--roster", metavar="ROSTER", help="whether this roster admits the messages, too")
+    found.add_argument("--base", action="store_true", help="each FILE is a base policy, whatever its name")
+    found.add_argument("--desk", metavar="PROGRAM", help="the program desk, which judges bases (the one on the path)")
     found.add_argument("--on", metavar="DAY", help="warn as on this day, yyyymmdd, in UTC (today)")
     found.add_argument("--explain", metavar="CODE", help="print what a code means and what to do, and nothing else")
-    found.add_argument("files", metavar="FILE", nargs="*", help="a roster (*.toml), or messages, one a line (*.messages, *.json); - is the input")
+    found.add_argument("files", metavar="FILE", nargs="*", help="a roster (*.toml), a base (*.sudo), or messages, one a line (*.messages, *.json); - is the input")
     return found
 
 
@@ -138,14 +157,18 @@ def lint(said: argparse.Namespace) -> int:
     site = site_of(said.roster) if said.roster else None
     looked = []
     for name in said.files:
-        if name.endswith(".sudo"):
-            raise Unread(f"{name}: a base policy by its name, which the desk itself tests: desk check {name}")
         data = read(name)
-        is_roster = kind_of(name, data) == "roster"
-        looked.append(look_at_roster(name, data, today) if is_roster else look_at_messages(name, data, site))
+        kind = "base" if said.base else kind_of(name, data)
+        if kind == "base":
+            looked.append(look_at_base(name, data, program(said.desk)))
+        elif kind == "roster":
+            looked.append(look_at_roster(name, data, today))
+        else:
+            looked.append(look_at_messages(name, data, site))
     if said.json:
-        json.dump({"files": [it.as_data() for it in looked]}, sys.stdout, indent=2)
-        print()
+        told = json.dumps({"files": [it.as_data() for it in looked]}, indent=2)
+        # (JSON may have this one byte as it stands)
+        print(told.replace("\x7f", "\\u007f"))
     else:
         sys.stdout.write("".join(it.as_text() for it in looked))
     return status(looked, said.strict)
@@ -157,7 +180,7 @@ def main(words: list[str]) -> int:
     if said.explain:
         told = explain.explain(said.explain)
         if told is None:
-            print(f"desk-lint: there is no code {said.explain}: desk-codes(7) has them all", file=sys.stderr)
+            print(f"desk-lint: there is no code {visible(said.explain)}: desk-codes(7) has them all", file=sys.stderr)
             return FAULTY
         sys.stdout.write(told)
         return CLEAN
@@ -167,8 +190,8 @@ def main(words: list[str]) -> int:
         found.error("--on: a day is yyyymmdd")
     try:
         return lint(said)
-    except Unread as fault:
-        print(f"desk-lint: {fault}", file=sys.stderr)
+    except (Unread, NoDesk) as fault:
+        print(f"desk-lint: {visible(str(fault))}", file=sys.stderr)
     except NoJsonschema:
         print("desk-lint: it needs Debian's package python3-jsonschema", file=sys.stderr)
     return FAULTY

@@ -129,8 +129,9 @@ class Roster:
         """All faults, by line."""
         if self.document.faults:
             return [Fault(line, "O1", "", "", said) for line, said in self.document.faults]
-        for error in schema.validator("roster").iter_errors(self.document.value):
-            self.by_schema(error)
+        if not schema.fits("roster")(self.document.value):
+            for error in schema.validator("roster").iter_errors(self.document.value):
+                self.by_schema(error)
         self.names()
         self.days()
         if len(self.data) > MOST_BYTES:
@@ -159,7 +160,7 @@ class Roster:
             self.add(code, path, error.instance, said)
 
     def ceiling_keys(self) -> list[str]:
-        return list(schema.validator("roster").schema["$defs"]["ceiling"]["properties"])
+        return list(schema.document("roster")["$defs"]["ceiling"]["properties"])
 
     # ---- what a schema cannot say
 
@@ -239,8 +240,7 @@ def near(word: str, known: set[str]) -> str:
 
 def is_formed(text: str) -> bool:
     """Whether the schema takes the text for a day."""
-    form = schema.validator("roster").schema["$defs"]["day"]["pattern"]
-    return schema.whole(form).search(text) is not None
+    return schema.day_form().search(text) is not None
 
 
 def is_day(text: Any) -> bool:

@@ -1,9 +1,10 @@
 """The published schemas, and how the tools validate by them: whole numbers are no floats, and a pattern has to fit the whole text."""
 
 import json
+import math
 import os
 import re
-from collections.abc import Iterator
+from collections.abc import Callable, Iterator
 from functools import cache
 from typing import Any
 
@@ -33,6 +34,23 @@ def inlined(node: Any, named: dict[str, Any]) -> Any:
 
 
 @cache
+def document(name: str) -> dict[str, Any]:
+    with open(os.path.join(FOLDER, f"{name}.schema.json"), encoding="utf-8") as file:
+        found: dict[str, Any] = json.load(file)
+    return found
+
+
+@cache
+def day_form() -> re.Pattern[str]:
+    return whole(document("roster")["$defs"]["day"]["pattern"])
+
+
+def has_form(text: str, form: str) -> bool:
+    """Whether a text has a form that both schemas define."""
+    return whole(document("message")["$defs"][form]["pattern"]).search(text) is not None
+
+
+@cache
 def validator(name: str) -> Any:
     try:
         from jsonschema import Draft202012Validator, ValidationError, validators
@@ -48,6 +66,62 @@ def validator(name: str) -> Any:
 
     checker = Draft202012Validator.TYPE_CHECKER.redefine("integer", is_integer)
     strict = validators.extend(Draft202012Validator, {"pattern": pattern}, type_checker=checker)
-    with open(os.path.join(FOLDER, f"{name}.schema.json"), encoding="utf-8") as file:
-        schema = json.load(file)
+    schema = document(name)
     return strict(inlined(schema, schema["$defs"]))
+
+
+Check = Callable[[Any], bool]
+TYPES = {"string": str, "object": dict, "array": list, "integer": int}
+KNOWN = set(
+    "$schema $id $defs title description examples type pattern properties required items "
+    "additionalProperties propertyNames minItems maxItems maxProperties minimum maximum".split()
+)
+
+
+@cache
+def fits(name: str) -> Check:
+    """Whether a value is what the schema says: quick, and without a word on what is not. A schema
+    with other keywords than are known here fits nothing, so that the validator is asked."""
+    schema = document(name)
+    return check_of(inlined(schema, schema["$defs"]))
+
+
+def check_of(node: Any) -> Check:
+    if not isinstance(node, dict) or "type" not in node or set(node) - KNOWN:
+        return lambda value: node == {}
+    kinds = [node["type"]] if isinstance(node["type"], str) else node["type"]
+    makers = {str: text_check, dict: table_check, list: list_check, int: number_check}
+    checks = {kind: makers[kind](node) for kind in (TYPES[kind] for kind in kinds)}
+    return lambda value: type(value) in checks and checks[type(value)](value)
+
+
+def text_check(node: dict[str, Any]) -> Check:
+    form = whole(node.get("pattern", ""))
+    return lambda value: form.search(value) is not None
+
+
+def number_check(node: dict[str, Any]) -> Check:
+    least, most = node.get("minimum", -math.inf), node.get("maximum", math.inf)
+    return lambda value: least <= value <= most
+
+
+def list_check(node: dict[str, Any]) -> Check:
+    least, most = node.get("minItems", 0), node.get("maxItems", math.inf)
+    item = check_of(node.get("items", {}))
+    return lambda value: least <= len(value) <= most and all(map(item, value))
+
+
+def table_check(node: dict[str, Any]) -> Check:
+    most, required = node.get("maxProperties", math.inf), set(node.get("required", ()))
+    members = {key: check_of(it) for key, it in node.get("properties", {}).items()}
+    name, other = (check_of(node.get(it, {})) for it in ("propertyNames", "additionalProperties"))
+
+    def check(value: dict[str, Any]) -> bool:
+        return (
+            len(value) <= most
+            and required <= value.keys()
+            and all(map(name, value))
+            and all(members.get(key, other)(it) for key, it in value.items())
+        )
+
+    return check

@@ -1,6 +1,5 @@
 """A roster without faults, as the desk reads it: who holds what on which day, and what a ceiling admits (docs/ROSTER.md)."""
 
-from datetime import date, timedelta
 from typing import Any, NamedTuple
 
 FIRST, LAST = "19700101", "20991231"
@@ -48,26 +47,15 @@ def lies_inside(asked: Command, wide: Command) -> bool:
     return asked.path == wide.path and wide.rule == "any"
 
 
-def moved(day: str, days: int) -> str:
-    return (date(int(day[:4]), int(day[4:6]), int(day[6:])) + timedelta(days=days)).strftime("%Y%m%d")
-
-
-def day_after(day: str) -> str | None:
-    """The next day; None behind the last."""
-    return None if day == LAST else moved(day, 1)
-
-
-def day_before(day: str | None) -> str:
-    """The day before; the last one where there is no day."""
-    return LAST if day is None else moved(day, -1)
-
-
 class Site:
     def __init__(self, document: dict[str, Any]) -> None:
         self.relays: list[str] = document["relays"]
         self.hosts: list[str] = document["hosts"]
         self.duties: list[str] = document["duties"]
-        self.conflicts = [frozenset(pair) for pair in document["conflicts"]]
+        self.against: dict[str, set[str]] = {}
+        for one, other in document["conflicts"]:
+            self.against.setdefault(one, set()).add(other)
+            self.against.setdefault(other, set()).add(one)
         self.people: dict[str, list[Any]] = document["people"]
         self.ceilings: dict[str, dict[str, Any]] = document["ceilings"]
 
@@ -82,16 +70,4 @@ class Site:
         return found
 
     def conflicts_with(self, duty: str) -> set[str]:
-        return {other for pair in self.conflicts if duty in pair for other in pair if other != duty}
-
-    def ever(self, person: str) -> set[str]:
-        """The duties that a person holds on some day."""
-        return {entry if isinstance(entry, str) else entry["duty"] for entry in self.people[person]}
-
-    def changes(self, person: str, today: str) -> dict[str, set[str]]:
-        """From today on: each day on which a person's duties may change, and those held from then on."""
-        days = {today}
-        for entry in self.people[person]:
-            if isinstance(entry, dict):
-                days |= {day for day in (entry["from"], day_after(entry["until"])) if day is not None and day > today}
-        return {day: self.held(person, day) for day in sorted(days)}
+        return self.against.get(duty, set())

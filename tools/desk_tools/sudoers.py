@@ -1,30 +1,25 @@
-"""A sudoers file as sudo's own cvtsudoers reads it, with the line of each thing.
+"""A sudoers file as sudo reads it, with the line of each thing.
 
-cvtsudoers tells no lines: each line is converted alone, and what comes of them has to be what comes of the whole file.
+sudo's own reader tells no lines. So the file is read twice: whole, with all that it includes, by
+sudo's reader; and line by line, each line by sudo's reader again. Where the two differ, or sudo on
+a host would pass over a file, there is no reading at all: whatever is not read may be a denial.
 """
 
-import json
 import os
-import re
-import subprocess
+import stat
 from collections.abc import Iterator
 from dataclasses import dataclass, field
-from typing import Any
+from typing import Any, NamedTuple
+
+from desk_tools.cvtsudoers import BadSudoers, Read, file_read, has_local_time, rules, text_read
+from desk_tools.sudo_lines import Include, Line, NoInclude, lines_of
 
 ALIASES = ("User_Aliases", "Runas_Aliases", "Host_Aliases", "Command_Aliases")
-INCLUDE = re.compile(r"[@#](include|includedir)[ \t]+(?:\"([^\"]+)\"|((?:[^ \t\\]|\\.)+))[ \t]*$")
-COMMENT = re.compile(r"(?<!\\)#(?!-?[0-9])")
+ALIAS_KEYS = dict(zip(ALIASES, ("useralias", "runasalias", "hostalias", "cmndalias")))
+MOST_FILES = 1024
 MOST_DEEP = 128
-# options of a command, which come before its tags
-OPTION = r"(?:NOTBEFORE|NOTAFTER|TIMEOUT|CWD|CHROOT|ROLE|TYPE|PRIVS|LIMITPRIVS|APPARMOR_PROFILE)[ \t]*=[ \t]*"
-HEAD = re.compile(rf"[ \t]*(?:\([^)]*\)[ \t]*)?(?:{OPTION}(?:\"[^\"]*\"|(?:\\.|[^ \t\\,])+)[ \t]+)*")
-TAGS = re.compile(r"(?:(?:NO)?(?:PASSWD|EXEC|SETENV|LOG_INPUT|LOG_OUTPUT|MAIL|FOLLOW|INTERCEPT)[ \t]*:[ \t]*)*")
-MAIL = re.compile(r"(?:NO)?MAIL[ \t]*:[ \t]*")
-MARK = re.compile(r'"[^"]*"|\\.|sha(?:224|256|384|512)[ \t]*:|\([^)]*\)|([,:=])')
-
-
-class BadSudoers(Exception):
-    """sudo cannot read the file, or is not there."""
+# as many aliases as a desk nests
+MOST_NESTED = 64
 
 
 @dataclass(frozen=True)
@@ -38,191 +33,236 @@ class Place:
         return f"{self.file}:{self.line}" if self.line else self.file
 
 
+class Alias(NamedTuple):
+    place: Place
+    items: list[dict[str, Any]]
+
+
+class Default(NamedTuple):
+    """A Defaults line: its text, and each of its settings with its value. A list's value is what is
+    done with it, and its words."""
+
+    place: Place
+    text: str
+    is_scoped: bool
+    settings: list[tuple[str, Any]]
+
+
 @dataclass
 class Sudoers:
     """Everything that stands in a file and in those that it includes."""
 
-    defaults: list[tuple[Place, str]] = field(default_factory=list)
-    aliases: dict[str, dict[str, tuple[Place, list[dict[str, Any]]]]] = field(default_factory=lambda: {kind: {} for kind in ALIASES})
+    defaults: list[Default] = field(default_factory=list)
+    aliases: dict[str, dict[str, Alias]] = field(
+        default_factory=lambda: {kind: {} for kind in ALIASES}
+    )
     specs: list[tuple[Place, dict[str, Any]]] = field(default_factory=list)
-    unread: list[tuple[Place, str, str]] = field(default_factory=list)
+    missing: list[tuple[Place, str]] = field(default_factory=list)
 
 
-def mended(text: str) -> str:
-    """cvtsudoers of 1.9.13 writes some pairs straight into a list: each is made an object."""
-    lines, stack = [], []
-    for line in text.splitlines():
-        bare = line.strip().rstrip(",")
-        if bare[:1] in "]}" and bare:
-            stack.pop()
-        elif stack and stack[-1] == "[" and re.match(r'"\w+": ', bare):
-            line = f"{{ {bare} }}" + ("," if line.rstrip().endswith(",") else "")
-        elif bare[-1:] in ("[", "{"):
-            stack.append(bare[-1])
-        lines.append(line)
-    return "\n".join(lines)
+class Gatherer:
+    """The lines of a file and of those that it includes, in sudo's order."""
+
+    def __init__(self) -> None:
+        self.files = 0
+        self.missing: list[tuple[Place, str]] = []
+
+    def file(
+        self, path: str, shown: str, above: tuple[tuple[int, int], ...] = ()
+    ) -> Iterator[tuple[Place, Line]]:
+        self.files += 1
+        if self.files > MOST_FILES or len(above) > MOST_DEEP:
+            raise BadSudoers(f"{shown}: too many files are included")
+        text, identity = contents(path, shown, is_included=bool(above))
+        if identity in above:
+            raise BadSudoers(f"{shown}: the file includes itself")
+        try:
+            lines = lines_of(text)
+        except NoInclude as fault:
+            raise BadSudoers(f"{Place(shown, fault.number)}: an include of no file") from None
+        for line in lines:
+            place = Place(shown, line.number)
+            if line.include is None:
+                yield place, line
+            else:
+                yield from self.include(place, path, line.include, (*above, identity))
+
+    def include(
+        self, place: Place, path: str, found: Include, above: tuple[tuple[int, int], ...]
+    ) -> Iterator[tuple[Place, Line]]:
+        if "%h" in found.name:
+            raise BadSudoers(
+                f"{place}: the name of the file has the host in it (%h): "
+                "import what that host's file says"
+            )
+        target = os.path.join(os.path.dirname(path), found.name)
+        try:
+            for name in self.named(place, target) if found.is_directory else [target]:
+                yield from self.file(name, name, above)
+        except OSError as fault:
+            what = fault.filename if isinstance(fault.filename, str) else target
+            raise BadSudoers(f"{place}: {what} cannot be read: {fault.strerror}") from None
+        except BadSudoers as fault:
+            raise BadSudoers(f"{place}: {fault}") from None
+
+    def named(self, place: Place, folder: str) -> list[str]:
+        """The files of a directory that sudo reads, in its order."""
+        try:
+            found = os.stat(folder)
+        except FileNotFoundError:
+            self.missing.append((place, folder))
+            return []
+        why = insecure(found, stat.S_ISDIR(found.st_mode), "directory")
+        if why:
+            raise BadSudoers(f"{folder}: {why}")
+        names = [it for it in os.listdir(folder) if "." not in it and not it.endswith("~")]
+        paths = [os.path.join(folder, name) for name in sorted(names, key=os.fsencode)]
+        return [path for path in paths if os.path.isfile(path)]
 
 
-def converted(text: str, name: str) -> dict[str, Any]:
-    """What cvtsudoers reads."""
-    try:
-        ran = subprocess.run(
-            ["cvtsudoers", "-f", "json", "-"],
-            input=text.encode("utf-8", "surrogateescape"),
-            capture_output=True,
-            check=False,
-            env={**os.environ, "LC_ALL": "C", "PATH": f"{os.environ.get('PATH', '')}:/usr/sbin:/usr/bin"},
-        )
-    except FileNotFoundError:
-        raise BadSudoers("it needs sudo's cvtsudoers (Debian's package sudo)") from None
-    if ran.returncode:
-        said = ran.stderr.decode("utf-8", "replace").replace("stdin", name).strip().splitlines()
-        # (what follows a fault's own line shows the place by marks below it)
-        raise BadSudoers(f"sudo cannot read it: {said[0][:400] if said else 'cvtsudoers does not say why'}")
-    found = ran.stdout.decode("utf-8", "surrogateescape").strip()
-    return json.loads(mended(found), strict=False) if found else {}
+def insecure(found: os.stat_result, has_type: bool, what: str) -> str | None:
+    """Why sudo passes over a file or directory; None where it reads it."""
+    if not has_type:
+        return f"it is no {what}, so sudo does not read it"
+    if found.st_uid != 0:
+        return f"it belongs to user {found.st_uid} and not to root, so sudo does not read it"
+    if found.st_mode & stat.S_IWOTH:
+        return "everybody may write to it, so sudo does not read it"
+    if found.st_mode & stat.S_IWGRP and found.st_gid != 0:
+        return f"the group {found.st_gid} may write to it, so sudo does not read it"
+    return None
 
 
-def logical(text: str) -> Iterator[tuple[int, str]]:
-    """Each line with those that continue it, without its comment, and the number of the first."""
-    held, began = "", 0
-    for number, line in enumerate(text.split("\n"), 1):
-        line = line.rstrip("\r")
-        began = began or number
-        comment = None if INCLUDE.match(line.strip()) else COMMENT.search(re.sub(r'"[^"]*"', lambda it: "x" * len(it[0]), line))
-        if comment is None and re.search(r"\\[ \t]*$", line):
-            held += re.sub(r"\\[ \t]*$", " ", line)
-            continue
-        yield began, (held + (line[: comment.start()] if comment else line)).strip()
-        held, began = "", 0
-    if held:
-        yield began, held.strip()
+def contents(path: str, shown: str, is_included: bool) -> tuple[str, tuple[int, int]]:
+    """The text of a file, and which file it is. Whose the first one is, is for whoever names it."""
+    with open(os.open(path, os.O_RDONLY | os.O_NONBLOCK), "rb") as file:
+        found = os.fstat(file.fileno())
+        is_file = stat.S_ISREG(found.st_mode)
+        if is_included:
+            why = insecure(found, is_file, "regular file")
+        elif not is_file:
+            why = "it is no regular file"
+        else:
+            why = "everybody may write to it" if found.st_mode & stat.S_IWOTH else None
+        if why:
+            raise BadSudoers(f"{shown}: {why}")
+        data = file.read()
+    if b"\0" in data:
+        line = data.count(b"\n", 0, data.index(b"\0")) + 1
+        raise BadSudoers(f"{Place(shown, line)}: a byte 0, behind which sudo reads nothing")
+    return data.decode("utf-8", "surrogateescape"), (found.st_dev, found.st_ino)
 
 
-def plain(lines: list[tuple[int, str]]) -> str:
-    """The text without comments, continuations and included files, each line where it stands in the file, so that sudo names its number."""
-    rows = [""] * max((number for number, _ in lines), default=0)
-    for number, line in lines:
-        rows[number - 1] = "" if INCLUDE.match(line) else line
-    return "".join(f"{row}\n" for row in rows)
-
-
-def marks(line: str, at: int, wanted: str) -> int:
-    """Where one of these marks comes next, outside of quotes and parentheses and without a backslash; the line's end where none does."""
-    for found in MARK.finditer(line, at):
-        if found[1] and found[1] in wanted:
-            return found.start()
-    return len(line)
-
-
-def set_apart(line: str) -> str:
-    """A rule in which each command has another tag than the one before: cvtsudoers of 1.9.13 joins commands whose options alone differ, and tells the
-    options of the first. The tag is one of those that give no right."""
-    pieces, at, count = [], 0, 0
-    while (equals := marks(line, at, "=")) < len(line):
-        pieces.append(line[at : equals + 1])
-        at = equals + 1
-        while True:
-            head = HEAD.match(line, at)
-            assert head is not None
-            tags = TAGS.match(line, head.end())
-            assert tags is not None
-            end = marks(line, tags.end(), ",:")
-            pieces += [head[0], " MAIL: " if count % 2 else " NOMAIL: ", MAIL.sub("", tags[0]), line[tags.end() : end + 1]]
-            at, count = end + 1, count + 1
-            if line[end : end + 1] != ",":
-                break
-    return "".join(pieces) + line[at:]
-
-
-def commands(specs: list[dict[str, Any]]) -> list[Any]:
-    """Each command of these rules with what else the rule says of it, but for its options."""
-    return [
-        [spec["User_List"], spec["Host_List"], part.get("runasusers"), part.get("runasgroups"), command]
-        for spec in specs
-        for part in spec["Cmnd_Specs"]
-        for command in part["Commands"]
-    ]
-
-
-def rules(line: str, place: Place) -> dict[str, Any]:
-    """What a line is, where cvtsudoers is not trusted with options."""
-    read = converted(f"{line}\n", place.file)
-    joined = any(len(part["Commands"]) > 1 for spec in read.get("User_Specs", []) for part in spec["Cmnd_Specs"])
-    if not joined or not re.search(OPTION, line):
-        return read
-    try:
-        apart = converted(f"{set_apart(line)}\n", place.file)
-    except BadSudoers:
-        apart = {}
-    specs = apart.get("User_Specs", [])
-    if commands(specs) != commands(read["User_Specs"]) or any(len(part["Commands"]) > 1 for spec in specs for part in spec["Cmnd_Specs"]):
-        raise BadSudoers(f"{place}: write each command with its options as a rule of its own: cvtsudoers mixes up such a line")
-    return apart
+def settings_of(options: list[dict[str, Any]]) -> list[tuple[str, Any]]:
+    """Each setting of a Defaults line, as cvtsudoers has them."""
+    found = []
+    for option in options:
+        operation = option.get("operation")
+        found += [
+            (name, (operation, value) if operation else value)
+            for name, value in option.items()
+            if name != "operation"
+        ]
+    return found
 
 
 class Reader:
-    def __init__(self) -> None:
+    """Reads each line by itself, and compares with the whole."""
+
+    def __init__(self, whole: Read, shown: str) -> None:
+        self.whole, self.shown = whole, shown
         self.found = Sudoers()
+        self.defaults: list[Any] = []
+        self.specs: list[tuple[Place, Any]] = []
 
-    def file(self, path: str, shown: str, depth: int = 0) -> None:
-        with open(path, "rb") as file:
-            text = file.read().decode("utf-8", "surrogateescape")
-        lines = list(logical(text))
-        whole = converted(plain(lines), shown)
-        mine, specs = Sudoers(), []
-        for number, line in lines:
-            place = Place(shown, number)
-            included = INCLUDE.match(line)
-            if included:
-                # (what was read so far comes before what is included)
-                self.take(mine)
-                mine.specs = []
-                self.include(place, path, included, depth)
-            elif re.match(r"Defaults\b", line):
-                mine.defaults.append((place, line))
-            elif line:
-                read = rules(line, place)
-                for kind in ALIASES:
-                    mine.aliases[kind] |= {name: (place, items) for name, items in read.get(kind, {}).items()}
-                mine.specs += [(place, spec) for spec in read.get("User_Specs", [])]
-                specs += read.get("User_Specs", [])
-        if commands(specs) != commands(whole.get("User_Specs", [])):
-            raise BadSudoers(f"{shown}: line by line sudo reads something else than the whole file; write each rule on lines of its own")
-        self.take(mine)
-
-    def take(self, mine: Sudoers) -> None:
-        self.found.defaults += mine.defaults
-        mine.defaults = []
-        for kind in ALIASES:
-            self.found.aliases[kind] |= mine.aliases[kind]
-        self.found.specs += mine.specs
-
-    def include(self, place: Place, path: str, found: re.Match[str], depth: int) -> None:
-        target = os.path.join(os.path.dirname(os.path.abspath(path)), found[2] or re.sub(r"\\(.)", r"\1", found[3]))
-        if "%h" in target:
-            self.found.unread.append((place, found[0], "the name has the host in it: import the file of each host"))
-        elif depth >= MOST_DEEP:
-            self.found.unread.append((place, found[0], "too many files include one another"))
-        elif found[1] == "include":
-            self.included(place, target, depth)
-        elif os.path.isdir(target):
-            for name in sorted(os.listdir(target)):
-                if "." not in name and not name.endswith("~") and os.path.isfile(os.path.join(target, name)):
-                    self.included(place, os.path.join(target, name), depth)
-
-    def included(self, place: Place, target: str, depth: int) -> None:
+    def line(self, place: Place, line: Line) -> None:
         try:
-            self.file(target, target, depth + 1)
-        except OSError as fault:
-            self.found.unread.append((place, target, f"it cannot be read: {fault.strerror}"))
+            read = text_read(f"{line.text}\n", str(place))
+            is_local = has_local_time(line.text, str(place))
+        except BadSudoers:
+            raise BadSudoers(differs(place)) from None
+        why = line.unsure
+        if is_local:
+            why = "a time without Z or an offset is another on each host: write it with Z"
+        if why:
+            raise BadSudoers(f"{place}: {why}")
+        for default in read.get("Defaults", []):
+            self.defaults.append(default)
+            settings, text = settings_of(default["Options"]), " ".join(line.text.split())
+            self.found.defaults.append(Default(place, text, "Binding" in default, settings))
+        for kind in ALIASES:
+            for name, items in read.get(kind, {}).items():
+                self.found.aliases[kind][name] = Alias(place, items)
+        self.specs += [(place, spec) for spec in read.get("User_Specs", [])]
+        self.found.specs += [(place, spec) for spec in rules(line.text, read, str(place))]
+
+    def compare(self) -> None:
+        """Refuses what sudo reads otherwise as a whole."""
+        whole = self.whole.get("User_Specs", [])
+        for number, (place, spec) in enumerate(self.specs):
+            if number >= len(whole) or spec != whole[number]:
+                raise BadSudoers(differs(place))
+        if len(whole) > len(self.specs):
+            raise BadSudoers(differs(self.specs[-1][0] if self.specs else Place(self.shown, 0)))
+        wanted = self.whole.get("Defaults", [])
+        for number, (default, told) in enumerate(zip(self.defaults, self.found.defaults)):
+            if number >= len(wanted) or default != wanted[number]:
+                raise BadSudoers(differs(told.place))
+        if len(wanted) > len(self.defaults):
+            raise BadSudoers(differs(Place(self.shown, 0)))
+        for kind in ALIASES:
+            self.compare_aliases(kind, self.whole.get(kind, {}))
+
+    def compare_aliases(self, kind: str, whole: dict[str, Any]) -> None:
+        mine = self.found.aliases[kind]
+        for name in [*mine, *whole]:
+            place = mine[name].place if name in mine else Place(self.shown, 0)
+            if name not in whole or name not in mine or mine[name].items != whole[name]:
+                raise BadSudoers(differs(place))
+
+    def circles(self) -> None:
+        """Refuses an alias that names itself, by others or not, and one that goes too deep."""
+        for kind in ALIASES:
+            depths: dict[str, int] = {}
+            for name in self.found.aliases[kind]:
+                self.depth(kind, name, (), depths)
+
+    def depth(self, kind: str, name: str, above: tuple[str, ...], depths: dict[str, int]) -> int:
+        held = self.found.aliases[kind].get(name)
+        if held is None:
+            return 0
+        if name in above:
+            raise BadSudoers(f"{held.place}: the alias {name} names itself")
+        if name not in depths:
+            if len(above) > MOST_NESTED:
+                raise BadSudoers(f"{held.place}: {name}: more than {MOST_NESTED} aliases deep")
+            named = [it[ALIAS_KEYS[kind]] for it in held.items if ALIAS_KEYS[kind] in it]
+            inner = [self.depth(kind, it, (*above, name), depths) for it in named]
+            depths[name] = 1 + max(inner, default=0)
+        if depths[name] > MOST_NESTED:
+            raise BadSudoers(f"{held.place}: {name}: more than {MOST_NESTED} aliases deep")
+        return depths[name]
+
+
+def differs(place: Place) -> str:
+    return (
+        f"{place}: sudo reads something else here than this tool does line by line: write each "
+        "rule, and each comment, on a line of its own"
+    )
 
 
 def read(path: str) -> Sudoers:
     """Everything in a sudoers file and in what it includes."""
-    reader = Reader()
+    absolute, gatherer = os.path.abspath(path), Gatherer()
     try:
-        reader.file(path, path)
+        lines = list(gatherer.file(absolute, path))
     except OSError as fault:
         raise BadSudoers(f"{path}: {fault.strerror}") from None
+    reader = Reader(file_read(absolute, path), path)
+    for place, line in lines:
+        if line.text:
+            reader.line(place, line)
+    reader.compare()
+    reader.circles()
+    reader.found.missing = gatherer.missing
     return reader.found

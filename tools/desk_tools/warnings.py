@@ -1,16 +1,20 @@
 """What is lawful in a roster and surely not meant."""
 
 import os
+import re
 import tomllib
 from collections.abc import Iterator
 from functools import cache
-from typing import Any, NamedTuple
+from typing import Any
 
 from desk_tools.found import Warning, dotted
-from desk_tools.site import LAST, Command, Site, command, day_after, day_before, seems_directory, without_slash
+from desk_tools.held import Held, Span, day, joined
+from desk_tools.site import LAST, Command, Site, command, seems_directory, without_slash
 from desk_tools.toml_text import Document, Path
 
 MOST_DAYS = 4
+MOST_OTHERS = 8
+LINKED = re.compile(r"/(?:s?bin|lib(?:32|64|x32)?)/")
 TABLE = os.path.join(os.path.dirname(os.path.abspath(__file__)), "runs_others.toml")
 
 
@@ -20,6 +24,17 @@ def table() -> dict[str, dict[str, Any]]:
     with open(TABLE, "rb") as file:
         read = tomllib.load(file)
     return {kind: {name: row for row in read[kind] for name in row["names"]} for kind in ("program", "directory")}
+
+
+def real_path(text: str) -> str | None:
+    """Why a command allows more than its path says, where directories are links into /usr."""
+    found = LINKED.match(text)
+    if found is None:
+        return None
+    return (
+        f"{found[0]} is a link to /usr{found[0]} on today's hosts, and sudo compares the file and its "
+        f"last name: it also allows /usr{text.split(' ')[0]}, which is the path to write"
+    )
 
 
 def risk(read: Command) -> str | None:
@@ -33,25 +48,6 @@ def risk(read: Command) -> str | None:
     return str(row["why"])
 
 
-class Span(NamedTuple):
-    """Days in which nothing changes, and who may ask and approve then."""
-
-    first: str
-    last: str
-    askers: set[str]
-    approvers: set[str]
-
-
-def spans(events: dict[str, list[tuple[str, bool, bool]]]) -> Iterator[Span]:
-    """The spans between days on which somebody may begin or cease to ask or approve."""
-    days, askers, approvers = sorted(events), set(), set()
-    for day, following in zip(days, [*days[1:], None]):
-        for person, asks, approves in events[day]:
-            (askers.add if asks else askers.discard)(person)
-            (approvers.add if approves else approvers.discard)(person)
-        yield Span(day, day_before(following), set(askers), set(approvers))
-
-
 class Warnings:
     """Looks through a roster that is read, as it stands from a day on."""
 
@@ -59,13 +55,7 @@ class Warnings:
         self.document, self.today = document, today
         self.site = Site(document.value)
         self.found: list[Warning] = []
-        self.ever = {person: self.site.ever(person) for person in self.site.people}
-        self.changes = {person: self.site.changes(person, today) for person in self.site.people}
-        self.holders: dict[str, list[str]] = {}
-        for person, duties in self.ever.items():
-            for duty in duties:
-                self.holders.setdefault(duty, []).append(person)
-        self.known: dict[tuple[str, str], list[Span]] = {}
+        self.held = Held(self.site, today)
 
     def add(self, path: Path, kind: str, said: str, is_note: bool = False) -> None:
         self.found.append(Warning(self.document.line(path), kind, dotted(path), said, is_note))
@@ -81,46 +71,34 @@ class Warnings:
         self.people()
         return sorted(self.found)
 
-    def of_duties(self, ask: str, approve: str) -> list["Span"]:
-        """Who may ask and who may approve, from today on."""
-        if (ask, approve) not in self.known:
-            against, events = self.site.conflicts_with(approve), {self.today: []}
-            for person in {*self.holders.get(ask, []), *self.holders.get(approve, [])}:
-                for day, held in self.changes[person].items():
-                    events.setdefault(day, []).append((person, ask in held, approve in held and not held & against))
-            self.known[ask, approve] = list(spans(events))
-        return self.known[ask, approve]
-
-    def days(self, spans: list[tuple[str, str]]) -> str:
-        """Which days some spans have, for a sentence; spans that follow one another are one, and no more than four are named."""
-        joined: list[tuple[str, str]] = []
-        for first, last in spans:
-            if joined and day_after(joined[-1][1]) == first:
-                first = joined.pop()[0]
-            joined.append((first, last))
-        said = [days_of(first, last, self.today) for first, last in joined]
-        return " and ".join(said[:MOST_DAYS]) + (" .." if len(said) > MOST_DAYS else "")
+    def said_days(self, spans: list[Span]) -> str:
+        """Which days some spans have, for a sentence; no more than four are named."""
+        found = joined([(span.first, span.last) for span in spans])
+        said = [days_of(day(first), day(last), self.today) for first, last in found[: MOST_DAYS]]
+        return " and ".join(said) + (" .." if len(found) > MOST_DAYS else "")
 
     def approvals(self, label: str) -> None:
-        """A ceiling that too few people can approve, of whoever may ask, on some day from today on: each such fault once, with all its days."""
+        """A ceiling that too few people can approve, of whoever may ask, on some day from today on:
+        each such fault once, with all its days."""
         ceiling = self.site.ceilings[label]
-        ask, approve, needs = ceiling["ask"], ceiling["approve"], ceiling["needs"]
+        ask, needs = ceiling["ask"], ceiling["needs"]
         found: dict[str, list[Span]] = {}
-        for span in self.of_duties(ask, approve):
-            left_out = sorted(asker for asker in span.askers if len(span.approvers - {asker}) < needs)
-            if not span.askers:
+        for span in self.held.spans(ask, ceiling["approve"]):
+            approvals, count = plural(needs, "approval"), len(span.approvers)
+            left_out = sorted(span.asking_approvers) if count == needs else []
+            if not span.is_asked:
                 what = f"nobody holds {ask}, so nobody may ask under it"
-            elif len(left_out) == len(span.askers):
-                what = f"nobody can get {needs} {plural(needs, 'approval')}"
+            elif count < needs or (left_out and span.is_all):
+                what = f"nobody can get {needs} {approvals}"
             elif left_out:
-                what = f"{', '.join(left_out)} cannot get {needs} {plural(needs, 'approval')}"
+                what = f"{', '.join(left_out)} cannot get {needs} {approvals}"
             else:
                 continue
             found.setdefault(what, []).append(span)
         for what, spans in found.items():
-            days = self.days([(span.first, span.last) for span in spans])
-            first = " on the first of these days" if len({frozenset(span.approvers) for span in spans}) > 1 else ""
-            if spans[0].askers:
+            days = self.said_days(spans)
+            first = " on the first of these days" if len({it.approvers for it in spans}) > 1 else ""
+            if spans[0].is_asked:
                 what += f": {named(spans[0].approvers)} may approve{first}, and the asker's own approval does not count"
             self.add(("ceilings", label), "approvers", f"{days}: {what}" if days else what)
 
@@ -129,18 +107,30 @@ class Warnings:
             path, why = ("ceilings", label, "commands", place), risk(command(text))
             if why is not None:
                 self.add(path, "runs-others", f"{text}: {why}")
+            if (link := real_path(text)) is not None:
+                self.add(path, "real-path", f"{text}: {link}")
             if seems_directory(text):
                 self.add(path, "directory", f"{text}: {without_slash(text)}")
 
     def approvers(self) -> None:
         """Somebody whose approval counts on none of the days on which the duty is held."""
+        never: dict[str, list[str]] = {}
         for duty in sorted({ceiling["approve"] for ceiling in self.site.ceilings.values()}):
-            against = self.site.conflicts_with(duty)
-            for person in self.holders.get(duty, []):
-                held = [duties for duties in self.changes[person].values() if duty in duties]
-                if held and all(duties & against for duties in held):
-                    others = ", ".join(sorted(set.union(*held) & against))
-                    self.add(("people", person), "conflict", f"an approval as {duty} never counts: {others} conflicts with it on each of its days")
+            for person in self.held.holders.get(duty, []):
+                if self.held.days[person][duty] and not self.held.counts(person, duty):
+                    never.setdefault(person, []).append(duty)
+        for person, duties in never.items():
+            for duty in duties[:MOST_OTHERS]:
+                self.never(person, duty, self.held.others(person, duty))
+            if more := duties[MOST_OTHERS:]:
+                said = f"nor does one as {', '.join(more[:MOST_OTHERS])}{' ..' if len(more) > MOST_OTHERS else ''}"
+                self.add(("people", person), "conflict", said)
+
+    def never(self, person: str, duty: str, others: list[str]) -> None:
+        shown = ", ".join(others[:MOST_OTHERS]) + (" .." if len(others) > MOST_OTHERS else "")
+        verb = "conflicts" if len(others) == 1 else "conflict"
+        said = f"an approval as {duty} never counts: {shown} {verb} with it on each of its days"
+        self.add(("people", person), "conflict", said)
 
     def hosts(self) -> None:
         used = {host for ceiling in self.site.ceilings.values() for host in ceiling["hosts"]}
@@ -150,16 +140,42 @@ class Warnings:
 
     def needless(self) -> None:
         """Days that change nothing, since the person holds the duty on all of them by another entry: it does not end with them."""
-        for person, place, entry in self.entries():
-            for other, it in enumerate(self.site.people[person]):
-                if it == entry["duty"]:
-                    why = f"item {other + 1} gives {entry['duty']} without days, so it is always held"
-                elif isinstance(it, dict) and other != place and covers(it, entry) and (not covers(entry, it) or other < place):
-                    why = f"item {other + 1} gives {entry['duty']} from {it['from']} to {it['until']}"
+        for person, held in self.site.people.items():
+            always: dict[str, int] = {}
+            dated: dict[str, list[tuple[int, str, str]]] = {}
+            for place, entry in enumerate(held):
+                if isinstance(entry, str):
+                    always.setdefault(entry, place)
                 else:
-                    continue
-                self.add(("people", person, place), "days", f"these days change nothing: {why}")
-                break
+                    spans = dated.setdefault(entry["duty"], [])
+                    spans.append((place, entry["from"], entry["until"]))
+            for duty, spans in dated.items():
+                for span in spans:
+                    self.needless_one(person, duty, span, spans, always.get(duty))
+
+    def needless_one(
+        self,
+        person: str,
+        duty: str,
+        span: tuple[int, str, str],
+        spans: list[tuple[int, str, str]],
+        always: int | None,
+    ) -> None:
+        place, first, last = span
+        covering = (
+            (other, begin, end)
+            for other, begin, end in spans
+            if begin <= first and last <= end and other != place
+            if other < place or begin < first or last < end
+        )
+        found = next(covering, None)
+        if always is not None and (found is None or always < found[0]):
+            why = f"item {always + 1} gives {duty} without days, so it is always held"
+        elif found is not None:
+            why = f"item {found[0] + 1} gives {duty} from {found[1]} to {found[2]}"
+        else:
+            return
+        self.add(("people", person, place), "days", f"these days change nothing: {why}")
 
     def duties(self) -> None:
         """A duty that nobody holds from today on, and entries that have ended."""
@@ -181,14 +197,15 @@ class Warnings:
     def people(self) -> None:
         """Somebody to whom no ceiling and no conflict gives a part."""
         parts = {ceiling[key] for ceiling in self.site.ceilings.values() for key in ("ask", "approve")}
-        parts |= {duty for pair in self.site.conflicts for duty in pair}
+        parts |= {duty for duty in self.site.against}
         for person in self.site.people:
-            if not self.ever[person] & parts:
-                what = f"{person} may neither ask nor approve under any ceiling" + (", and holds no duty" if not self.ever[person] else "")
+            duties = self.held.days[person].keys()
+            if not duties & parts:
+                what = f"{person} may neither ask nor approve under any ceiling" + (", and holds no duty" if not duties else "")
                 self.add(("people", person), "person", what)
 
 
-def named(people: set[str]) -> str:
+def named(people: frozenset[str]) -> str:
     return f"only {' and '.join(sorted(people))}" if people else "nobody"
 
 
@@ -201,8 +218,3 @@ def days_of(first: str, last: str, today: str) -> str:
     if first == today:
         return "" if last == LAST else f"up to {last}"
     return f"from {first} on" if last == LAST else f"from {first} to {last}"
-
-
-def covers(one: dict[str, str], other: dict[str, str]) -> bool:
-    """Whether one entry gives the other's duty on all of the other's days."""
-    return one["duty"] == other["duty"] and one["from"] <= other["from"] and other["until"] <= one["until"]

@@ -23,7 +23,7 @@ sys.dont_write_bytecode = True
 import desk  # noqa: E402
 import sudo_peer  # noqa: E402
 
-from desk_tools.sudoers import BadSudoers, converted  # noqa: E402
+from desk_tools.cvtsudoers import BadSudoers, text_read  # noqa: E402
 
 DESK = os.environ.get("DESK", os.path.join(ROOT, "build", "desk"))
 ASKED = int(os.environ.get("ASKED", "8"))  # invocations of each file
@@ -31,6 +31,8 @@ USERS, HOSTS = ("ann", "bob", "eve", "kim"), ("db1", "db2", "web1")
 GROUPS = {"wheel": ("ann", "bob"), "ops": ("kim",), "empty": ()}
 FILES = ("/srv/bin/ls", "/srv/bin/lsof", "/srv/bin/kill", "/srv/sbin/tool")
 AT = "20260105093000Z"
+# why there may be no base of a file that sudo reads
+REFUSED = re.compile(r":[0-9]+: (\w+: .*, which a base cannot say|a time without Z)")
 # nothing of these stands against the answers' being the same
 ALIKE = ("Defaults", "(.. :", "#", "%")
 
@@ -83,7 +85,7 @@ class File:
     def __init__(self, name, text):
         self.name = name
         self.text = re.sub(r"(?<=[\s,!=:)])/(?!srv/)(?=[A-Za-z])", "/srv/", text)
-        read = json.dumps(converted(self.text, name))
+        read = json.dumps(text_read(self.text, name))
         self.commands = sorted(set(re.findall(r'"command": "((?:/[A-Za-z0-9._+-]+)+/?(?: [^"\\*?\[\]]*)?)"', read)))
         self.users = sorted({*USERS, "root", *re.findall(r'"username": "([a-z_][a-z0-9._-]{0,31})"', read)})
         self.hosts = sorted({*HOSTS, *(it.lower() for it in re.findall(r'"hostname": "([A-Za-z][A-Za-z0-9-]{0,31})"', read))} - {"all"})
@@ -120,7 +122,7 @@ class Run:
     def __init__(self, folder, sudoers):
         self.folder, self.sudoers = folder, sudoers
         self.programs = {name: desk.tool(name) for name in ("sudo", "visudo", "faketime")}
-        self.count = {"bases": 0, "kept whole": 0, "asked": 0, "allowed": 0, "denied, though the file allows": 0, "wrong": 0}
+        self.count = {"bases": 0, "refused": 0, "kept whole": 0, "asked": 0, "allowed": 0, "denied, though the file allows": 0, "wrong": 0}
 
     def wrong(self, file, said):
         self.count["wrong"] += 1
@@ -136,6 +138,9 @@ class Run:
         with open(source, "w", encoding="utf-8", errors="surrogateescape") as target:
             target.write(file.text)
         ran = subprocess.run([os.path.join(ROOT, "tools", "desk-import"), "--desk", DESK, source], capture_output=True, text=True, check=False)
+        if ran.returncode == 2 and REFUSED.search(ran.stderr):
+            self.count["refused"] += 1
+            return
         if ran.returncode == 2:
             self.wrong(file, ran.stderr)
             return
@@ -188,7 +193,9 @@ def inside(count, named):
         subprocess.run(["umount", "/etc/group"], check=True)
         sudo_peer.clear()
     print(f"of {len(files) + unread} sudoers files sudo reads {len(files)}: {ran.count}")
-    sys.exit(1 if ran.count["wrong"] or not ran.count["allowed"] or not ran.count["kept whole"] else 0)
+    count = ran.count
+    is_idle = not count["allowed"] or not count["kept whole"] or count["refused"] * 8 > count["bases"]
+    sys.exit(1 if count["wrong"] or is_idle else 0)
 
 
 if __name__ == "__main__":

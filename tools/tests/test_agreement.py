@@ -1,16 +1,21 @@
 """desk-lint and the desk agree: on whether a text is refused, and on the first code."""
 
 import collections
+import glob
+import itertools
 import os
+import random
 import subprocess
 import tomllib
 
-from desk_tools import admission, message_faults, roster_faults, toml_text
+from desk_tools import admission, base_faults, message_faults, roster_faults, toml_text
 from desk_tools.found import coded, first_code
 from desk_tools.site import Site
 from tests import texts
 from tests.conftest import ROOT
 
+BASE_WORDS = "ann ALL %wheel +net #1000 Db1 db1.example.org 10.0.0.1 /bin/ls /bin/l* sudoedit NOEXEC: NOTAFTER=2026 OPS (root) (: op) list".split()
+BASE_MARKS = ["\\\n", " \\\n", "\n", ",", "=", "!", ":", "#", "\\", '"', "(", ")", "\r", "\x1b", "é", "Defaults x\n", "@include x\n", " "]
 EXAMPLE = os.path.join(ROOT, "examples", "roster.toml")
 
 
@@ -66,6 +71,48 @@ def test_messages(desk, pytestconfig):
     print(f"messages: {dict(collections.Counter(theirs))}")
     assert not wrong, f"{len(wrong)} otherwise, among them: {wrong[:3]}"
     assert pytestconfig.getoption("messages") < 4000 or len(set(theirs)) == 12, set(theirs)
+
+
+def bases():
+    """The policies of cases/ and of the examples, and these with one or two of their parts changed."""
+    found = []
+    for path in sorted(glob.glob(os.path.join(ROOT, "cases", "check*.toml"))):
+        with open(path, "rb") as file:
+            found += [it for it in strings(tomllib.load(file)) if " = " in it and len(it) < 2000]
+    for path in sorted(glob.glob(os.path.join(ROOT, "examples", "*.sudo"))):
+        with open(path, encoding="ascii") as file:
+            found.append(file.read())
+    return found
+
+
+def strings(value):
+    inner = value.values() if isinstance(value, dict) else value if isinstance(value, list) else ()
+    return [value] if isinstance(value, str) else [text for it in inner for text in strings(it)]
+
+
+def test_bases(desk, tmp_path, pytestconfig):
+    """desk-lint finds a fault where the desk refuses a base, and nowhere else."""
+    chance, path, seen = random.Random(54), tmp_path / "base", collections.Counter()
+    known = bases()
+    changed = (texts.changed(chance, chance.choice(known), BASE_WORDS, BASE_MARKS) for _ in range(10**9))
+    given = [*chance.sample(known, min(60, len(known))), *itertools.islice(changed, pytestconfig.getoption("rosters") // 4)]
+    for text in given:
+        data = text.encode("utf-8", "surrogatepass")
+        path.write_bytes(data)
+        ran = subprocess.run([desk, "check", path], capture_output=True, text=True, check=False)
+        base = base_faults.Base(desk, data)
+        faults = base.look()
+        theirs = ran.stderr.strip() if ran.returncode else "read"
+        seen[theirs.partition(" line ")[0]] += 1
+        assert bool(faults) == bool(ran.returncode), text
+        assert (base.answer or "read") == theirs.partition(" line ")[0], text
+        if faults and " line " in theirs:
+            line = int(theirs.rpartition(" ")[2])
+            assert any(fault.line == line and coded(fault.code) == base.answer for fault in faults), text
+        if not faults:
+            base_faults.warnings_of(data)
+    print(f"bases: {dict(seen)}")
+    assert seen["read"] > 20 and len(seen) > 6, seen
 
 
 def test_toml_beside_tomllib(pytestconfig):

@@ -1,24 +1,29 @@
 """desk-import: the base of a sudoers file, and what is said of the rest; and what sudo says of both."""
 
 import os
+import re
 import shutil
 import subprocess
 import sys
+import time
 
 import pytest
 
+from desk_tools import machine
 from tests import fetch
 from tests.conftest import ROOT
 
 BESIDE = os.path.join(ROOT, "tools", "tests", "beside_sudo.py")
-GROUP = "wheel:x:3001:ann,bob\nops:x:3002:\nodd:x:3003:Ann\n"
+NEVER_WIDER = os.path.join(ROOT, "tools", "tests", "never_wider.py")
+GROUP = "wheel:x:3001:ann,bob\nops:x:3002:\nodd:x:3003:Ann\ntwin:x:3004:ann\nother:x:3004:\n"
 PASSWD = "root:x:0:0::/:/bin/sh\nann:x:2001:2001::/:/bin/sh\nkim:x:2002:3002::/:/bin/sh\n"
 NINE = "NOTBEFORE=20260105090000Z NOTAFTER=20260105090000Z"
 GETENT = """#!/bin/sh
 case $1:$2 in
     passwd:) cat PASSWD ;;
-    passwd:*) grep -E "^($2:|[^:]*:[^:]*:$2:)" PASSWD ;;
-    group:*) grep -E "^($2:|[^:]*:[^:]*:$2:)" GROUP ;;
+    passwd:--) grep -E "^($3:|[^:]*:[^:]*:$3:)" PASSWD || exit 2 ;;
+    group:) cat GROUP ;;
+    group:--) grep -E "^($3:|[^:]*:[^:]*:$3:)" GROUP || exit 2 ;;
 esac
 """
 
@@ -78,7 +83,7 @@ def made(imports, desk, tmp_path, monkeypatch):
         ("ann ALL = ALL, !/*/ls\n", "ann ALL = (root) ALL\nann ALL = (root) !ALL\n"),
         ("ann ALL = ALL\n+net 10.0.0.0/8 = (ALL, !op) !/bin/ls\n", "ann ALL = (root) ALL\nALL ALL = (ALL, !op) !/bin/ls\n"),
         ("ann, !+net db1, db2 = ALL, !/bin/ls\n", "ann db1, db2 = (root) !/bin/ls\n"),
-        ("Cmnd_Alias C = ALL, !/bin/ls\n+net, ann ALL = C\n", "Cmnd_Alias C = ALL, !/bin/ls\nann ALL = (root) ALL\nALL, ann ALL = (root) !/bin/ls\n"),
+        ("Cmnd_Alias C = ALL, !/bin/ls\n+net, ann ALL = C\n", "Cmnd_Alias C = ALL, !/bin/ls\nCmnd_Alias ALL_WITHOUT_SETENV = ALL\nann ALL = (root) ALL_WITHOUT_SETENV\nALL, ann ALL = (root) !/bin/ls\n"),
         ("Cmnd_Alias C = /bin/l*, /bin/kill\nann ALL = /bin/ps, !C\n", "ann ALL = (root) /bin/ps\nann ALL = (root) !/bin/\nann ALL = (root) !/bin/kill\n"),
         ("ann ALL = NOEXEC: /bin/ls, EXEC: /bin/kill, NOSETENV: ALL\n", "ann ALL = (root) /bin/kill\n"),
         ("ann ALL = CWD=/tmp /bin/ls, TIMEOUT=10 /bin/kill\n", ""),
@@ -164,7 +169,7 @@ def test_the_list_is_in_the_order_of_the_file(made):
 
 def test_the_line_of_a_fault(made):
     """sudo's own number, whatever comments, continuations and included files stand above."""
-    text = "# one\n\nann ALL = \\\n  /bin/ls\n@include nothing\n# six\nbob ALL = bin/ls\n"
+    text = "# one\n\nann ALL = \\\n  /bin/ls\n@includedir nothing\n# six\nbob ALL = bin/ls\n"
     assert made(text, status=2)[1] == ["desk-import: sudo cannot read it: sudoers:7:11: expected a fully-qualified path name"]
 
 
@@ -184,10 +189,120 @@ def test_included_files(made, tmp_path):
     files = {"b": "bob ALL = /bin/b\n", "a": "User_Alias A = ann\n\nA ALL = /bin/a, /bin/x*\n", "c.off": "c ALL = ALL\n", "d~": "d ALL = ALL\n"}
     for name, text in files.items():
         (tmp_path / "more.d" / name).write_text(text)
-    found, said = made("root ALL = ALL\n@includedir more.d\nroot ALL = !/bin/su\n#include nothing\n")
+    found, said = made("root ALL = ALL\n@includedir more.d\nroot ALL = !/bin/su\n#includedir none\n")
     assert found == "User_Alias A = ann\nroot ALL = (root) ALL\nA ALL = (root) /bin/a\nbob ALL = (root) /bin/b\nroot ALL = (root) !/bin/su\n"
-    assert said[0].endswith("No such file or directory") and said[0].startswith("sudoers:4: left out: ")
+    assert said[0] == f"sudoers:4: note: {tmp_path}/none: there is no such directory, and sudo passes over it"
     assert said[1].startswith(f"{tmp_path}/more.d/a:3: left out: /bin/x*: wildcards ")
+
+
+REFUSALS = [
+    ("# one\nann ALL = ALL\n@include none\n", ":3: .*/none cannot be read: No such file or directory"),
+    ("ann ALL = ALL\n  @include for-%h\n", ":2: the name of the file has the host in it"),
+    ("ann ALL = ALL\n@include sudoers\n", ":2: sudoers: the file includes itself"),
+    ("ann ALL = ALL\n@include \"\"\n", ":2: an include of no file"),
+    ("ann ALL = ALL\n@includedir sudoers\n", ":2: sudoers: it is no directory, so sudo does not read it"),
+    ("ann ALL = ALL\n# \0\nann ALL = !ALL\n", ":2: a byte 0, behind which sudo reads nothing"),
+    ("\nUser_Alias A = ann, B\nUser_Alias B = A\n", ":2: the alias A names itself"),
+    ("Runas_Alias A = A\n", ":1: the alias A names itself"),
+    ("\nDefaults !lecture, !root_sudo\nann ALL = ALL\n", ":2: root_sudo: it takes sudo from root"),
+    ("Defaults:bob requiretty\nann ALL = ALL\n", ":1: requiretty: it takes sudo from whoever has no terminal"),
+    ("Defaults unheard_of\nann ALL = ALL\n", ':1:20: unknown defaults entry "unheard_of"'),
+    ("# x\nDefaults>op runas_default=op\nann ALL = (ALL) ALL, ALL\nbob ALL = ALL\n", ":2: runas_default: such a target"),
+    ("Defaults runas_default=Op\nann ALL = /bin/ls\n", ":1: runas_default: such a target cannot be said"),
+    ('ann "ALL" = /bin/ls\n', ":1: ALL between quotes or with a backslash is a name"),
+    ("\\x41LL ALL = /bin/ls\n", ":1: ALL between quotes or with a backslash is a name"),
+    ("ann ALL = /bin/ls\\ -l\n", ":1: a blank in a command's path"),
+    ("ann ALL = NOTAFTER=20260105093000 /bin/ls\n", ":1: a time without Z or an offset"),
+    ("%twin ALL = ALL\n", ":1: %twin: the groups other and twin share a number"),
+]
+
+
+@pytest.mark.parametrize(("text", "why"), REFUSALS)
+def test_refusals(made, text, why):
+    """Whatever is not read, or not said as sudo means it, may be a denial: there is no base then."""
+    found, said = made(text, status=2)
+    assert found == "" and len(said) == 1
+    assert re.fullmatch(f"desk-import: (sudo cannot read it: )?sudoers{why}.*", said[0]), said
+
+
+def test_many_files_that_include_one_another(made, tmp_path):
+    for number in range(40):
+        (tmp_path / f"f{number}").write_text(f"@include f{number + 1}\n@include f{number + 1}\n")
+    (tmp_path / "f40").write_text("")
+    began = time.monotonic()
+    assert "too many files are included" in made("@include f0\n", status=2)[1][0]
+    assert time.monotonic() - began < 60
+
+
+def test_what_is_read_as_sudo_reads_it(made, tmp_path):
+    """What looks odd, and is no fault."""
+    (tmp_path / "more").write_text("kim ALL = /bin/kim")
+    text = """\
+  #include nothing
+# it ends in a backslash \\
+ann ALL = /bin/ls, \\
+    /bin/kill # "so \\
+\t@include more # its owner is root
+Defaults passprompt = "a \\
+     b # runas_default=op", !lecture
+%#3002 ALL = /bin/echo a\\:b
+"""
+    base = "ann ALL = (root) /bin/ls\nann ALL = (root) /bin/kill\nkim ALL = (root) /bin/kim\nkim ALL = (root) /bin/echo a\\:b\n"
+    assert made(text)[0] == base
+
+
+def test_no_byte_of_a_file_rules_a_terminal(made, imports, desk, tmp_path):
+    odd = "\x1b[2J\u202e\x9b"
+    _, said = made(f'"a{odd}" ALL = /bin/ls\nann ALL = "/bin/{odd}\n', status=2)
+    said += made(f'"a{odd}" ALL = /bin/ls\nDefaults badpass_message="{odd}"\nann ALL = /bin/{odd}\n')[1]
+    said += imports("--desk", desk, str(tmp_path / odd)).stderr.splitlines()
+    said += imports("--desk", desk, "--no" + odd, "x").stderr.splitlines()
+    assert len(said) > 6 and all(line.isprintable() for line in said), said
+    assert any("\\x1b[2J\\u202e\\x9b" in line for line in said)
+
+
+LIST = machine.hosts_of("10.0.0.1 db1.example.org db1\n10.0.0.2 DB2 other\n192.0.2.7 web1\n2001:db8::7 web1\n")
+
+
+@pytest.mark.parametrize(
+    ("form", "sure", "perhaps"),
+    [
+        ("10.0.0.0/24", "db1 db2", "db1 db2"),
+        ("10.0.0.2/24", "db1 db2", "db1 db2"),
+        ("10.0.0.0/255.255.255.0", "db1 db2", "db1 db2"),
+        ("10.0.0.1", "db1", "db1"),
+        # an address may be a network's
+        ("10.0.0.0", "", "db1 db2"),
+        ("2001:db8::/32", "web1", "web1"),
+        ("2001:db8::7", "web1", "web1"),
+        ("203.0.113.0/24", "", ""),
+    ],
+)
+def test_hosts_by_address(form, sure, perhaps):
+    assert machine.meant(LIST, machine.by_address(form)) == (sure.split(), perhaps.split())
+
+
+@pytest.mark.parametrize("form", ["10.0.0.0/0", "0.0.0.0/0.0.0.0", "10.0.0.0/0.0.0.255", "10.0.0.0/0.255.255.0", "10.0.0.0/33", "::/0", "10.1", "x"])
+def test_networks_that_mean_something_else(form):
+    """sudo takes none of these as Python does."""
+    assert machine.by_address(form) is None
+
+
+@pytest.mark.parametrize(
+    ("form", "sure", "perhaps"),
+    [
+        ("db1.example.org", "db1", "db1"),
+        ("*.example.org", "db1", "db1"),
+        # without a dot, a name is compared with the part before the first
+        ("d*g", "", "db1"),
+        ("db?", "db1 db2", "db1 db2"),
+        # a host is known by its first name
+        ("o*", "", "db2"),
+        ("*.*", "db1", "db1"),
+    ],
+)
+def test_hosts_by_name(form, sure, perhaps):
+    assert machine.meant(LIST, machine.by_name(form)) == (sure.split(), perhaps.split())
 
 
 def test_failures(made, imports, desk, tmp_path):
@@ -198,19 +313,25 @@ def test_failures(made, imports, desk, tmp_path):
     assert made("ann ALL = /bin/ls\n", status=0)[1] == ["1 entry; 0 things are left out"]
 
 
-def ask_sudo(count, *files):
+def ask_sudo(script, *words):
     path = f"{os.environ['PATH']}:/usr/sbin:/sbin"
-    lacks = [name for name in ("sudo", "visudo", "cvtsudoers", "faketime", "unshare") if shutil.which(name, path=path) is None]
+    needed = ("sudo", "visudo", "cvtsudoers", "faketime", "unshare", "setpriv")
+    lacks = [name for name in needed if shutil.which(name, path=path) is None]
     if os.geteuid() != 0 or lacks:
         assert not os.environ.get("WHOLE"), f"sudo cannot be asked here: it lacks root or {lacks}"
         pytest.skip(f"sudo cannot be asked here: it lacks root or {lacks}")
-    ran = subprocess.run([sys.executable, BESIDE, str(count), *files], stdout=subprocess.PIPE, stderr=subprocess.STDOUT, text=True, check=False)
+    ran = subprocess.run([sys.executable, script, *words], stdout=subprocess.PIPE, stderr=subprocess.STDOUT, text=True, check=False)
     print(ran.stdout[-400:])
     assert ran.returncode == 0, ran.stdout[-6000:]
 
 
 def test_random_files_beside_sudo(desk, pytestconfig):
-    ask_sudo(pytestconfig.getoption("sudoers"))
+    ask_sudo(BESIDE, str(pytestconfig.getoption("sudoers")))
+
+
+def test_no_base_gives_more_than_its_file(desk, pytestconfig):
+    """By sudo's own answers: the files of which a base once gave more, and random ones."""
+    ask_sudo(NEVER_WIDER, str(pytestconfig.getoption("sudoers")))
 
 
 def test_files_of_others_beside_sudo(desk):
@@ -220,4 +341,4 @@ def test_files_of_others_beside_sudo(desk):
         assert not os.environ.get("WHOLE"), f"the sudoers files of Debian's packages cannot be fetched: {fault}"
         pytest.skip(f"LEFT OUT: the sudoers files of Debian's packages cannot be fetched: {fault}")
     assert len(files) > 25, files
-    ask_sudo(0, *files)
+    ask_sudo(BESIDE, "0", *files)

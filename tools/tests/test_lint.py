@@ -3,6 +3,7 @@
 import json
 import os
 import re
+import resource
 import subprocess
 
 import pytest
@@ -230,7 +231,7 @@ SOUND = 'ann = ["ask"]\nbob = ["approve"]\ndave = ["audit"]'
             ["runs-others: /usr/bin/find: its arguments name what it runs"],
         ),
         (roster(SOUND, commands='["/usr/bin/less /var/log/x"]'), ["runs-others: /usr/bin/less /var/log/x: a pager opens a shell from inside (`!`)"]),
-        (roster(SOUND, commands='["/bin/journalctl --no-pager -n 5", "ALL", "/opt/bin/"]'), []),
+        (roster(SOUND, commands='["/usr/bin/journalctl --no-pager -n 5", "ALL", "/opt/bin/"]'), []),
         (
             roster(SOUND, commands='["/usr/bin/"]'),
             ["runs-others: /usr/bin/: it holds shells, editors and interpreters, and sudo's own sudoedit, which edits any file"],
@@ -305,7 +306,7 @@ def test_words(lint, tmp_path):
     ran = lint(str(tmp_path / "nothing"))
     assert (ran.returncode, ran.stderr) == (2, f"desk-lint: {tmp_path}/nothing: No such file or directory\n")
     ran = lint(str(tmp_path / "base.sudo"))
-    assert (ran.returncode, ran.stdout) == (2, "") and ran.stderr.endswith(f": desk check {tmp_path}/base.sudo\n")
+    assert (ran.returncode, ran.stdout) == (2, "") and ran.stderr.endswith("base.sudo: No such file or directory\n")
     assert lint("-", given="people = 1\n").stdout.startswith("-:1: O3 WrongType: the key ceilings is missing\n")
     assert lint("-", given='{"kind":7}\n').stdout.startswith('-:1: M3 BadField: kind = 7: expected one of request, approve, ')
 
@@ -347,3 +348,102 @@ def test_schemas():
         document = toml_text.read(file.read())
     assert schema.validator("roster").is_valid(document.value)
     assert document.line(("people", "eve")) == 21 and document.line(("ceilings", "db-care", "needs", "x")) == 27
+
+
+@pytest.mark.parametrize("path", ["/bin/ls", "/sbin/reboot -f", "/lib/x/", "/lib64/y"])
+def test_paths_that_are_links(lint, tmp_path, path):
+    """On a host, /bin is a link, and sudo compares files."""
+    (tmp_path / "r.toml").write_text(roster(SOUND, commands=f'["{path}", "/usr{path}", "/opt/bin/x"]'))
+    said = lint(str(tmp_path / "r.toml")).stdout.splitlines()
+    found = [line for line in said if "is a link to /usr" in line]
+    assert len(found) == 1 and f": {path}: " in found[0]
+    (tmp_path / "b.sudo").write_text(f"ann ALL = {path}, /usr{path}\n")
+
+
+BASE_FAULTS = """\
+# a base with faults
+Defaults env_reset
+User_Alias OPS = %wheel, ann
+OPS ALL = NOEXEC: /usr/bin/less
+ann Db1 = /usr/bin/id
+ann ALL = /usr/bin/l*, \\
+   /usr/bin/id
+ann db1 = (root) NOTAFTER=2026 /usr/bin/id
+kim.l db1.example.org = /usr/bin/id
+bob ALL = MISSING
+bob 10.0.0.1 = /usr/bin/id
+@include more
+bob ALL = sudoedit /etc/motd
+User_Alias ALL = bob
+ann ALL = /usr/bin/id \x1b
+"""
+BASE_SAID = [
+    (2, "S9", "Defaults env_reset"),
+    (3, "S9", "%wheel"),
+    (4, "S9", "NOEXEC:"),
+    (5, "S3", "Db1"),
+    (6, "S9", "/usr/bin/l*"),
+    (8, "S8", "NOTAFTER=2026"),
+    (9, "S9", "db1.example.org"),
+    (10, "S5", "MISSING"),
+    (11, "S9", "10.0.0.1"),
+    (12, "S9", "@include more"),
+    (13, "S9", "sudoedit"),
+    (14, "S7", "ALL"),
+    (15, "S2", "\x1b"),
+]
+
+
+def test_faults_of_a_base(lint, desk, tmp_path):
+    (tmp_path / "b.sudo").write_text(BASE_FAULTS)
+    ran = lint("--desk", desk, "--json", str(tmp_path / "b.sudo"))
+    (found,) = json.loads(ran.stdout)["files"]
+    assert ran.returncode == 2 and found["answer"] == "S2 BadByte"
+    assert [(it["line"], it["code"], it["value"]) for it in found["faults"]] == BASE_SAID
+    assert all(it["expected"] for it in found["faults"])
+
+
+def test_warnings_of_a_base(lint, desk, tmp_path):
+    base = tmp_path / "base"
+    base.write_text("User_Alias A = ann\n \\\nUser_Alias SITE_B = bob\nA ALL = /bin/ls, \\\n  /lib/x/\n# /bin/no\n")
+    said = lint("--desk", desk, "--base", "--strict", str(base))
+    found = re.findall(r":(\d+): warning: (\S+): ", said.stdout)
+    assert said.returncode == 1
+    assert found == [("1", "A"), ("2", "\\"), ("3", "SITE_B"), ("4", "/bin/ls"), ("5", "/lib/x/")]
+    base.write_text("User_Alias SITE_A = ann\nHost_Alias SITE_H = db1\nSITE_A SITE_H = /usr/bin/id\n")
+    said = lint("--desk", desk, "--base", "--strict", str(base))
+    assert (said.returncode, said.stdout) == (0, "")
+
+
+def test_no_byte_of_a_text_rules_a_terminal(lint, desk, tmp_path):
+    texts = {"r.toml": '"\\e[2J\\u009b" x = 1\n\x9b = 2\n', "m.json": '{"\\u001b": "\x1b[2J"}\n', "b.sudo": "ann \x1b[2J = ALL\n"}
+    for name, text in texts.items():
+        (tmp_path / name).write_text(text)
+        for word in ("--json", "--strict"):
+            ran = lint("--desk", desk, word, str(tmp_path / name))
+            assert ran.returncode == 2 and all(line.isprintable() for line in ran.stdout.splitlines()), ran.stdout
+    for words in (["\x1b[2J"], ["--\x1b"], ["--explain", "\x1b"], ["--on", "\x1b", "x"]):
+        assert all(line.isprintable() for line in lint(*words).stderr.splitlines())
+
+
+def crowd(person, needs=2):
+    """A roster of 4,096 people and 1,024 ceilings, all of the same two duties."""
+    head = 'relays=["chat"]\nhosts=["h"]\nduties=["a","b"]\nconflicts=[]\n[people]\n'
+    ceiling = 'ask="a"\napprove="b"\nhosts=["h"]\nrunas=["root"]\ncommands=["/opt/t"]\nlongest=60\n'
+    people = "".join(f"p{number}=[{person(number)}]\n" for number in range(4096))
+    return head + people + "".join(f"[ceilings.c{it}]\nneeds={needs}\n{ceiling}" for it in range(1024))
+
+
+def dated(number):
+    days = f'from="2026{number % 12 + 1:02}{number % 28 + 1:02}",until="20{27 + number % 60}{number % 12 + 1:02}01"'
+    return f'{{duty="a",{days}}},{{duty="b",{days}}}'
+
+
+@pytest.mark.parametrize("person", [lambda _: '"a","b"', dated])
+def test_big_rosters_in_seconds(lint, tmp_path, person):
+    """Of processor time, since others may use the machine."""
+    (tmp_path / "r.toml").write_text(crowd(person))
+    before = resource.getrusage(resource.RUSAGE_CHILDREN)
+    assert lint("--on", "20260101", str(tmp_path / "r.toml")).returncode == 0
+    after = resource.getrusage(resource.RUSAGE_CHILDREN)
+    assert after.ru_utime + after.ru_stime - before.ru_utime - before.ru_stime < 5

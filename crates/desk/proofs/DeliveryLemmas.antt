@@ -142,21 +142,21 @@ answers_push f [] (b ∷ answers) d a all is = absurd all
 answers_push f (e ∷ ds) [] d a all is = absurd all
 answers_push f (e ∷ ds) (b ∷ answers) d a all is = (all.0, answers_push f ds answers d a all.1 is)
 
-among_before : (m : Message) (ds : List Delivery) (answers : List (Result Ack Refusal)) (d : Delivery) (a : Result Ack Refusal)
+pub among_before : (m : Message) (ds : List Delivery) (answers : List (Result Ack Refusal)) (d : Delivery) (a : Result Ack Refusal)
     → AcknowledgesAmong ds answers m → AcknowledgesAmong (ds ++ d ∷ []) (answers ++ a ∷ []) m
 among_before m [] answers d a h = absurd h
 among_before m (e ∷ ds) [] d a h = absurd h
 among_before m (e ∷ ds) (b ∷ answers) d a (inl here) = inl here
 among_before m (e ∷ ds) (b ∷ answers) d a (inr later) = inr (among_before m ds answers d a later)
 
-among_last : (f : RosterFields Cmnd) (m : Message) (ds : List Delivery) (answers : List (Result Ack Refusal)) (d : Delivery) (a : Result Ack Refusal)
+pub among_last : (f : RosterFields Cmnd) (m : Message) (ds : List Delivery) (answers : List (Result Ack Refusal)) (d : Delivery) (a : Result Ack Refusal)
     → AreAnswers f ds answers → Acknowledges d a m → AcknowledgesAmong (ds ++ d ∷ []) (answers ++ a ∷ []) m
 among_last f m [] [] d a all h = inl h
 among_last f m [] (b ∷ answers) d a all h = absurd all
 among_last f m (e ∷ ds) [] d a all h = absurd all
 among_last f m (e ∷ ds) (b ∷ answers) d a all h = inr (among_last f m ds answers d a all.1 h)
 
-among_cases : (f : RosterFields Cmnd) (m : Message) (ds : List Delivery) (answers : List (Result Ack Refusal)) (d : Delivery) (a : Result Ack Refusal)
+pub among_cases : (f : RosterFields Cmnd) (m : Message) (ds : List Delivery) (answers : List (Result Ack Refusal)) (d : Delivery) (a : Result Ack Refusal)
     → AreAnswers f ds answers → AcknowledgesAmong (ds ++ d ∷ []) (answers ++ a ∷ []) m → AcknowledgesAmong ds answers m ⊎ Acknowledges d a m
 among_cases f m [] [] d a all (inl here) = inr here
 among_cases f m [] [] d a all (inr none) = absurd none

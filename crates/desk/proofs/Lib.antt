@@ -9,5 +9,7 @@ pub mod RestartLemmas
 pub mod StopLemmas
 pub mod RebuildingLemmas
 pub mod KnownLemmas
+pub mod LeftLemmas
 pub mod RefusalLemmas
 pub mod TextLemmas
+pub mod CountLemmas

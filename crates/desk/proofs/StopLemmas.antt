@@ -1,12 +1,14 @@
 -- What a desk holds that is opened over what a stop left.
-use Rattle.std.proofs.Common.{◌≡◌, ◌⊎◌, ◌∙◌, inl, inr, ℕ, List, refl, sym, subst}
+use Rattle.std.proofs.Common.{◌≡◌, ◌⊎◌, ◌∙◌, inl, inr, ℕ, List, Result, refl, sym, subst}
+use Rattle.std.specs.Prelude.{Contains}
 use Rattle.sudo_words.specs.declared.cmnd.Cmnd.{Cmnd}
 use Rattle.messages.specs.declared.message.Message.{Message}
 use Rattle.roster.specs.Fields.{RosterFields}
 use Rattle.desk_tables.specs.Sets.{IsNothing, SameSet, With}
 use Rattle.desk_store.specs.Left.{Left, Nothing, ADesk, AnOldDesk, NoDesk, HoldsIn, IsDeskOf, IsFoundAs, IsNothingOrFresh}
-use Rattle.desk.specs.Crash.{IsAcceptable, IsLeftByDelivery}
-use Rattle.desk.specs.Delivery.{Delivery}
+use Rattle.desk.specs.Crash.{IsAcceptable, IsLeftByDeliveries, IsLeftByDelivery}
+use Rattle.desk.specs.Delivery.{AcknowledgesAmong, Delivery}
+use Rattle.desk.specs.declared.ack.Ack.{Ack}
 use Rattle.desk.specs.Opening.{Opens, Refuses}
 use Rattle.desk.specs.Refusals.{IsWant}
 use Rattle.desk.specs.declared.refusal.Refusal.{Refusal}
@@ -46,6 +48,14 @@ module _ (Empty Desk Old : Type 0) (recorded : List ℕ) (held : Message → Typ
         → IsFoundAs Empty Desk Old recorded held left → SameSet S new ⊎ ((m : Message) × IsAcceptable f d m × SameSet (With S m) new)
     held_of_delivery f said S d left (inl before) is = inl (held_whole said S left before is)
     held_of_delivery f said S d left (inr after) is = inr (after.0, after.1, held_whole said (With S after.0) left after.2 is)
+
+    pub held_of_deliveries : (f : RosterFields Cmnd) (said : List ℕ) (S : Message
+        → Type 0) (ds : List Delivery) (answers : List (Result Ack Refusal)) (left : Left) → IsLeftByDeliveries f said S ds answers left
+        → IsFoundAs Empty Desk Old recorded held left → SameSet (λ m. S m ⊎ AcknowledgesAmong ds answers m) new
+        ⊎ ((d : Delivery) × Contains ds d × (m : Message) × IsAcceptable f d m × SameSet (With (λ n. S n ⊎ AcknowledgesAmong ds answers n) m) new)
+    held_of_deliveries f said S ds answers left (inl before) is = inl (held_whole said (λ m. S m ⊎ AcknowledgesAmong ds answers m) left before is)
+    held_of_deliveries f said S ds answers left (inr it) is =
+        inr (it.0, it.1, it.2, it.3, held_whole said (With (λ n. S n ⊎ AcknowledgesAmong ds answers n) it.2) left it.4 is)
 
     pub held_nothing : (said : List ℕ) (left : Left) → IsNothingOrFresh said left → IsFoundAs Empty Desk Old recorded held left → IsNothing new
     held_nothing said left (inl nothing) is =

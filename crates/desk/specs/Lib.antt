@@ -6,6 +6,7 @@ pub mod Opening
 pub mod Rebuilding
 pub mod Delivery
 pub mod Texts
+pub mod Count
 pub mod Crash
 -- laws: runs, and sets that answer alike
 pub mod Runs

@@ -22,3 +22,13 @@ Refuses Fits Empty Desk Old recorded text NotADesk = Fits × (¬ Empty) × (¬ D
 Refuses Fits Empty Desk Old recorded text OldSchema = Fits × Old × (¬ Desk)
 Refuses Fits Empty Desk Old recorded text RosterChanged = Fits × Desk × (recorded ≢ text)
 Refuses Fits Empty Desk Old recorded text _ = ⊥
+
+-- an opening is refused with these, and for want of memory or of the storage
+abbrev pub IsOpeningRefusal : Refusal → Type 0
+IsOpeningRefusal e =
+    (e ≡ BaseTooLarge) ⊎ (e ≡ NotADesk) ⊎ (e ≡ OldSchema) ⊎ (e ≡ RosterChanged)
+
+-- What is refused before a table of a desk's is read: a base past the limits, and what has no such
+-- tables. So these refusals do not say that the keeper is up.
+abbrev pub IsUnseen : Refusal → Type 0
+IsUnseen e = (e ≡ BaseTooLarge) ⊎ (e ≡ NotADesk)

@@ -4,13 +4,14 @@ ghost use Rattle.std.specs.Prelude.{◌≡◌, ◌≢◌, ◌⊎◌, ◌↔◌, 
 ghost use Rattle.std.specs.Prelude.{Contains, IfOk, IsOkAnd, IfErr, OnOk, OnErr, MatchResult, Err};
 ghost use Rattle.messages.specs.declared.message.Message.{Message as AnyMessage};
 ghost use Rattle.grants.specs.Bases.{FitsBase};
-ghost use Rattle.desk_store.specs.Left.{IsDeskOf, LeavesOnly};
+ghost use Rattle.desk_store.specs.Left.{AddsOnly, IsDeskOf, LeavesOnly};
 ghost use Rattle.desk_store.specs.Serves.{Serves};
-ghost use Rattle.desk.specs.Crash.{IsLeftByDelivery, IsLeftByOpening};
-ghost use Rattle.desk.specs.Delivery.{Acknowledges, AreAnswers, HaveFailed, HeldAfter};
-ghost use Rattle.desk.specs.Delivery.{HeldAfterAll, IsBodyOf, IsDeliveryAnswer};
+ghost use Rattle.desk.specs.Crash.{IsAddedByDelivery, IsLeftByDeliveries, IsLeftByDelivery};
+ghost use Rattle.desk.specs.Crash.{IsLeftByOpening, IsMadeByOpening};
+ghost use Rattle.desk.specs.Delivery.{Acknowledges, AcknowledgesAmong, AreAnswers, HaveFailed};
+ghost use Rattle.desk.specs.Delivery.{HeldAfter, HeldAfterAll, IsBodyOf, IsDeliveryAnswer};
 ghost use Rattle.desk.specs.Delivery.{WasWantingAmong, delivery_of, storage_failures};
-ghost use Rattle.desk.specs.Opening.{Opens, Refuses};
+ghost use Rattle.desk.specs.Opening.{IsOpeningRefusal, IsUnseen, Opens, Refuses};
 ghost use Rattle.desk.specs.Refusals.{IsWant};
 ghost use Rattle.desk.specs.Serving.{ServesAnswer};
 ghost use Rattle.desk.specs.declared.refusal.Refusal.TheVariants as refusal;
@@ -48,7 +49,7 @@ impl<K: Keeper> Model for Desk<K> {
     ghost use Rattle.std.specs.Prelude.{◌≡◌};
     ghost use Rattle.grants.specs.Bases.{FitsBase};
     ghost use Rattle.desk_store.specs.Left.{IsDeskOf, LeavesOnly};
-    ghost use Rattle.desk.specs.private.Known.{IsKnown};
+    ghost use Rattle.desk.specs.private.Known.{IsKnown, IsKnownOfUp};
     ghost use Rattle.desk.specs.State.{DeskState};
 
     ghost Value = { DeskState K };
@@ -58,7 +59,8 @@ impl<K: Keeper> Model for Desk<K> {
     ghost invariant = { λ d. FitsBase d.base × (K.is_up d.keeper → K.is_desk d.keeper)
         × (K.is_up d.keeper → K.roster d.keeper ≡ d.roster.text) × (K.is_up d.keeper
         → LeavesOnly (K.may_leave d.keeper) (IsDeskOf (K.roster d.keeper) (K.holds d.keeper)))
-        × IsKnown (K.is_up d.keeper) (K.holds d.keeper) d.known };
+        × IsKnown (K.is_up d.keeper) (K.holds d.keeper) d.known
+        × IsKnownOfUp (K.is_clean d.keeper) (K.is_up d.keeper) d.known };
 }
 
 impl<K: Keeper> Desk<K> {
@@ -88,7 +90,13 @@ impl<K: Keeper> Desk<K> {
         ensures refused { IfErr result
             (λ r. K.is_up r.1 → IsWant r.0 ⊎ Refuses (FitsBase base) (K.is_empty keeper)
             (K.is_desk keeper) (K.is_old keeper) (K.roster keeper) roster.text r.0) }
+        // So nothing else is refused, whatever the storage does.
+        ensures err { IfErr result (λ r. IsWant r.0 ⊎ IsOpeningRefusal r.0) }
         ensures unchanged { IfErr result (λ r. K.is_up r.1 → K.is_same keeper r.1) }
+        // Over an honest disk the keeper is up after Ok, and after each refusal that tells of a
+        // desk.
+        ensures live { MatchResult result (λ d. K.is_clean d.keeper → K.is_up d.keeper)
+            (λ r. K.is_clean r.1 → IsWant r.0 ⊎ IsUnseen r.0 ⊎ K.is_up r.1) }
         ensures served { MatchResult result (λ d. Serves K.Keeper keeper d.keeper ⊥ ⊥)
             (λ r. Serves K.Keeper keeper r.1 (r.0 ≡ refusal.Storage) (IsWant r.0)) }
         // A base past the limits is refused before the keeper is asked.
@@ -99,6 +107,11 @@ impl<K: Keeper> Desk<K> {
             (λ r. r.0 ≢ refusal.BaseTooLarge → K.is_clean r.1
             → LeavesOnly (K.may_leave r.1) (IsLeftByOpening (K.is_empty keeper) (K.is_desk keeper)
             (K.is_old keeper) (K.roster keeper) roster.text (K.holds keeper))) }
+        ensures leaves { MatchResult result (λ d. K.is_clean d.keeper → AddsOnly
+            (K.may_leave keeper) (K.may_leave d.keeper)
+            (IsMadeByOpening (K.is_up keeper) (K.is_empty keeper) roster.text))
+            (λ r. K.is_clean r.1 → AddsOnly (K.may_leave keeper) (K.may_leave r.1)
+            (IsMadeByOpening (K.is_up keeper) (K.is_empty keeper) roster.text)) }
         ensures lasting { K.is_up keeper → IfOk result (λ d. K.is_clean d.keeper
             → LeavesOnly (K.may_leave d.keeper) (IsDeskOf roster.text (K.holds d.keeper))) }
         ensures durable { IfOk result (λ d. K.is_up d.keeper
@@ -139,7 +152,8 @@ impl<K: Keeper> Desk<K> {
     ///
     /// Whenever the call ends, a crash leaves the whole desk without the message, or the whole desk
     /// with it; after Ok only the latter. While the keeper is up, a crash leaves what the desk
-    /// holds.
+    /// holds. Also where a failure has shut the keeper before, a crash leaves nothing that it might
+    /// not have left when the call began, or that desk with the message.
     pub fn deliver(&mut self, relay: &str, body: &[u8]) -> Result<Ack, Refusal>
         ensures answer { IsDeliveryAnswer self.old.roster.says
             (record { relay = relay.now; body = body.now }) result }
@@ -151,11 +165,20 @@ impl<K: Keeper> Desk<K> {
             → OnErr result (K.is_same self.old.keeper self.new.keeper) }
         ensures roster { self.new.roster ≡ self.old.roster }
         ensures base { self.new.base ≡ self.old.base }
+        // Over an honest disk the keeper is up after Ok; and a refusal that tells of no want does
+        // not ask it.
+        ensures live { K.is_clean self.new.keeper → OnOk result (K.is_up self.new.keeper) }
+        ensures unasked { IfErr result
+            (λ e. IsWant e ⊎ (self.new.keeper ≡ self.old.keeper)) }
         ensures served { ServesAnswer K.Keeper self.old.keeper self.new.keeper result }
         ensures crash { K.is_up self.old.keeper → K.is_clean self.new.keeper
             → LeavesOnly (K.may_leave self.new.keeper)
             (IsLeftByDelivery self.old.roster.says self.old.roster.text
             (K.holds self.old.keeper) (record { relay = relay.now; body = body.now })) }
+        ensures leaves { K.is_clean self.new.keeper → AddsOnly (K.may_leave self.old.keeper)
+            (K.may_leave self.new.keeper) (IsAddedByDelivery (K.is_up self.old.keeper)
+            self.old.roster.says self.old.roster.text (K.holds self.old.keeper)
+            (record { relay = relay.now; body = body.now })) }
         ensures lasting { K.is_up self.old.keeper → K.is_clean self.new.keeper
             → OnOk result (LeavesOnly (K.may_leave self.new.keeper)
             (IsDeskOf self.old.roster.text (λ m. K.holds self.old.keeper m
@@ -182,7 +205,8 @@ impl<K: Keeper> Desk<K> {
     ///
     /// The call is refused only with `NoMemory`, before anything is delivered: the room for the
     /// answers is taken first. While the keeper is up, a crash leaves what the desk holds: what it
-    /// held, and all that was acknowledged.
+    /// held, and all that was acknowledged. After a failure too, a crash leaves all that, in a
+    /// whole desk, with at most one message more, which one of the deliveries brought.
     pub fn deliver_all(
         &mut self,
         list: &[(String, Vec<u8>)],
@@ -201,6 +225,21 @@ impl<K: Keeper> Desk<K> {
             (IsOkAnd result (λ answers. WasWantingAmong answers.items)) }
         ensures causes { IfOk result (λ answers. HaveFailed (storage_failures answers.items)
             (K.failures self.old.keeper) (K.failures self.new.keeper)) }
+        // If the desk held all that was acknowledged, or all was refused, nothing changed.
+        ensures repeated { K.is_up self.new.keeper → IfOk result (λ answers. ((m : AnyMessage)
+            → AcknowledgesAmong (map delivery_of list.now) answers.items m
+            → K.holds self.old.keeper m) → K.is_same self.old.keeper self.new.keeper) }
+        ensures live { K.is_clean self.new.keeper → IfOk result (λ answers. (m : AnyMessage)
+            → AcknowledgesAmong (map delivery_of list.now) answers.items m
+            → WasWantingAmong answers.items ⊎ K.is_up self.new.keeper) }
+        ensures crash { K.is_up self.old.keeper → K.is_clean self.new.keeper → IfOk result
+            (λ answers. LeavesOnly (K.may_leave self.new.keeper) (IsLeftByDeliveries
+            self.old.roster.says self.old.roster.text (K.holds self.old.keeper)
+            (map delivery_of list.now) answers.items)) }
+        ensures leaves { K.is_clean self.new.keeper → IfOk result (λ answers. AddsOnly
+            (K.may_leave self.old.keeper) (K.may_leave self.new.keeper) (λ left.
+            K.is_up self.old.keeper × IsLeftByDeliveries self.old.roster.says self.old.roster.text
+            (K.holds self.old.keeper) (map delivery_of list.now) answers.items left)) }
         ensures durable { K.is_up self.new.keeper → LeavesOnly (K.may_leave self.new.keeper)
             (IsDeskOf self.new.roster.text (K.holds self.new.keeper)) }
     {
@@ -233,7 +272,22 @@ impl<K: Keeper> Desk<K> {
             (Contains answers.new.items (Err refusal.Storage)) (WasWantingAmong answers.new.items) }
         ensures causes { HaveFailed (storage_failures answers.new.items)
             (K.failures self.old.keeper) (K.failures self.new.keeper) }
+        ensures repeated { K.is_up self.new.keeper → ((m : AnyMessage)
+            → AcknowledgesAmong (map delivery_of list.now) answers.new.items m
+            → K.holds self.old.keeper m) → K.is_same self.old.keeper self.new.keeper }
+        ensures live { K.is_clean self.new.keeper → (m : AnyMessage)
+            → AcknowledgesAmong (map delivery_of list.now) answers.new.items m
+            → WasWantingAmong answers.new.items ⊎ K.is_up self.new.keeper }
+        ensures crash { K.is_up self.old.keeper → K.is_clean self.new.keeper
+            → LeavesOnly (K.may_leave self.new.keeper) (IsLeftByDeliveries self.old.roster.says
+            self.old.roster.text (K.holds self.old.keeper)
+            (map delivery_of list.now) answers.new.items) }
+        ensures leaves { K.is_clean self.new.keeper → AddsOnly (K.may_leave self.old.keeper)
+            (K.may_leave self.new.keeper) (λ left. K.is_up self.old.keeper × IsLeftByDeliveries
+            self.old.roster.says self.old.roster.text (K.holds self.old.keeper)
+            (map delivery_of list.now) answers.new.items left) }
     {
+        self.lasts();
         for (relay, body) in list {
             let answer = self.deliver(relay.as_str(), body.as_slice());
             answers.push_reserved(answer);

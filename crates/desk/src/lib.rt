@@ -4,6 +4,7 @@
 
 mod ack;
 mod answer_laws;
+mod counting;
 mod delivery;
 mod desk;
 mod holdings;

@@ -1,11 +1,11 @@
 //! Finding a desk at its keeper, or making one there, and what is known of its messages at first.
 
-ghost use Rattle.std.specs.Prelude.{◌≡◌, ◌≢◌, ◌⊎◌, ⊤, IfOk, OnOk, OnErr, IfErr};
-ghost use Rattle.desk_store.specs.Left.{IsDeskOf, LeavesOnly};
+ghost use Rattle.std.specs.Prelude.{◌≡◌, ◌≢◌, ◌⊎◌, ⊤, IfOk, OnOk, OnErr, IfErr, MatchResult};
+ghost use Rattle.desk_store.specs.Left.{AddsOnly, IsDeskOf, LeavesOnly};
 ghost use Rattle.desk_tables.specs.Sets.{IsNothing};
-ghost use Rattle.desk.specs.Crash.{IsLeftByOpening};
+ghost use Rattle.desk.specs.Crash.{IsLeftByOpening, IsMadeByOpening};
 ghost use Rattle.desk.specs.private.Known.{IsKnownAtFirst};
-ghost use Rattle.desk.specs.Opening.{Opens, Refuses};
+ghost use Rattle.desk.specs.Opening.{IsOpeningRefusal, IsUnseen, Opens, Refuses};
 ghost use Rattle.desk.specs.Refusals.{IsWant};
 ghost use Rattle.desk.specs.Serving.{ServesAnswer};
 ghost use Rattle.desk.specs.declared.opening.Origin.TheVariants as origins;
@@ -50,7 +50,13 @@ pub(crate) fn find_or_make<K: Keeper>(keeper: &mut K, text: &str) -> Result<Orig
         → IfErr result (λ e. IsWant e ⊎ Refuses ⊤ (K.is_empty keeper.old)
         (K.is_desk keeper.old) (K.is_old keeper.old) (K.roster keeper.old) text.now e) }
     ensures fits { IfErr result (λ e. e ≢ refusal.BaseTooLarge) }
+    ensures err { IfErr result (λ e. IsWant e ⊎ IsOpeningRefusal e) }
     ensures unchanged { K.is_up keeper.new → OnErr result (K.is_same keeper.old keeper.new) }
+    ensures live { K.is_clean keeper.new → MatchResult result (λ _. K.is_up keeper.new)
+        (λ e. IsWant e ⊎ IsUnseen e ⊎ K.is_up keeper.new) }
+    ensures leaves { K.is_clean keeper.new → AddsOnly (K.may_leave keeper.old)
+        (K.may_leave keeper.new)
+        (IsMadeByOpening (K.is_up keeper.old) (K.is_empty keeper.old) text.now) }
     ensures served { ServesAnswer K.Keeper keeper.old keeper.new result }
     ensures crash { K.is_up keeper.old → K.is_clean keeper.new → LeavesOnly (K.may_leave keeper.new)
         (IsLeftByOpening (K.is_empty keeper.old) (K.is_desk keeper.old)

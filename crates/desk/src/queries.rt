@@ -11,7 +11,7 @@ ghost use Rattle.outcomes.specs.LinesLeft as left;
 ghost use Rattle.outcomes.specs.Outcomes.{AreLive, ComesTo};
 ghost use Rattle.outcomes.specs.Parked.{AreParked};
 ghost use Rattle.desk.specs.Refusals.{IsWant};
-ghost use Rattle.desk.specs.Serving.{ServesAnswer};
+ghost use Rattle.desk.specs.Serving.{OnlyAsks, ServesAnswer};
 ghost use Rattle.outcomes.specs.Rights.{GivesRights, GivesRightsAfter};
 ghost use Rattle.outcomes.specs.Summaries.{AreSummaries};
 ghost use Rattle.desk.specs.declared.refusal.Refusal.TheVariants as refusal;
@@ -36,6 +36,7 @@ impl<K: Keeper> Desk<K> {
         ensures roster { self.new.roster ≡ self.old.roster }
         ensures base { self.new.base ≡ self.old.base }
         ensures served { ServesAnswer K.Keeper self.old.keeper self.new.keeper result }
+        ensures asks { OnlyAsks K.Keeper self.old.keeper self.new.keeper result }
     {
         let known = known_of(self.known.take(), &mut self.keeper)?;
         let status = status_in(&self.roster, &known, name);
@@ -53,6 +54,7 @@ impl<K: Keeper> Desk<K> {
         ensures roster { self.new.roster ≡ self.old.roster }
         ensures base { self.new.base ≡ self.old.base }
         ensures served { ServesAnswer K.Keeper self.old.keeper self.new.keeper result }
+        ensures asks { OnlyAsks K.Keeper self.old.keeper self.new.keeper result }
     {
         let known = known_of(self.known.take(), &mut self.keeper)?;
         let list = live_in(self.alloc, &self.roster, &known, at);
@@ -70,6 +72,7 @@ impl<K: Keeper> Desk<K> {
         ensures roster { self.new.roster ≡ self.old.roster }
         ensures base { self.new.base ≡ self.old.base }
         ensures served { ServesAnswer K.Keeper self.old.keeper self.new.keeper result }
+        ensures asks { OnlyAsks K.Keeper self.old.keeper self.new.keeper result }
     {
         let known = known_of(self.known.take(), &mut self.keeper)?;
         let texts = parked_in(self.alloc, &known);
@@ -90,6 +93,7 @@ impl<K: Keeper> Desk<K> {
         ensures roster { self.new.roster ≡ self.old.roster }
         ensures base { self.new.base ≡ self.old.base }
         ensures served { ServesAnswer K.Keeper self.old.keeper self.new.keeper result }
+        ensures asks { OnlyAsks K.Keeper self.old.keeper self.new.keeper result }
     {
         let known = known_of(self.known.take(), &mut self.keeper)?;
         let list = summaries_in(self.alloc, &known);
@@ -111,6 +115,7 @@ impl<K: Keeper> Desk<K> {
         ensures roster { self.new.roster ≡ self.old.roster }
         ensures base { self.new.base ≡ self.old.base }
         ensures served { ServesAnswer K.Keeper self.old.keeper self.new.keeper result }
+        ensures asks { OnlyAsks K.Keeper self.old.keeper self.new.keeper result }
     {
         let known = known_of(self.known.take(), &mut self.keeper)?;
         let held = holdings_in(self.alloc, &known);
@@ -149,6 +154,7 @@ impl<K: Keeper> Desk<K> {
         ensures roster { self.new.roster ≡ self.old.roster }
         ensures base { self.new.base ≡ self.old.base }
         ensures served { ServesAnswer K.Keeper self.old.keeper self.new.keeper result }
+        ensures asks { OnlyAsks K.Keeper self.old.keeper self.new.keeper result }
     {
         self.file_of(host, None)
     }
@@ -183,6 +189,7 @@ impl<K: Keeper> Desk<K> {
         ensures roster { self.new.roster ≡ self.old.roster }
         ensures base { self.new.base ≡ self.old.base }
         ensures served { ServesAnswer K.Keeper self.old.keeper self.new.keeper result }
+        ensures asks { OnlyAsks K.Keeper self.old.keeper self.new.keeper result }
     {
         self.file_of(host, Some(moment))
     }
@@ -209,6 +216,7 @@ impl<K: Keeper> Desk<K> {
         ensures roster { self.new.roster ≡ self.old.roster }
         ensures base { self.new.base ≡ self.old.base }
         ensures served { ServesAnswer K.Keeper self.old.keeper self.new.keeper result }
+        ensures asks { OnlyAsks K.Keeper self.old.keeper self.new.keeper result }
     {
         if !self.roster.has_host(host) {
             return Err(Refusal::UnknownHost);

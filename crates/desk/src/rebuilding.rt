@@ -2,9 +2,9 @@
 
 ghost use Rattle.std.specs.Prelude.{◌≡◌, ◌≢◌, ◌⊎◌, ◌↔◌, ⊤, IfOk, IfErr, OnOk, OnErr, MatchResult};
 ghost use Rattle.grants.specs.Bases.{FitsBase};
-ghost use Rattle.desk_store.specs.Left.{IsDeskOf, LeavesOnly};
+ghost use Rattle.desk_store.specs.Left.{AddsOnly, IsDeskOf, LeavesOnly};
 ghost use Rattle.desk_store.specs.Serves.{Serves};
-ghost use Rattle.desk.specs.Crash.{IsLeftByRebuilding};
+ghost use Rattle.desk.specs.Crash.{IsAddedByRebuilding, IsLeftByRebuilding};
 ghost use Rattle.desk.specs.Rebuilding.{Rebuilds, RefusesToRebuild};
 ghost use Rattle.desk.specs.Refusals.{IsWant};
 ghost use Rattle.desk.specs.Serving.{ServesAnswer};
@@ -32,6 +32,10 @@ pub(crate) fn make_or_replace<K: Keeper>(keeper: &mut K, text: &str) -> Result<(
     ensures err { IfErr result (λ e. IsWant e ⊎ (e ≡ refusal.NotADesk)) }
     ensures fits { IfErr result (λ e. e ≢ refusal.BaseTooLarge) }
     ensures unchanged { K.is_up keeper.new → OnErr result (K.is_same keeper.old keeper.new) }
+    ensures live { K.is_clean keeper.new → OnOk result (K.is_up keeper.new) }
+    ensures leaves { K.is_clean keeper.new → AddsOnly (K.may_leave keeper.old)
+        (K.may_leave keeper.new) (IsAddedByRebuilding (K.is_up keeper.old)
+        (K.is_empty keeper.old) text.now (K.holds keeper.old)) }
     ensures served { ServesAnswer K.Keeper keeper.old keeper.new result }
     ensures crash { K.is_up keeper.old → K.is_clean keeper.new → LeavesOnly (K.may_leave keeper.new)
         (IsLeftByRebuilding (K.is_empty keeper.old) (K.is_desk keeper.old)
@@ -89,6 +93,8 @@ impl<K: Keeper> Desk<K> {
         ensures err { IfErr result
             (λ r. IsWant r.0 ⊎ (r.0 ≡ refusal.NotADesk) ⊎ (r.0 ≡ refusal.BaseTooLarge)) }
         ensures unchanged { IfErr result (λ r. K.is_up r.1 → K.is_same keeper r.1) }
+        // Over an honest disk the keeper is up after Ok.
+        ensures live { IfOk result (λ d. K.is_clean d.keeper → K.is_up d.keeper) }
         ensures served { MatchResult result (λ d. Serves K.Keeper keeper d.keeper ⊥ ⊥)
             (λ r. Serves K.Keeper keeper r.1 (r.0 ≡ refusal.Storage) (IsWant r.0)) }
         // A base past the limits is refused before the keeper is asked.
@@ -99,6 +105,12 @@ impl<K: Keeper> Desk<K> {
             (λ r. r.0 ≢ refusal.BaseTooLarge → K.is_clean r.1
             → LeavesOnly (K.may_leave r.1) (IsLeftByRebuilding (K.is_empty keeper)
             (K.is_desk keeper) (K.is_old keeper) (K.roster keeper) roster.text (K.holds keeper))) }
+        ensures leaves { MatchResult result (λ d. K.is_clean d.keeper
+            → AddsOnly (K.may_leave keeper) (K.may_leave d.keeper) (IsAddedByRebuilding
+            (K.is_up keeper) (K.is_empty keeper) roster.text (K.holds keeper)))
+            (λ r. K.is_clean r.1 → AddsOnly (K.may_leave keeper) (K.may_leave r.1)
+            (IsAddedByRebuilding (K.is_up keeper) (K.is_empty keeper) roster.text
+            (K.holds keeper))) }
         ensures lasting { K.is_up keeper → IfOk result (λ d. K.is_clean d.keeper
             → LeavesOnly (K.may_leave d.keeper) (IsDeskOf roster.text (K.holds d.keeper))) }
         ensures durable { IfOk result (λ d. K.is_up d.keeper

@@ -1,14 +1,16 @@
 //! A desk opened over what a stop left.
 
-ghost use Rattle.std.specs.Prelude.{◌≡◌, ◌⊎◌, List, ℕ, Contains, IfOk, IfErr};
+ghost use Rattle.std.specs.Prelude.{◌≡◌, ◌⊎◌, List, ℕ, Contains, IfOk, IfErr, Result};
 ghost use Rattle.messages.specs.declared.message.Message.{Message as AnyMessage};
 ghost use Rattle.grants.specs.Bases.{FitsBase};
 ghost use Rattle.desk_tables.specs.Sets.{IsNothing, SameSet, With};
 ghost use Rattle.desk_store.specs.Left.{IsDeskOf, IsFoundAs, IsNothingOrFresh, LeavesOnly, MayBe};
-ghost use Rattle.desk.specs.Crash.{IsAcceptable, IsLeftByDelivery};
-ghost use Rattle.desk.specs.Delivery.{Delivery};
+ghost use Rattle.desk.specs.Crash.{IsAcceptable, IsLeftByDeliveries, IsLeftByDelivery};
+ghost use Rattle.desk.specs.Delivery.{AcknowledgesAmong, Delivery};
 ghost use Rattle.desk.specs.Refusals.{IsWant};
 ghost use Rattle.desk.specs.Same.{AnswerAlike};
+ghost use Rattle.desk.specs.declared.ack.Ack.{Ack as AnyAck};
+ghost use Rattle.desk.specs.declared.refusal.Refusal.{Refusal as AnyRefusal};
 ghost use Rattle.desk.specs.declared.refusal.Refusal.TheVariants as refusal;
 
 use crate::desk::Desk;
@@ -24,9 +26,10 @@ use sudo_policy::Policy;
 /// The clauses `crash`, `lasting` and `durable` of the call that was stopped say what may be left.
 /// So where that call had acknowledged, or the stop came between calls, the desk holds all
 /// that was acknowledged, and answers every question alike; where it stopped in a delivery, the
-/// desk holds that with the message or without it; and where it stopped while a desk was made,
-/// opened or rebuilt, nothing is lost. It is refused only for the base, or for want of memory or of
-/// the storage.
+/// desk holds that with the message or without it; where it stopped in or after many deliveries, of
+/// which some failed, the desk holds all that was acknowledged, and at most one message more; and
+/// where it stopped while a desk was made, opened or rebuilt, nothing is lost. It is refused only
+/// for the base, or for want of memory or of the storage.
 pub fn open_after_stop<K: Keeper>(
     alloc: Global,
     _stopped: &K,
@@ -51,6 +54,14 @@ pub fn open_after_stop<K: Keeper>(
         → IfOk result (λ desk. K.is_up desk.keeper → SameSet (λ m. Contains list m)
         (K.holds desk.keeper) ⊎ ((m : AnyMessage) × IsAcceptable roster.says d m
         × SameSet (With (λ n. Contains list n) m) (K.holds desk.keeper))) }
+    ensures deliveries { (list : List AnyMessage) (ds : List Delivery)
+        (answers : List (Result AnyAck AnyRefusal)) → LeavesOnly (K.may_leave _stopped.now)
+        (IsLeftByDeliveries roster.says roster.text (λ m. Contains list m) ds answers)
+        → IfOk result (λ desk. K.is_up desk.keeper
+        → SameSet (λ m. Contains list m ⊎ AcknowledgesAmong ds answers m) (K.holds desk.keeper)
+        ⊎ ((d : Delivery) × Contains ds d × (m : AnyMessage) × IsAcceptable roster.says d m
+        × SameSet (With (λ n. Contains list n ⊎ AcknowledgesAmong ds answers n) m)
+        (K.holds desk.keeper))) }
     ensures making { LeavesOnly (K.may_leave _stopped.now) (IsNothingOrFresh roster.text)
         → IfOk result (λ d. K.is_up d.keeper → IsNothing (K.holds d.keeper)) }
     ensures rebuilding { (list : List AnyMessage) (recorded : List ℕ)

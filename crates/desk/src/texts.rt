@@ -6,7 +6,7 @@ ghost use Rattle.messages.specs.Wire.{IsMessage, wire};
 ghost use Rattle.messages.specs.declared.message.Message.{Message as AnyMessage};
 ghost use Rattle.desk_tables.specs.Sets.{Lists};
 ghost use Rattle.desk.specs.Refusals.{IsWant};
-ghost use Rattle.desk.specs.Serving.{ServesAnswer};
+ghost use Rattle.desk.specs.Serving.{OnlyAsks, ServesAnswer};
 ghost use Rattle.desk.specs.Texts.{AreTexts};
 
 use crate::desk::Desk;
@@ -25,12 +25,17 @@ impl<K: Keeper> Desk<K> {
             → Lists (K.holds self.old.keeper) set
             → IfOk result (λ texts. AreTexts set (map string_bytes texts.items)) }
         ensures err { IfErr result IsWant }
+        ensures desk { K.is_up self.new.keeper → K.is_desk self.new.keeper }
         ensures unchanged { K.is_up self.new.keeper → K.is_same self.old.keeper self.new.keeper }
         ensures roster { self.new.roster ≡ self.old.roster }
         ensures base { self.new.base ≡ self.old.base }
         ensures served { ServesAnswer K.Keeper self.old.keeper self.new.keeper result }
+        ensures asks { OnlyAsks K.Keeper self.old.keeper self.new.keeper result }
     {
-        let set = listed(&mut self.keeper, &self.known)?;
+        // What is known stays only where the keeper answers.
+        let known = self.known.take();
+        let set = listed(&mut self.keeper, &known)?;
+        self.known = known;
         Ok(texts_in(self.alloc, set.as_slice())?)
     }
 }

@@ -161,8 +161,9 @@ said program words (Rebuild places) all is =
     (λ operands. line program (codes "rebuild") (nth 6) (places.roster ∷ places.base ∷ store ∷ []) _ (Rebuild places)
     (rebuilds places.roster places.base store operands) (refl, record { roster = refl; base = refl; store = (store, refl, says) })) all
 said program words (Serve places addr requests) all is =
-    let (store, says, same, none) = is in
+    let (store, text, says, listens, same, none) = is in
     subst (λ ws. list_all is_operand ws ≡ true → IsCommandLine (program ∷ ws) (Serve places addr requests)) (sym same)
-    (λ operands. subst (λ r. IsCommandLine (program ∷ codes "serve" ∷ places.roster ∷ places.base ∷ store ∷ addr ∷ []) (Serve places addr r)) (sym none)
-    (line program (codes "serve") (nth 7) (places.roster ∷ places.base ∷ store ∷ addr ∷ []) _ (Serve places addr None)
-    (serves places.roster places.base store addr operands) (refl, record { roster = refl; base = refl; store = (store, refl, says) }, refl, refl))) all
+    (λ operands. subst (λ r. IsCommandLine (program ∷ codes "serve" ∷ places.roster ∷ places.base ∷ store ∷ text ∷ []) (Serve places addr r)) (sym none)
+    (line program (codes "serve") (nth 7) (places.roster ∷ places.base ∷ store ∷ text ∷ []) _ (Serve places addr None)
+    (serves places.roster places.base store text operands)
+    (refl, record { roster = refl; base = refl; store = (store, refl, says) }, (text, refl, listens), refl))) all

@@ -2,6 +2,7 @@ pub mod Rows
 pub mod Wanted
 pub mod Stamps
 pub mod Options
+pub mod Addresses
 pub mod Commands
 pub mod Building
 pub mod Args

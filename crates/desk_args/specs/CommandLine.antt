@@ -1,8 +1,9 @@
 -- The command line, and what it says to do.
-use Rattle.std.specs.Prelude.{◌≡◌, ◌≢◌, ◌⊎◌, ℕ, ◌<◌, ◌≤◌, ◌&&◌, Bool, true, false, List, [], ◌∷◌}
-use Rattle.std.specs.Prelude.{Option, Some, None, codes, is_some, length, nat_le, nat_lt, unwrap_or}
+use Rattle.std.specs.Prelude.{◌≡◌, ◌≢◌, ◌⊎◌, ℕ, ◌<◌, ◌≤◌, ◌&&◌, ◌==◌, Bool, true, false, not}
+use Rattle.std.specs.Prelude.{List, [], ◌∷◌, ◌++◌, Option, Some, None, codes, is_some, length}
+use Rattle.std.specs.Prelude.{nat_le, nat_lt, unwrap_or}
 use Rattle.std.specs.Char.{is_ascii_digit}
-use Rattle.std.specs.List.{list_all}
+use Rattle.std.specs.List.{ends_with, list_all, list_any, starts_with}
 use Rattle.std.specs.Str.Parse.{digits_value}
 use Rattle.clap.specs.Words.{App, Row, Rule, Text, first_of, all_of, fault_of, new_app}
 use Rattle.clap.specs.Words.{new_rule, subcommand_of, with_rule, with_subcommand}
@@ -11,6 +12,8 @@ use Rattle.sudo_words.specs.Moment.{IsStamp}
 use Rattle.sudo_words.specs.Word.{is_arg, is_file_path, is_host_name, is_name}
 use Rattle.sudo_decide.specs.declared.invocation.Invocation.{Invocation}
 use Rattle.sudo_decide.specs.declared.scope.Scope.{Scope}
+use Rattle.desk_args.specs.declared.task.Address.{Address}
+use Rattle.desk_args.specs.declared.task.Address.TheVariants.{Tcp, Unix}
 use Rattle.desk_args.specs.declared.task.Places.{Places}
 use Rattle.desk_args.specs.declared.task.Store.{Store}
 use Rattle.desk_args.specs.declared.task.Store.TheVariants.{Memory, File}
@@ -199,6 +202,51 @@ pub record ArePlaces (rows : List Row) (places : Places) : Type 0 where
   pub base : HasValue (codes "BASE") rows places.base
   pub store : HasStore (codes "STORE") rows places.store
 
+-- ---- where `serve` listens
+
+-- a port: 1 to 5 digits, which write at most 65,535
+abbrev pub is_port : Text → Bool
+is_port text =
+    nat_lt 0 (length text)
+    && (nat_le (length text) 5
+    && (list_all is_ascii_digit text && nat_le (digits_value 10 text) 65_535))
+
+-- A host that is not empty, a colon and a port. The colon is the text's last, since a port has
+-- none. Whether the host can be listened at is seen when the desk is to listen there.
+pub record IsHostAndPort (text : Text) : Type 0 where
+  pub host : Text
+  pub port : Text
+  pub is : text ≡ host ++ codes ":" ++ port
+  pub named : host ≢ []
+  pub numbered : is_port port ≡ true
+
+-- The path of a Unix socket: it begins with a slash and does not end with one, it has no null byte,
+-- and at most 107 bytes, which is what the address of such a socket holds (unix(7)).
+abbrev pub is_socket_path : Text → Bool
+is_socket_path path =
+    starts_with (λ a b. a == b) path (codes "/")
+    && (not (ends_with (λ a b. a == b) path (codes "/"))
+    && (not (list_any (λ b. b == 0) path) && nat_le (length path) 107))
+
+-- the text begins with `unix:/`
+abbrev pub BeginsAsSocket : Text → Type 0
+BeginsAsSocket text = (rest : Text) × (text ≡ codes "unix:/" ++ rest)
+
+-- `unix:` and the path of a socket, or a host and a port. What begins with `unix:/` is never the
+-- second, also where it ends in a colon and a port.
+abbrev pub SaysAddress : Text → Address → Type 0
+SaysAddress text (Tcp place) =
+    (text ≡ place) × IsHostAndPort text × (BeginsAsSocket text → ⊥)
+SaysAddress text (Unix path) = (text ≡ codes "unix:" ++ path) × (is_socket_path path ≡ true)
+
+-- the text says no address
+abbrev pub SaysNoAddress : Text → Type 0
+SaysNoAddress text = (addr : Address) → SaysAddress text addr → ⊥
+
+-- the argument's value says to listen there
+abbrev pub HasAddress : Text → List Row → Address → Type 0
+HasAddress id rows addr = (text : Text) × HasValue id rows text × SaysAddress text addr
+
 -- ---- what the line says
 
 -- the command of this name, with its values, says the job
@@ -221,7 +269,7 @@ Says (Some line) (Review places at) =
 Says (Some line) (Rebuild places) = (line.0 ≡ codes "rebuild") × ArePlaces line.1 places
 Says (Some line) (Serve places addr requests) =
     (line.0 ≡ codes "serve") × ArePlaces line.1 places
-    × HasValue (codes "ADDR") line.1 addr × HasCount (codes "REQUESTS") line.1 requests
+    × HasAddress (codes "ADDR") line.1 addr × HasCount (codes "REQUESTS") line.1 requests
 
 -- By clap's rules the words are a command of the program, without a fault, and their values say the
 -- job.
@@ -242,6 +290,12 @@ pub record HasBadMoment (id : Text) (rows : List Row) : Type 0 where
   pub text : Text
   pub value : HasValue id rows text
   pub bad : (moment : ℕ) → IsStamp text moment → ⊥
+
+-- the argument has a value that says no address
+pub record HasBadAddress (id : Text) (rows : List Row) : Type 0 where
+  pub text : Text
+  pub value : HasValue id rows text
+  pub bad : SaysNoAddress text
 
 -- too many values, or one that is not of the form
 abbrev pub HasBadWords : (Text → Bool) → ℕ → Text → List Row → Type 0
@@ -268,6 +322,11 @@ pub data HasBadPlace (rows : List Row) : Type 0 where
   bad_target : HasBadWord is_host_name (codes "HOST") rows → HasBadPlace rows
   bad_after : HasBadMoment (codes "AFTER") rows → HasBadPlace rows
 
+-- one of the values of `serve` is not of its form
+pub data HasBadServing (rows : List Row) : Type 0 where
+  bad_addr : HasBadAddress (codes "ADDR") rows → HasBadServing rows
+  bad_requests : HasBadWord is_count (codes "REQUESTS") rows → HasBadServing rows
+
 -- the command's name, with a value that is not of its form
 abbrev pub SaysBadly : Option (Text × List Row) → Type 0
 SaysBadly None = ⊥
@@ -276,7 +335,7 @@ SaysBadly (Some line) =
     ⊎ ((line.0 ≡ codes "beyond") × HasBadScope line.1)
     ⊎ ((line.0 ≡ codes "print") × HasBadPlace line.1)
     ⊎ ((line.0 ≡ codes "review") × HasBadMoment (codes "AT") line.1)
-    ⊎ ((line.0 ≡ codes "serve") × HasBadWord is_count (codes "REQUESTS") line.1)
+    ⊎ ((line.0 ≡ codes "serve") × HasBadServing line.1)
 
 -- By clap's rules the words are a command of the program, without a fault, but a value is not of
 -- its form.

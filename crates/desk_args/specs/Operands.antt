@@ -5,7 +5,7 @@ use Rattle.clap.specs.Words.{Text}
 use Rattle.sudo_words.specs.Moment.{IsStamp}
 use Rattle.sudo_words.specs.Word.{is_arg, is_file_path, is_host_name, is_name}
 use Rattle.sudo_decide.specs.declared.invocation.Invocation.{Invocation}
-use Rattle.desk_args.specs.CommandLine.{SaysStore}
+use Rattle.desk_args.specs.CommandLine.{SaysAddress, SaysStore}
 use Rattle.desk_args.specs.declared.task.Job.{Job}
 use Rattle.desk_args.specs.declared.task.Job.TheVariants.{Beyond, Check, Decide, Deliver}
 use Rattle.desk_args.specs.declared.task.Job.TheVariants.{Print, Rebuild, Review, Serve}
@@ -48,5 +48,5 @@ SaysByPlace words (Rebuild places) =
     (store : Text) × SaysStore store places.store
     × (words ≡ codes "rebuild" ∷ places.roster ∷ places.base ∷ store ∷ [])
 SaysByPlace words (Serve places addr requests) =
-    (store : Text) × SaysStore store places.store
-    × (words ≡ codes "serve" ∷ places.roster ∷ places.base ∷ store ∷ addr ∷ []) × (requests ≡ None)
+    (store text : Text) × SaysStore store places.store × SaysAddress text addr
+    × (words ≡ codes "serve" ∷ places.roster ∷ places.base ∷ store ∷ text ∷ []) × (requests ≡ None)

@@ -15,7 +15,7 @@ use clap::{Arg, ArgAction, ArgMatches, Command};
 use std::alloc::{AllocError, Global};
 
 /// The program's version, and the toolchain that it is proved with.
-const VERSION: &str = "0.14.3\nproved with rattle-kit-13f logic dac8208d650f15bf";
+const VERSION: &str = "0.15.0\nproved with rattle-kit-13b logic dac8208d650f15bf";
 
 /// The text below each help.
 const ENDS: &str =
@@ -252,7 +252,7 @@ fn serve<'a>(alloc: Global) -> Result<Command<'a>, AllocError>
     ensures { IfOk result (IsCommand line.serve) }
 {
     let about = "Serve a desk over HTTP";
-    let help = "The address and port to listen at";
+    let help = "The address and port to listen at, or unix: and a path";
     on_desk(alloc, "serve", about, "ADDR", help, &SERVE_OPTIONS)
 }
 

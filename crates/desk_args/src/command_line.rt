@@ -19,7 +19,7 @@ use crate::command::parsed;
 use crate::fault::JobFault;
 use crate::task::{Job, Places};
 use crate::values::{
-    args, count_if_given, moment, moment_if_given, store, text, word, word_if_given,
+    address, args, count_if_given, moment, moment_if_given, store, text, word, word_if_given,
 };
 use clap::ArgMatches;
 use std::alloc::{AllocError, Global};
@@ -202,7 +202,7 @@ fn serve(alloc: Global, matches: &ArgMatches<'_>) -> Result<Job, JobFault>
     ensures usage { IfErr result (λ e. IsUsage e → ⊥) }
 {
     let requests = count_if_given(matches, "REQUESTS")?;
-    let addr = text(alloc, matches, "ADDR")?;
+    let addr = address(alloc, matches, "ADDR")?;
     let places = places(alloc, matches)?;
     Ok(Job::Serve {
         places,

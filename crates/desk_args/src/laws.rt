@@ -1,13 +1,17 @@
 //! Laws of the command line and worked command lines, each the contract of a function that does
 //! nothing.
 
-ghost use Rattle.std.specs.Prelude.{◌≡◌, List, [], ◌∷◌, None, Some, codes, true};
+ghost use Rattle.std.specs.Prelude.{◌≡◌, ◌++◌, List, [], ◌∷◌, None, Some, codes, replicate, true};
 ghost use Rattle.std.specs.List.{list_all};
 ghost use Rattle.clap.specs.Words.{Text as Word, fault_of, subcommand_of};
 ghost use Rattle.desk_args.specs.CommandLine.{IsCommandLine, HasAllValues, desk};
+ghost use Rattle.desk_args.specs.CommandLine.{SaysAddress, SaysNoAddress};
 ghost use Rattle.desk_args.specs.Operands.{SaysByPlace, is_operand};
+ghost use Rattle.desk_args.specs.declared.task.Address.{Address as Listened};
+ghost use Rattle.desk_args.specs.declared.task.Address.TheVariants.{Tcp, Unix};
 ghost use Rattle.desk_args.specs.declared.task.Job.{Job as Task};
 ghost use Rattle.desk_args.specs.declared.task.Job.TheVariants as jobs;
+ghost use Rattle.desk_args.specs.declared.task.Store.TheVariants as stores;
 
 /// Words that do not begin with `-` (except `-`) are positional.
 pub fn by_place()
@@ -35,6 +39,55 @@ pub fn compares()
     ensures { IsCommandLine (codes "desk" ∷ codes "beyond" ∷ codes "new.sudo"
         ∷ codes "old.sudo" ∷ codes "--host" ∷ codes "db1" ∷ []) (jobs.Beyond (codes "new.sudo")
         (codes "old.sudo") (record { user = None; host = Some (codes "db1"); runas = None })) }
+{}
+
+/// `desk serve roster.toml base.sudo desk.db unix:/run/desk/desk.sock`
+pub fn serves_at_socket()
+    ensures { IsCommandLine (codes "desk" ∷ codes "serve" ∷ codes "roster.toml" ∷ codes "base.sudo"
+        ∷ codes "desk.db" ∷ codes "unix:/run/desk/desk.sock" ∷ []) (jobs.Serve (record {
+          roster = codes "roster.toml";
+          base = codes "base.sudo";
+          store = stores.File (codes "desk.db");
+        }) (Unix (codes "/run/desk/desk.sock")) None) }
+{}
+
+/// A text says one address at most.
+pub fn one_address()
+    ensures { (text : Word) (a b : Listened) → SaysAddress text a → SaysAddress text b → a ≡ b }
+{}
+
+/// Texts that say an address. The last has a path of 107 bytes, and the one before it ends as a
+/// host and a port do.
+pub fn worked_addresses()
+    ensures loopback { SaysAddress (codes "127.0.0.1:0") (Tcp (codes "127.0.0.1:0")) }
+    ensures colons { SaysAddress (codes "[::1]:8080") (Tcp (codes "[::1]:8080")) }
+    ensures greatest { SaysAddress (codes "localhost:65535") (Tcp (codes "localhost:65535")) }
+    ensures named { SaysAddress (codes "unix:80") (Tcp (codes "unix:80")) }
+    ensures socket { SaysAddress (codes "unix:/run/desk.sock") (Unix (codes "/run/desk.sock")) }
+    ensures ends { SaysAddress (codes "unix:/run/a:80") (Unix (codes "/run/a:80")) }
+    ensures long { SaysAddress (codes "unix:/" ++ replicate 106 97)
+        (Unix (codes "/" ++ replicate 106 97)) }
+{}
+
+/// Texts that say none: without a colon, a host or a port; with a port of letters, of six digits,
+/// past the greatest, and with a sign; with a path that is relative, is `/` alone, ends with a
+/// slash, has a null byte, or has 108 bytes, also before a port.
+pub fn worked_refusals()
+    ensures empty { SaysNoAddress [] }
+    ensures word { SaysNoAddress (codes "nonsense") }
+    ensures portless { SaysNoAddress (codes "127.0.0.1") }
+    ensures hostless { SaysNoAddress (codes ":0") }
+    ensures bare { SaysNoAddress (codes "localhost:") }
+    ensures letters { SaysNoAddress (codes "127.0.0.1:x") }
+    ensures digits { SaysNoAddress (codes "127.0.0.1:000080") }
+    ensures past { SaysNoAddress (codes "127.0.0.1:65536") }
+    ensures signed { SaysNoAddress (codes "127.0.0.1:+80") }
+    ensures relative { SaysNoAddress (codes "unix:relative") }
+    ensures root { SaysNoAddress (codes "unix:/") }
+    ensures folder { SaysNoAddress (codes "unix:/run/desk/") }
+    ensures null { SaysNoAddress (codes "unix:/run/" ++ 0 ∷ codes "desk") }
+    ensures long { SaysNoAddress (codes "unix:/" ++ replicate 107 97) }
+    ensures both { SaysNoAddress (codes "unix:/" ++ replicate 107 97 ++ codes ":80") }
 {}
 
 /// A line in which clap finds no fault is a command of the program, with a value for each argument

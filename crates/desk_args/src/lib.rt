@@ -1,6 +1,7 @@
 //! What a command line says to do, and the exit status of what a job ends with.
 #![tactic(auto)]
 
+mod address;
 mod command;
 mod command_line;
 mod fault;
@@ -13,5 +14,5 @@ mod values;
 pub use command_line::job;
 pub use fault::{JobFault, show};
 pub use status::{Status, code};
-pub use task::{Job, Places, Store};
+pub use task::{Address, Job, Places, Store};
 pub use text::Text;

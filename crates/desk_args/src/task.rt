@@ -13,6 +13,15 @@ pub enum Store {
     File(Text),
 }
 
+/// Where a desk listens.
+#[derive(Drop)]
+pub enum Address {
+    /// At a host and a port, as `127.0.0.1:8080`.
+    Tcp(Text),
+    /// At the Unix socket of this path.
+    Unix(Text),
+}
+
 /// Where the parts of a desk are.
 #[derive(Drop)]
 pub struct Places {
@@ -80,8 +89,8 @@ pub enum Job {
     Serve {
         /// The desk's files.
         places: Places,
-        /// The address to listen at.
-        addr: Text,
+        /// Where to listen.
+        addr: Address,
         /// How many connections are served; without it, as many as come.
         requests: Option<u64>,
     },

@@ -6,16 +6,18 @@ ghost use Rattle.std.specs.List.{list_all};
 ghost use Rattle.std.specs.Str.Parse.{digits_value};
 ghost use Rattle.clap.specs.Words.{found_of, rows_of};
 ghost use Rattle.sudo_words.specs.Word.{is_arg};
-ghost use Rattle.desk_args.specs.CommandLine.{HasBadMoment, HasBadWord, HasBadWords};
-ghost use Rattle.desk_args.specs.CommandLine.{HasCount, HasMoment, HasMomentIfGiven};
+ghost use Rattle.desk_args.specs.CommandLine.{HasAddress, HasBadAddress, HasBadMoment, HasBadWord};
+ghost use Rattle.desk_args.specs.CommandLine.{HasBadWords, HasCount, HasMoment, HasMomentIfGiven};
 ghost use Rattle.desk_args.specs.CommandLine.{HasOption, HasSome, HasStore, HasValue};
 ghost use Rattle.desk_args.specs.CommandLine.{HasWord, HasWords, is_count, is_number, values};
 ghost use Rattle.desk_args.specs.Faults.{IsUsage};
 ghost use Rattle.desk_args.specs.declared.fault.JobFault.TheVariants.{BadWord, NoMemory};
+ghost use Rattle.desk_args.specs.declared.task.Address.{Address as Listened};
 ghost use Rattle.desk_args.specs.declared.task.Store.{Store as Place};
 
+use crate::address::read_address;
 use crate::fault::JobFault;
-use crate::task::Store;
+use crate::task::{Address, Store};
 use crate::text::Text;
 use clap::ArgMatches;
 use std::alloc::{AllocError, Global};
@@ -136,6 +138,20 @@ pub fn store(alloc: Global, matches: &ArgMatches<'_>, id: &str) -> Result<Store,
     } else {
         Ok(Store::File(Text::copy(alloc, text)?))
     }
+}
+
+/// Where to listen, by the value of an argument that has one: a host and a port, or `unix:` and the
+/// path of a socket.
+pub fn address(alloc: Global, matches: &ArgMatches<'_>, id: &str) -> Result<Address, JobFault>
+    requires { HasSome id.now (rows_of (found_of matches.now)) }
+    ensures found { IfOk result (HasAddress id.now (rows_of (found_of matches.now))) }
+    ensures only { (a : Listened) → HasAddress id.now (rows_of (found_of matches.now)) a
+        → MatchResult result (λ r. r ≡ a) (λ e. e ≡ NoMemory) }
+    ensures word { IfErr result
+        (λ e. e ≡ BadWord → HasBadAddress id.now (rows_of (found_of matches.now))) }
+    ensures usage { IfErr result (λ e. IsUsage e → ⊥) }
+{
+    read_address(alloc, value(matches, id))
 }
 
 /// The value of an argument that has one, a moment's canonical text.

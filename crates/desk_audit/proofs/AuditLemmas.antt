@@ -27,8 +27,8 @@ use Rattle.outcomes.proofs.NameMaps.{at_entry, names_total}
 use Rattle.outcomes.proofs.Orders.{behind_from_each}
 use Rattle.desk_audit.specs.Audit.{IsAudit}
 use Rattle.desk_audit.specs.Told.{name_in}
-use Rattle.desk_audit.specs.declared.entry.Entry.{Entry}
-use Rattle.desk_audit.specs.declared.gathering.About.{About}
+use Rattle.findings.specs.declared.entry.Entry.{Entry}
+use Rattle.findings.specs.declared.entry.About.{About}
 use Rattle.desk_audit.specs.private.ByName.{Gathers, IsToldAt}
 use Rattle.desk_audit.proofs.ByNameLemmas.{Abouts, IsAt}
 use Rattle.desk_audit.proofs.ListLemmas.{from_mapped, to_mapped}

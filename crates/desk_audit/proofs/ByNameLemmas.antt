@@ -10,7 +10,7 @@ use Rattle.outcomes.specs.private.ByName.{at_name}
 use Rattle.outcomes.proofs.Membership.{no_member}
 use Rattle.outcomes.proofs.NameMaps.{SetsAt, at_none, same_cases}
 use Rattle.desk_audit.specs.Told.{TellsMessages, name_in}
-use Rattle.desk_audit.specs.declared.gathering.About.{About}
+use Rattle.findings.specs.declared.entry.About.{About}
 use Rattle.desk_audit.specs.private.ByName.{Gathers, IsToldAt, NobodySpeaks}
 use Rattle.desk_audit.proofs.ToldLemmas.{told_beside, was_among}
 

@@ -20,7 +20,7 @@ use Rattle.outcomes.specs.private.ByName.{at_name}
 use Rattle.outcomes.proofs.Membership.{no_member}
 use Rattle.outcomes.proofs.Orders.{ordered_front}
 use Rattle.desk_audit.specs.Told.{IsTooLong, TellsMessages}
-use Rattle.desk_audit.specs.declared.gathering.About.{About}
+use Rattle.findings.specs.declared.entry.About.{About}
 use Rattle.desk_audit.specs.private.ByName.{Gathers, IsBehind}
 use Rattle.desk_audit.proofs.ByNameLemmas.{Abouts, IsAt}
 use Rattle.desk_audit.proofs.ListLemmas.{from_mapped, last_behind, to_mapped}

@@ -11,7 +11,7 @@ use Rattle.messages.specs.declared.message.Message.TheVariants.{Request, Verdict
 use Rattle.messages.specs.declared.request_name.RequestName.{RequestName}
 use Rattle.outcomes.proofs.Membership.{no_member}
 use Rattle.desk_audit.specs.Told.{TellsMessages, name_in}
-use Rattle.desk_audit.specs.declared.gathering.About.{About}
+use Rattle.findings.specs.declared.entry.About.{About}
 use Rattle.desk_audit.specs.private.ByName.{IsBehind, NobodySpeaks}
 use Rattle.desk_audit.proofs.ListLemmas.{pushed_in_order}
 

@@ -7,7 +7,7 @@ use Rattle.messages.specs.declared.message.Message.{Message}
 use Rattle.roster.specs.Fields.{RosterFields}
 use Rattle.outcomes.specs.Outcomes.{ComesTo}
 use Rattle.desk_audit.specs.Told.{TellsMessages, name_in}
-use Rattle.desk_audit.specs.declared.entry.Entry.{Entry}
+use Rattle.findings.specs.declared.entry.Entry.{Entry}
 
 -- A name that a message of the set is about, with all its messages, and what they come to.
 pub record TellsName (f : RosterFields Cmnd)

@@ -1,5 +1,4 @@
 -- what is told about a name's messages, and about each name
 pub mod Told
 pub mod Audit
-pub mod Picks
 pub mod private

@@ -9,7 +9,7 @@ use Rattle.messages.specs.declared.message.Message.TheVariants.{Request, Verdict
 use Rattle.messages.specs.declared.request_name.RequestName.{RequestName}
 use Rattle.desk.specs.declared.refusal.Refusal.{Refusal}
 use Rattle.desk.specs.declared.refusal.Refusal.TheVariants.{TooLong}
-use Rattle.desk_audit.specs.declared.gathering.About.{About}
+use Rattle.findings.specs.declared.entry.About.{About}
 
 -- the name that a request asks under, or that a verdict is about
 abbrev pub name_in : Message → RequestName

@@ -11,19 +11,11 @@ ghost use Rattle.desk_audit.specs.Told.{name_in, TellsMessages, IsTooLong};
 ghost use Rattle.desk_audit.specs.private.ByName.{Gathers, IsBehind};
 
 use desk::Refusal;
+use findings::About;
 use messages::{Message, MessageReader, Request, RequestName, Verdict};
 use std::alloc::{AllocError, Global};
 use std::collections::BTreeMap;
 use sudo_words::NoMemory;
-
-/// The messages about one name.
-#[derive(Drop)]
-pub struct About {
-    /// The requests of the name: with two it is disputed, and with none its verdicts wait.
-    pub requests: Vec<Request>,
-    /// The verdicts about it, in the byte order of their texts, so by moment first.
-    pub verdicts: Vec<Verdict>,
-}
 
 /// What is said about each name, in the order of names.
 pub(crate) type ByName = BTreeMap<RequestName, About>;

@@ -8,20 +8,10 @@
 //! second reading of the rules.
 #![tactic(auto)]
 
-mod by_host;
-mod columns;
-mod document;
 mod entry;
 mod gathering;
-mod pick;
-mod reasons;
-mod terminal;
-mod words;
 
-pub use document::json;
-pub use entry::{Entry, audit};
-pub use gathering::About;
-pub use pick::Pick;
-pub use reasons::{Weight, counts};
-pub use terminal::text;
-pub use words::{Question, WordsFault, asked_by};
+pub use entry::audit;
+pub use findings::{
+    About, Effect, Entry, Pick, Question, WordsFault, asked_by, counts, json, text,
+};

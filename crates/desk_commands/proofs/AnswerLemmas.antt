@@ -1,8 +1,10 @@
 -- What a job comes to, and what is written of it.
 use Rattle.std.proofs.Common.{◌≡◌, ◌≢◌, ◌⊎◌, ℕ, List, [], Option, Result, Ok, Err, IfErr, IfOk, inl, inr, string_bytes, subst, sym}
 use Rattle.std.specs.Io.KnownBytes.{Appends}
-use Rattle.desk_commands.specs.Answers.{HasAnswer, HasCause, IsAnswer, IsCause}
+use Rattle.desk_commands.specs.Answers.{HasCause, IsAnswer, IsCause}
 use Rattle.desk_commands.specs.Kept.{Kept}
+use Rattle.desk_commands.specs.Leaving.{BeganAnswer}
+use Rattle.desk_commands.specs.Telling.{AppendsFront}
 use Rattle.desk_commands.specs.declared.answer.Answer.{Answer}
 use Rattle.desk_commands.specs.declared.refusal.Refusal.{Refusal as Reason}
 use Rattle.desk_commands.specs.Wanting.{TellsWant}
@@ -31,7 +33,8 @@ module _ (job : Job) (files : List (List ℕ)) (k : Kept) (input : Option (List 
   -- what is written of this result, where the job is not refused
   pub concluded : (r : Result Answer Reason) (status : Status) → IsOutcome job files k input r err_before err_between
       → IfOk r (λ a. status ≢ Refused → (status ≡ a.status) × Appends out_before out_after (string_bytes a.text) × (err_after ≡ err_between))
-      → IfErr r (λ _. (status ≡ Refused) × (out_after ≡ out_before)) → (Up Clean Still : Type 0) → (Up → Clean → WantsIn job r ⊎ Still)
+      → IfErr r (λ _. (status ≡ Refused) × (out_after ≡ out_before)) → (Up Clean Still : Type 0)
+      → IfOk r (λ _. Up → Clean → WantsIn job r ⊎ Still)
       → status ≢ Refused → (text : List ℕ) × (said : List ℕ) × IsAnswer job files k input status text said
       × Appends out_before out_after text × Appends err_before err_after said × (Up → Clean → TellsWant job text ⊎ Still)
   concluded (Ok a) status outcome written none Up Clean Still up taken =
@@ -48,7 +51,7 @@ module _ (job : Job) (files : List (List ℕ)) (k : Kept) (input : Option (List 
 
   -- what is there of this result, where the job is refused
   pub not_concluded : (r : Result Answer Reason) (status : Status) → IsOutcome job files k input r err_before err_between
-      → IfErr r (λ _. (status ≡ Refused) × (out_after ≡ out_before))
-      → ((out_after ≡ out_before) × HasCause job files k input) ⊎ HasAnswer job files k input
-  not_concluded (Ok a) status outcome none = inr (a.status, string_bytes a.text, outcome.found.0, outcome.found.1)
-  not_concluded (Err e) status outcome none = inl (none.1, (e, outcome.cause))
+      → IfOk r (λ a. AppendsFront out_before out_after (string_bytes a.text)) → IfErr r (λ _. (status ≡ Refused) × (out_after ≡ out_before))
+      → ((out_after ≡ out_before) × HasCause job files k input) ⊎ BeganAnswer job files k input out_before out_after
+  not_concluded (Ok a) status outcome front none = inr (a.status, string_bytes a.text, outcome.found.0, outcome.found.1, front)
+  not_concluded (Err e) status outcome front none = inl (none.1, (e, outcome.cause))

@@ -12,3 +12,4 @@ pub mod CaseLines
 pub mod TellingLemmas
 pub mod LeavingLemmas
 pub mod WantLemmas
+pub mod LivingLemmas

@@ -128,6 +128,12 @@ abbrev pub HasWantingAnswer : Job → (files : List (List ℕ))
 HasWantingAnswer job files k input = (status : Status) × (text said : List ℕ)
     × IsAnswer job files k input status text said × TellsWant job text
 
+-- The job has an answer, and a beginning of its text was written, which may be all of it.
+abbrev pub BeganAnswer : Job → (files : List (List ℕ))
+    → Kept → (input before after : Option (List ℕ)) → Type 0
+BeganAnswer job files k input before after = (status : Status) × (text said : List ℕ)
+    × IsAnswer job files k input status text said × AppendsFront before after text
+
 -- After what a refused job says first comes the line of its refusal, or a beginning of it. The
 -- refusal is the job's cause; or the job has an answer, and it is `F1 FileFailed`. Where the keeper
 -- was up and its storage is honest, it is up, unless the refusal is one of want, or the answer

@@ -11,7 +11,7 @@ ghost use Rattle.desk_commands.specs.Delivering.{answer_lines, status_after};
 ghost use Rattle.desk_commands.specs.Kept.{kept_by};
 ghost use Rattle.desk_commands.specs.Leaving.{LeavesDelivered};
 ghost use Rattle.desk_commands.specs.declared.refusal.Refusal.TheVariants as reasons;
-ghost use Rattle.desk_commands.specs.private.Outcomes.{IsLeft, IsOutcome, ShowsWantIn};
+ghost use Rattle.desk_commands.specs.private.Outcomes.{IsLeft, IsOutcome, LivesAfter, ShowsWantIn};
 ghost use Rattle.desk_args.specs.declared.task.Job.TheVariants as jobs;
 ghost use Rattle.desk_args.specs.declared.task.Places.{Places as Parts};
 
@@ -112,6 +112,7 @@ fn deliver_over<K: Keeper, R: Read>(
         (λ _. IsLeft (jobs.Deliver places relay.now) (roster.now ∷ base.now ∷ more) (kept_by
         K.Keeper keeper result.1) (K.is_same keeper result.1) (R.remaining input.old) err err) }
     ensures served { Serves K.Keeper keeper result.1 ⊥ (ShowsWantIn result.0) }
+    ensures live { LivesAfter K.Keeper result.1 (ShowsWantIn result.0) result.0 }
 {
     match open_over(alloc, roster, base, keeper) {
         Ok(mut desk) => {
@@ -137,6 +138,7 @@ pub fn deliver_lines<K: Keeper, R: Read>(
         (λ _. IsLeft (jobs.Deliver places relay.now) (map (λ f. f.items) files.now) (kept_by
         K.Keeper keeper result.1) (K.is_same keeper result.1) (R.remaining input.old) err err) }
     ensures served { Serves K.Keeper keeper result.1 ⊥ (ShowsWantIn result.0) }
+    ensures live { LivesAfter K.Keeper result.1 (ShowsWantIn result.0) result.0 }
 {
     match files {
         [roster, base, ..] => deliver_over(

@@ -62,6 +62,7 @@ pub fn open_over<K: Keeper>(
     ensures unchanged { IfErr result (λ r. K.is_up r.1 → K.is_same keeper r.1) }
     ensures served { MatchResult result (λ d. Serves K.Keeper keeper d.keeper ⊥ ⊥)
         (λ r. Serves K.Keeper keeper r.1 ⊥ (IsWanting r.0)) }
+    ensures live { IfOk result (λ d. K.is_clean d.keeper → K.is_up d.keeper) }
 {
     match parts(alloc, roster, base) {
         Ok((roster, base)) => match Desk::open(alloc, roster, base, keeper) {
@@ -92,6 +93,7 @@ pub fn rebuild_over<K: Keeper>(
     ensures unchanged { IfErr result (λ r. K.is_up r.1 → K.is_same keeper r.1) }
     ensures served { MatchResult result (λ d. Serves K.Keeper keeper d.keeper ⊥ ⊥)
         (λ r. Serves K.Keeper keeper r.1 ⊥ (IsWanting r.0)) }
+    ensures live { IfOk result (λ d. K.is_clean d.keeper → K.is_up d.keeper) }
 {
     match parts(alloc, roster, base) {
         Ok((roster, base)) => match Desk::rebuild(alloc, roster, base, keeper) {

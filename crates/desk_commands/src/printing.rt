@@ -16,7 +16,7 @@ ghost use Rattle.desk_commands.specs.Kept.{kept_by};
 ghost use Rattle.desk_commands.specs.Leaving.{LeavesTaken, SaysTaking};
 ghost use Rattle.desk_commands.specs.Printing.{HasRights, IsPrinted, PrintsHost, lines_printed};
 ghost use Rattle.desk_commands.specs.Wanting.{IsWanting};
-ghost use Rattle.desk_commands.specs.private.Outcomes.{EndsFile, IsLeft, IsOutcome};
+ghost use Rattle.desk_commands.specs.private.Outcomes.{EndsFile, IsLeft, IsOutcome, LivesAfter};
 ghost use Rattle.desk_args.specs.declared.task.Job.TheVariants as jobs;
 ghost use Rattle.desk_args.specs.declared.task.Store.TheVariants as stores;
 
@@ -118,6 +118,7 @@ fn print_over<K: Keeper, R: Read, E: Write>(
         (R.remaining input.old) (E.contents err.old) (E.contents err.new)) }
     ensures unread { (places.now.store ≡ stores.Memory → ⊥) → input.new ≡ input.old }
     ensures served { Serves K.Keeper keeper result.1 ⊥ (IsErrAnd result.0 IsWanting) }
+    ensures live { LivesAfter K.Keeper result.1 (IsErrAnd result.0 IsWanting) result.0 }
 {
     match open_over(alloc, roster, base, keeper) {
         Ok(mut desk) => {
@@ -151,6 +152,7 @@ pub fn print_host<K: Keeper, R: Read, E: Write>(
         result.1) (R.remaining input.old) (E.contents err.old) (E.contents err.new)) }
     ensures unread { (places.now.store ≡ stores.Memory → ⊥) → input.new ≡ input.old }
     ensures served { Serves K.Keeper keeper result.1 ⊥ (IsErrAnd result.0 IsWanting) }
+    ensures live { LivesAfter K.Keeper result.1 (IsErrAnd result.0 IsWanting) result.0 }
 {
     match files {
         [roster, base, ..] => print_over(

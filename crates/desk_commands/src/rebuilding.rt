@@ -5,7 +5,7 @@ ghost use Rattle.std.specs.Prelude.{map, string_bytes, IfErr, IsErrAnd};
 ghost use Rattle.desk_store.specs.Serves.{Serves};
 ghost use Rattle.desk_commands.specs.Kept.{kept_by};
 ghost use Rattle.desk_commands.specs.Wanting.{IsWanting};
-ghost use Rattle.desk_commands.specs.private.Outcomes.{IsLeft, IsOutcome};
+ghost use Rattle.desk_commands.specs.private.Outcomes.{IsLeft, IsOutcome, LivesAfter};
 ghost use Rattle.desk_args.specs.declared.status.Status.TheVariants.{Done};
 ghost use Rattle.desk_args.specs.declared.task.Job.TheVariants as jobs;
 ghost use Rattle.desk_args.specs.declared.task.Places.{Places as Parts};
@@ -42,6 +42,7 @@ fn rebuilt<K: Keeper>(
         → IfErr result.0 (λ _. IsLeft (jobs.Rebuild places) (roster.now ∷ base.now ∷ more)
         (kept_by K.Keeper keeper result.1) (K.is_same keeper result.1) input err err) }
     ensures served { Serves K.Keeper keeper result.1 ⊥ (IsErrAnd result.0 IsWanting) }
+    ensures live { LivesAfter K.Keeper result.1 (IsErrAnd result.0 IsWanting) result.0 }
 {
     let Ok(answer) = ok(alloc) else {
         return (Err(Refusal::NoMemory), keeper);
@@ -65,6 +66,7 @@ pub fn rebuild_desk<K: Keeper>(
         → IfErr result.0 (λ _. IsLeft (jobs.Rebuild places) (map (λ f. f.items) files.now)
         (kept_by K.Keeper keeper result.1) (K.is_same keeper result.1) input err err) }
     ensures served { Serves K.Keeper keeper result.1 ⊥ (IsErrAnd result.0 IsWanting) }
+    ensures live { LivesAfter K.Keeper result.1 (IsErrAnd result.0 IsWanting) result.0 }
 {
     match files {
         [roster, base, ..] => rebuilt(alloc, roster.as_slice(), base.as_slice(), keeper),

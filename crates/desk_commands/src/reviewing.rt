@@ -8,7 +8,7 @@ ghost use Rattle.desk_commands.specs.Kept.{kept_by};
 ghost use Rattle.desk_commands.specs.Leaving.{LeavesTaken, SaysTaking};
 ghost use Rattle.desk_commands.specs.Reviewing.{ReviewsDesk};
 ghost use Rattle.desk_commands.specs.Wanting.{IsWanting};
-ghost use Rattle.desk_commands.specs.private.Outcomes.{EndsReport, IsLeft, IsOutcome};
+ghost use Rattle.desk_commands.specs.private.Outcomes.{EndsReport, IsLeft, IsOutcome, LivesAfter};
 ghost use Rattle.desk_args.specs.declared.task.Job.TheVariants as jobs;
 ghost use Rattle.desk_args.specs.declared.task.Store.TheVariants as stores;
 
@@ -78,6 +78,7 @@ fn review_over<K: Keeper, R: Read, E: Write>(
         result.1) (R.remaining input.old) (E.contents err.old) (E.contents err.new)) }
     ensures unread { (places.now.store ≡ stores.Memory → ⊥) → input.new ≡ input.old }
     ensures served { Serves K.Keeper keeper result.1 ⊥ (IsErrAnd result.0 IsWanting) }
+    ensures live { LivesAfter K.Keeper result.1 (IsErrAnd result.0 IsWanting) result.0 }
 {
     match open_over(alloc, roster, base, keeper) {
         Ok(mut desk) => {
@@ -110,6 +111,7 @@ pub fn review_desk<K: Keeper, R: Read, E: Write>(
         result.1) (R.remaining input.old) (E.contents err.old) (E.contents err.new)) }
     ensures unread { (places.now.store ≡ stores.Memory → ⊥) → input.new ≡ input.old }
     ensures served { Serves K.Keeper keeper result.1 ⊥ (IsErrAnd result.0 IsWanting) }
+    ensures live { LivesAfter K.Keeper result.1 (IsErrAnd result.0 IsWanting) result.0 }
 {
     match files {
         [roster, base, ..] => review_over(

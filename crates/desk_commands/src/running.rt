@@ -13,11 +13,11 @@ ghost use Rattle.desk_commands.specs.Answers.{HasCause, IsAnswer, IsDecided, IsO
 ghost use Rattle.desk_commands.specs.Answers.{OfFile, OfFiles, ReadsInput, status_of};
 ghost use Rattle.desk_commands.specs.Comparing.{ComparesFiles, EndsComparing};
 ghost use Rattle.desk_commands.specs.Kept.{kept_by};
-ghost use Rattle.desk_commands.specs.Leaving.{KeepsAfterRefusal, TellsRefusal};
+ghost use Rattle.desk_commands.specs.Leaving.{BeganAnswer, KeepsAfterRefusal, TellsRefusal};
 ghost use Rattle.desk_commands.specs.Telling.{AppendsFront, refusal_line};
 ghost use Rattle.desk_commands.specs.Wanting.{TellsWant};
 ghost use Rattle.desk_commands.specs.declared.refusal.Refusal.TheVariants.{FileFailed};
-ghost use Rattle.desk_commands.specs.private.Outcomes.{IsLeft, IsOutcome, WantsIn};
+ghost use Rattle.desk_commands.specs.private.Outcomes.{IsLeft, IsOutcome, LivesAfter, WantsIn};
 
 use crate::answer::Answer;
 use crate::comparing::compare_files;
@@ -26,7 +26,7 @@ use crate::printing::print_host;
 use crate::rebuilding::rebuild_desk;
 use crate::refusal::Refusal;
 use crate::reviewing::review_desk;
-use crate::telling::refuse;
+use crate::telling::{refuse, write_front};
 use desk::Keeper;
 use desk_args::{Job, Status};
 use review::Scope;
@@ -152,6 +152,8 @@ fn answered<K: Keeper, R: Read, E: Write>(
     ensures unasked { (IsOnDesk job.now → ⊥) → result.1 ≡ keeper }
     ensures unread { (ReadsInput job.now → ⊥) → input.new ≡ input.old }
     ensures served { Serves K.Keeper keeper result.1 ⊥ (WantsIn job.now result.0) }
+    ensures live { IsOnDesk job.now
+        → LivesAfter K.Keeper result.1 (WantsIn job.now result.0) result.0 }
 {
     match job {
         Job::Check { .. } => (check_first(alloc, files), keeper),
@@ -173,11 +175,13 @@ fn write_answer<W: Write, E: Write>(answer: &Answer, out: &mut W, err: &mut E) -
     ensures status { result ≢ Status.Refused → result ≡ answer.now.status }
     ensures written { result ≢ Status.Refused
         → Appends (W.contents out.old) (W.contents out.new) (string_bytes answer.now.text) }
+    ensures front { AppendsFront (W.contents out.old)
+        (W.contents out.new) (string_bytes answer.now.text) }
     ensures quiet { result ≢ Status.Refused → E.contents err.new ≡ E.contents err.old }
     ensures told { AppendsFront (E.contents err.old)
         (E.contents err.new) (refusal_line FileFailed) }
 {
-    if out.write_all(answer.text.as_bytes()).is_err() {
+    if write_front(answer.text.as_bytes(), out).is_err() {
         return refuse(Refusal::FileFailed, err).0;
     }
     answer.status
@@ -188,6 +192,8 @@ fn conclude<W: Write, E: Write>(answer: Result<Answer, Refusal>, out: &mut W, er
     ensures answered { IfOk answer (λ a. result ≢ Status.Refused → (result ≡ a.status)
         × Appends (W.contents out.old) (W.contents out.new) (string_bytes a.text)
         × (E.contents err.new ≡ E.contents err.old)) }
+    ensures front { IfOk answer
+        (λ a. AppendsFront (W.contents out.old) (W.contents out.new) (string_bytes a.text)) }
     ensures unanswered { IfErr answer
         (λ _. (result ≡ Status.Refused) × (W.contents out.new ≡ W.contents out.old)) }
     ensures told { MatchResult answer
@@ -221,13 +227,15 @@ pub fn run<K: Keeper, R: Read, W: Write, E: Write>(
         × IsAnswer job.now (map (λ f. f.items) files.old) (kept_by K.Keeper keeper result.1)
         (R.remaining input.old) result.0 text said × Appends (W.contents out.old)
         (W.contents out.new) text × Appends (E.contents err.old) (E.contents err.new) said
-        × (K.is_up keeper → K.is_clean result.1 → TellsWant job.now text ⊎ K.is_up result.1) }
+        × ((IsOnDesk job.now ⊎ K.is_up keeper) → K.is_clean result.1
+        → TellsWant job.now text ⊎ K.is_up result.1) }
     // A job that is refused leaves `out` as it was, and there is a reason for it; or it has an
-    // answer, which could not be written.
+    // answer, and no more than a beginning of that was written.
     ensures refused { result.0 ≡ Status.Refused → ((W.contents out.new ≡ W.contents out.old)
         × HasCause job.now (map (λ f. f.items) files.old) (kept_by K.Keeper keeper result.1)
-        (R.remaining input.old)) ⊎ HasAnswer job.now (map (λ f. f.items) files.old)
-        (kept_by K.Keeper keeper result.1) (R.remaining input.old) }
+        (R.remaining input.old)) ⊎ BeganAnswer job.now (map (λ f. f.items) files.old)
+        (kept_by K.Keeper keeper result.1) (R.remaining input.old)
+        (W.contents out.old) (W.contents out.new) }
     // What a refused job leaves at the keeper, and what it says on `err`.
     ensures kept { result.0 ≡ Status.Refused → K.is_up result.1
         → KeepsAfterRefusal job.now (map (λ f. f.items) files.old) (kept_by K.Keeper keeper

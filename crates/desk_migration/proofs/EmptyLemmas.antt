@@ -97,6 +97,7 @@ bare p db rows shows none =
 
 pub cleared : (p : Part) (a b c : State) (rows : List Row) → Deleted p a b → Left p rows b c → (length rows == 0) ≡ true → Cleared p a c
 cleared p a b c rows gone left none = record {
+  was_open = gone.inside.was_open;
   mode = left.mode;
   clears = λ it alone.
       let done = gone.deletes it alone in
@@ -138,6 +139,7 @@ may_still a b same may = subst IsMigratable (sym same) may
 
 pub emptied : (a b c d e : State) → Cleared Names a b → Cleared Parked b c → Cleared Marks c d → Cleared Desk d e → Emptied a e
 emptied a b c d e one two three four = record {
+  was_open = one.was_open;
   mode = four.mode;
   empties = λ old may.
       let first = one_more Names a.now a.now b.now old.common.names (one.clears old.common.names may.names) [] tt (none_done a.now) in

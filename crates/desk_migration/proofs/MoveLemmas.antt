@@ -77,6 +77,7 @@ module _ (roster : List ℕ) (utf8 : IsUtf8 roster) (ms : List Message) (a b c d
 pub moved : (roster : List ℕ) (ms : List Message) (a b c d : State) → IsUtf8 roster
     → Prepared a b → Marked IsBare (Says roster) b c → Refilled ms c d → Moved roster ms a d
 moved roster ms a b c d utf8 one two three = record {
+  was_open = one.was_open;
   mode = three.mode;
   migrates = λ was may lists.
       let p = one.prepares was.tables may in

@@ -173,6 +173,7 @@ module _ (a b c : Database) (was : IsOld a.schema) (may_a : IsMigratable a.schem
 
 pub prepared : (a b c : State) → Emptied a b → AddsPart part.Verdicts b c → Prepared a c
 prepared a b c empties adds = record {
+  was_open = empties.was_open;
   mode = adds.inside.mode;
   prepares = λ was may.
       let e = empties.empties was may in

@@ -51,7 +51,7 @@ pub fn migrate<S: Alter>(
     ensures was_up { IsUp (state S.Store conn.new) → IsUp (state S.Store conn.old) }
     ensures was_clean { HasCleanDisk (state S.Store conn.new)
         → HasCleanDisk (state S.Store conn.old) }
-    ensures up { IsUp (state S.Store conn.old) → HasCleanDisk (state S.Store conn.new)
+    ensures up { HasCleanDisk (state S.Store conn.new)
         → OnOk result (IsUp (state S.Store conn.new)) }
     ensures kept { IsUp (state S.Store conn.new)
         → OnOk result (IsKept (state S.Store conn.new).now) }
@@ -66,8 +66,9 @@ pub fn migrate<S: Alter>(
         → result ≡ Err fault.Stray }
     ensures unchanged { IsUp (state S.Store conn.new)
         → OnErr result ((state S.Store conn.new).now ≡ (state S.Store conn.old).now) }
-    ensures survives { IsUp (state S.Store conn.old) → Survives (state S.Store conn.old)
-        (state S.Store conn.new) (MigratesAt roster.now (state S.Store conn.old).now) }
+    // A connection that is not up commits nothing.
+    ensures survives { Survives (state S.Store conn.old) (state S.Store conn.new) (λ trees.
+        IsUp (state S.Store conn.old) × MigratesAt roster.now (state S.Store conn.old).now trees) }
 {
     if !can_migrate(conn) {
         return Err(Fault::Stray);

@@ -1,6 +1,7 @@
 -- the statements that read
 pub mod Rowids
 pub mod PartQueries
+pub mod NoneReturned
 pub mod ReadLemmas
 pub mod ThreeReads
 -- the tests

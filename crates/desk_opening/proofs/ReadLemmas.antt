@@ -17,7 +17,7 @@ use Rattle.sqlite.specs.Listing.{understood}
 use Rattle.sqlite.specs.Clock.{timed}
 use Rattle.sqlite.specs.declared.error.Error.{Error}
 use Rattle.sqlite.specs.State.{State, CommitsShowing, HasCleanDisk, Survives, IsUnchanged, IsRolledBack, Shown, ShowsRows, FailsToQuery, FailsToShow, IsNotRun}
-use Rattle.sqlite.proofs.Callers.{IsPlain, never_commits, reads_as}
+use Rattle.sqlite.proofs.Callers.{IsPlain, reads_as}
 use Rattle.sqlite.proofs.StateLemmas.{survives_then}
 use Rattle.sqlite.specs.Effect.{Database}
 use Rattle.desk_tables.specs.SqliteStates.{IsUp, IsAtRest, Rests}
@@ -28,6 +28,7 @@ use Rattle.desk_schema.specs.Shapes.{FindsPart}
 use Rattle.desk_schema.proofs.ShapeLemmas.{tree_in}
 use Rattle.desk_opening.specs.private.Selecting.{ShowsPart, select_of, shown_of}
 use Rattle.desk_opening.proofs.PartQueries.{means_of, project_of, showing}
+use Rattle.desk_opening.proofs.NoneReturned.{part_commits_none}
 use Rattle.desk_opening.specs.Opened.{Reads}
 
 -- ---- the connection
@@ -118,22 +119,21 @@ survives_as old new P Q each s = record {
   crash = λ clean db left. elim (s.crash clean db left) as (λ _. old.may_leave db ⊎ Q db) [ inl before ↦ inl before | inr new ↦ inr (each db new) ];
 }
 
--- a query commits nothing
-survives_read : (sql : List ℕ) (old new : State) → IsPlain (understood old.now.schema sql)
-    → Survives old new (CommitsShowing sql [] old) → Survives old new (λ _. ⊥)
-survives_read sql old new plain s = survives_as old new (CommitsShowing sql [] old) (λ _. ⊥) (λ db. never_commits sql [] old db plain) s
+-- the statement of a part commits nothing, whatever the schema is
+survives_read : (p : Part) (old new : State) → Survives old new (CommitsShowing (select_of p) [] old) → Survives old new (λ _. ⊥)
+survives_read p old new s = survives_as old new (CommitsShowing (select_of p) [] old) (λ _. ⊥) (part_commits_none p old) s
 
 survives_both : (a b c : State) → Survives a b (λ _. ⊥) → Survives b c (λ _. ⊥) → Survives a c (λ _. ⊥)
 survives_both a b c one two = survives_then a b c _ _ (λ _. ⊥) (λ _ db none. none) (λ _ db none. none) one two
 
 -- two calls that read, one after the other
-pub then_reads : {a b c : State} → Reads a b → (IsUp a → HasCleanDisk b → IsUp b) → Reads b c → Reads a c
-then_reads one up two = record {
+pub then_reads : {a b c : State} → Reads a b → Reads b c → Reads a c
+then_reads one two = record {
   rests = two.rests;
   was_up = λ h. one.was_up (two.was_up h);
   was_clean = λ h. one.was_clean (two.was_clean h);
   same = λ h. two.same h ∙ one.same (two.was_up h);
-  survives = λ h clean. let mid = two.was_clean clean in survives_both _ _ _ (one.survives h mid) (two.survives (up h mid) clean);
+  survives = survives_both _ _ _ one.survives two.survives;
 }
 
 -- what held before a call that reads holds after it
@@ -227,7 +227,7 @@ module _ (sql : List ℕ) (p : Part) (is : sql ≡ select_of p) (old new : State
       was_up = λ up. (stay up).was_up;
       was_clean = λ clean. let lived = lives.clean in omega (arith, lived, clean);
       same = λ up. (stay up).now;
-      survives = λ up clean. survives_read sql old new (plain up) lives;
+      survives = survives_read p old new (subst (λ t. Survives old new (CommitsShowing t [] old)) is lives);
     }
 
     pub shows_part : IsUp new → IfOk r (λ rows. ShowsPart p old.now rows.items)

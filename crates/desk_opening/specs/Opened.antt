@@ -1,5 +1,5 @@
 -- What a database is found to keep as it is opened, and what a call that reads leaves as it is.
-use Rattle.std.specs.Prelude.{◌≡◌, ◌&&◌, cond, false, true, Bool, ℕ, pos, List, []}
+use Rattle.std.specs.Prelude.{◌≡◌, ◌&&◌, ⊤, cond, false, true, Bool, ℕ, pos, List, []}
 use Rattle.std.specs.Prelude.{◌∷◌, Option, Some, None, codes, string_bytes, IsUtf8}
 use Rattle.std.specs.List.{list_any}
 use Rattle.std.specs.Ordering.{int_eq}
@@ -78,6 +78,13 @@ FoundIn db (Old c) =
     × Lists (HoldsText db) c.messages.items
 FoundIn db NotADesk = (¬ IsVacant db.schema) × (¬ IsDeskBesideRows db) × (¬ IsOldDesk db)
 
+-- a desk, of today's form or of an older one
+abbrev pub IsSomeDesk : Found → Type 0
+IsSomeDesk Empty = ⊥
+IsSomeDesk (Desk c) = ⊤
+IsSomeDesk (Old c) = ⊤
+IsSomeDesk NotADesk = ⊥
+
 -- A desk's tables and texts are there, but the rows that should follow from these, or the foreign
 -- keys, are not those of a desk.
 abbrev pub IsDamaged : Database → Type 0
@@ -91,4 +98,4 @@ pub record Reads (old new : State) : Type 0 where
   pub was_up : IsUp new → IsUp old
   pub was_clean : HasCleanDisk new → HasCleanDisk old
   pub same : IsUp new → new.now ≡ old.now
-  pub survives : IsUp old → HasCleanDisk new → Survives old new (λ _. ⊥)
+  pub survives : Survives old new (λ _. ⊥)

@@ -10,7 +10,7 @@ ghost use Rattle.desk_tables.specs.declared.fault.Fault.TheVariants as fault;
 ghost use Rattle.desk_schema.specs.declared.part.Part.TheVariants as part;
 ghost use Rattle.desk_schema.specs.Shapes.{FindsPart, HasCommon, IsOld, IsShape, IsUnmarked};
 ghost use Rattle.desk_schema.specs.References.{AreUnreferred};
-ghost use Rattle.desk_opening.specs.Opened.{FoundIn, IsDamaged, Reads};
+ghost use Rattle.desk_opening.specs.Opened.{FoundIn, IsDamaged, IsSomeDesk, Reads};
 ghost use Rattle.desk_opening.specs.private.Judged.{ShowsContents};
 ghost use Rattle.desk_opening.specs.private.Selecting.{ShowsTexts};
 
@@ -50,7 +50,7 @@ fn contents_in<S: Alter>(
     requires common { IsUp (state S.Store conn.old)
         → HasCommon (state S.Store conn.old).now.schema }
     ensures reads { Reads (state S.Store conn.old) (state S.Store conn.new) }
-    ensures up { IsUp (state S.Store conn.old) → HasCleanDisk (state S.Store conn.new)
+    ensures up { HasCleanDisk (state S.Store conn.new)
         → OnOk result (IsUp (state S.Store conn.new)) }
     ensures found { IsUp (state S.Store conn.new)
         → IfOk result (λ found. (desk messages : List AnyRow) × ShowsTexts
@@ -91,7 +91,7 @@ fn look_within<S: Alter>(alloc: Global, conn: &mut Connection<S>) -> Result<Foun
         → FindsPart (state S.Store conn.old).now.schema part.Verdicts }
     requires unmarked { IsUp (state S.Store conn.old) → IsUnmarked (state S.Store conn.old).now }
     ensures reads { Reads (state S.Store conn.old) (state S.Store conn.new) }
-    ensures up { IsUp (state S.Store conn.old) → HasCleanDisk (state S.Store conn.new)
+    ensures up { HasCleanDisk (state S.Store conn.new)
         → OnOk result (IsUp (state S.Store conn.new)) }
     ensures found { IsUp (state S.Store conn.new)
         → IfOk result (FoundIn (state S.Store conn.old).now) }
@@ -116,7 +116,7 @@ fn has_marks<S: Alter>(conn: &mut Connection<S>) -> Result<bool, Error>
     requires found { IsUp (state S.Store conn.old)
         → FindsPart (state S.Store conn.old).now.schema part.Marks }
     ensures reads { Reads (state S.Store conn.old) (state S.Store conn.new) }
-    ensures up { IsUp (state S.Store conn.old) → HasCleanDisk (state S.Store conn.new)
+    ensures up { HasCleanDisk (state S.Store conn.new)
         → OnOk result (IsUp (state S.Store conn.new)) }
     ensures none { IsUp (state S.Store conn.new)
         → IfOk result (λ some. some ≡ false → IsUnmarked (state S.Store conn.old).now) }
@@ -137,7 +137,7 @@ fn look_migrated<S: Alter>(alloc: Global, conn: &mut Connection<S>) -> Result<Fo
     requires marks { IsUp (state S.Store conn.old)
         → FindsPart (state S.Store conn.old).now.schema part.Marks }
     ensures reads { Reads (state S.Store conn.old) (state S.Store conn.new) }
-    ensures up { IsUp (state S.Store conn.old) → HasCleanDisk (state S.Store conn.new)
+    ensures up { HasCleanDisk (state S.Store conn.new)
         → OnOk result (IsUp (state S.Store conn.new)) }
     ensures found { IsUp (state S.Store conn.new)
         → IfOk result (FoundIn (state S.Store conn.old).now) }
@@ -155,7 +155,7 @@ fn look_old<S: Alter>(alloc: Global, conn: &mut Connection<S>) -> Result<Found, 
     requires rests { Rests (state S.Store conn.old) }
     requires old { IsUp (state S.Store conn.old) → IsOld (state S.Store conn.old).now.schema }
     ensures reads { Reads (state S.Store conn.old) (state S.Store conn.new) }
-    ensures up { IsUp (state S.Store conn.old) → HasCleanDisk (state S.Store conn.new)
+    ensures up { HasCleanDisk (state S.Store conn.new)
         → OnOk result (IsUp (state S.Store conn.new)) }
     ensures found { IsUp (state S.Store conn.new)
         → IfOk result (FoundIn (state S.Store conn.old).now) }
@@ -176,6 +176,10 @@ pub fn look<S: Alter>(alloc: Global, conn: &mut Connection<S>) -> Result<Found, 
     ensures reads { Reads (state S.Store conn.old) (state S.Store conn.new) }
     ensures up { IsUp (state S.Store conn.old) → HasCleanDisk (state S.Store conn.new)
         → OnOk result (IsUp (state S.Store conn.new)) }
+    // Where no table of a desk's is seen, no statement is run: so only the answer that there is a
+    // desk says that the connection is up.
+    ensures live { HasCleanDisk (state S.Store conn.new)
+        → IfOk result (λ found. IsSomeDesk found → IsUp (state S.Store conn.new)) }
     ensures found { IsUp (state S.Store conn.new)
         → IfOk result (FoundIn (state S.Store conn.old).now) }
     ensures damaged { IsUp (state S.Store conn.new)

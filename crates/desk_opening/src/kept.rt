@@ -51,7 +51,7 @@ fn keeps_part<S: Alter>(
         → FindsPart (state S.Store conn.old).now.schema part }
     requires index { IsIndex known.now.all.now known.now.names.items known.now.disputed.items }
     ensures reads { Reads (state S.Store conn.old) (state S.Store conn.new) }
-    ensures up { IsUp (state S.Store conn.old) → HasCleanDisk (state S.Store conn.new)
+    ensures up { HasCleanDisk (state S.Store conn.new)
         → OnOk result (IsUp (state S.Store conn.new)) }
     ensures kept { IsUp (state S.Store conn.new)
         → IfOk result (λ kept. (rows : List AnyRow) × ShowsPart part
@@ -81,7 +81,7 @@ pub(crate) fn keeps_rows<S: Alter>(
     requires verdicts { IsUp (state S.Store conn.old)
         → FindsPart (state S.Store conn.old).now.schema part.Verdicts }
     ensures reads { Reads (state S.Store conn.old) (state S.Store conn.new) }
-    ensures up { IsUp (state S.Store conn.old) → HasCleanDisk (state S.Store conn.new)
+    ensures up { HasCleanDisk (state S.Store conn.new)
         → OnOk result (IsUp (state S.Store conn.new)) }
     ensures kept { IsUp (state S.Store conn.new) → IfOk result
         (λ kept. (names verdicts parked : List AnyRow) × ShowsRows (state S.Store conn.old).now

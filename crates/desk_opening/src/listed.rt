@@ -55,7 +55,7 @@ pub fn messages_of<S: Alter>(alloc: Global, conn: &mut Connection<S>) -> Result<
     requires found { IsUp (state S.Store conn.old)
         → FindsPart (state S.Store conn.old).now.schema part.Messages }
     ensures reads { Reads (state S.Store conn.old) (state S.Store conn.new) }
-    ensures up { IsUp (state S.Store conn.old) → HasCleanDisk (state S.Store conn.new)
+    ensures up { HasCleanDisk (state S.Store conn.new)
         → OnOk result (IsUp (state S.Store conn.new)) }
     ensures whole { IsUp (state S.Store conn.new)
         → HasTexts (state S.Store conn.old).now → result ≢ Err fault.Stray }

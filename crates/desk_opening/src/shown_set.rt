@@ -143,7 +143,7 @@ pub fn shown_of<S: Alter>(alloc: Global, conn: &mut Connection<S>) -> Result<Sho
     requires verdicts { IsUp (state S.Store conn.old)
         → FindsPart (state S.Store conn.old).now.schema part.Verdicts }
     ensures reads { Reads (state S.Store conn.old) (state S.Store conn.new) }
-    ensures up { IsUp (state S.Store conn.old) → HasCleanDisk (state S.Store conn.new)
+    ensures up { HasCleanDisk (state S.Store conn.new)
         → OnOk result (IsUp (state S.Store conn.new)) }
     // If the database keeps a desk, no row is stray, and the names and verdicts that are shown are
     // those of the messages that it holds.

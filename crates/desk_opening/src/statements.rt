@@ -31,7 +31,7 @@ pub(crate) fn rows_of<S: Alter>(conn: &mut Connection<S>, part: Part) -> Result<
     requires found { IsUp (state S.Store conn.old)
         → FindsPart (state S.Store conn.old).now.schema part }
     ensures reads { Reads (state S.Store conn.old) (state S.Store conn.new) }
-    ensures up { IsUp (state S.Store conn.old) → HasCleanDisk (state S.Store conn.new)
+    ensures up { HasCleanDisk (state S.Store conn.new)
         → OnOk result (IsUp (state S.Store conn.new)) }
     ensures shows { IsUp (state S.Store conn.new)
         → IfOk result (λ rows. ShowsPart part (state S.Store conn.old).now rows.items) }

@@ -33,7 +33,7 @@ pub(crate) fn texts_of<S: Alter>(conn: &mut Connection<S>) -> Result<Texts, Erro
     requires rests { Rests (state S.Store conn.old) }
     requires found { IsUp (state S.Store conn.old) → HasCommon (state S.Store conn.old).now.schema }
     ensures reads { Reads (state S.Store conn.old) (state S.Store conn.new) }
-    ensures up { IsUp (state S.Store conn.old) → HasCleanDisk (state S.Store conn.new)
+    ensures up { HasCleanDisk (state S.Store conn.new)
         → OnOk result (IsUp (state S.Store conn.new)) }
     ensures shows { IsUp (state S.Store conn.new)
         → IfOk result (λ t. ShowsTexts (state S.Store conn.old).now t.desk.items t.messages.items) }
@@ -51,7 +51,7 @@ pub(crate) fn rows_beside<S: Alter>(conn: &mut Connection<S>) -> Result<Rows, Er
     requires verdicts { IsUp (state S.Store conn.old)
         → FindsPart (state S.Store conn.old).now.schema part.Verdicts }
     ensures reads { Reads (state S.Store conn.old) (state S.Store conn.new) }
-    ensures up { IsUp (state S.Store conn.old) → HasCleanDisk (state S.Store conn.new)
+    ensures up { HasCleanDisk (state S.Store conn.new)
         → OnOk result (IsUp (state S.Store conn.new)) }
     ensures shows { IsUp (state S.Store conn.new) → IfOk result (λ t.
         ShowsRows (state S.Store conn.old).now t.names.items t.verdicts.items t.parked.items) }

@@ -1,13 +1,14 @@
-//! One connection: what has come of its request, what has gone out of its reply, and by when it has
-//! to go on. Nothing here waits for the peer.
+//! One connection: its socket, how far its exchange has come, and by when it has to go on. Nothing
+//! here waits for the peer.
 
-use crate::outgoing::{Outgoing, Wanting};
+use crate::log::Answered;
+use crate::socket::Stream;
 use desk::{Desk, Keeper};
-use mio::net::TcpStream;
-use relay_http::{Counted, More, Routes, ServeFault, Workspace, serve_in, wanted_so_far};
+use mio::{Registry, Token};
+use relay_http::{Ask, Counted, Exchange, Outgoing, Page, ReadFault, Routes, ServeFault};
 use std::alloc::Global;
-use std::io::{ErrorKind, Read, Write};
-use std::net::Shutdown;
+use std::io::{self, ErrorKind, Read};
+use std::mem;
 
 /// The milliseconds in which a request has to come whole.
 const TO_ASK: u64 = 10_000;
@@ -21,17 +22,21 @@ const TO_CLOSE: u64 = 1_000;
 /// The most reads of what it sends then.
 const MOST_READS: usize = 64;
 
-/// The most bytes of a head.
-const MOST_HEAD_BYTES: usize = 8192;
+/// The most bytes of one of these reads.
+const MOST_LAST: usize = 1_024;
 
-/// The most bytes of a request that count: the longest head and the longest content.
+/// The most reads of a request, each of which brings a byte: as many as may count.
 const MOST_ASKED: usize = 24_576;
+
+/// The bytes that a peer is taken to have sent when it connects, so that one that has just come is
+/// not taken for a slow one.
+const HEAD_START: u64 = 512;
 
 /// How a connection goes on.
 pub(crate) enum Next {
     /// It waits for its peer.
     Waits,
-    /// Its request is there, whole.
+    /// Its request is there, whole, and waits for its turn.
     IsWhole,
     /// It is over.
     Ends,
@@ -39,24 +44,15 @@ pub(crate) enum Next {
     Fails(ServeFault),
 }
 
-/// What has to come before a request is looked at again.
-#[derive(Clone, Copy)]
-enum Awaited {
-    /// The end of the first line.
-    Line,
-    /// The end of an empty line, which ends a head.
-    EmptyLine,
-    /// So many bytes in all.
-    Bytes(usize),
-}
-
 /// How far a connection has come.
 #[derive(Drop)]
 enum Stage {
-    /// These bytes of the request have come.
-    Asking { come: Vec<u8>, awaited: Awaited },
-    /// These bytes of the reply were left to send, and so many of them went out.
-    Answering { rest: Vec<u8>, sent: usize },
+    /// So much of the request has come.
+    Asking(Exchange),
+    /// The request is there, whole.
+    Asked(Exchange),
+    /// So much of the reply is left to send.
+    Answering(Outgoing),
     /// The reply is out, and what still came was read so many times.
     Closing { reads: usize },
 }
@@ -65,99 +61,50 @@ enum Stage {
 #[derive(Drop)]
 pub(crate) struct Connection {
     /// Its socket, which does not block.
-    pub(crate) stream: TcpStream,
-    /// The millisecond at which it is let go.
+    pub(crate) stream: Stream,
+    /// The millisecond at which it is let go; the last there is while it waits for its turn.
     pub(crate) due: u64,
+    /// The millisecond at which it was accepted.
+    came: u64,
+    /// The poll tells when its peer is ready.
+    is_watched: bool,
     stage: Stage,
-}
-
-/// Whether the byte at a place ends an empty line.
-fn ends_empty_line(come: &[u8], at: usize) -> bool {
-    if at == 0 || at >= come.len() || come[at] != b'\n' {
-        return false;
-    }
-    come[at - 1] == b'\n' || (at >= 2 && come[at - 1] == b'\r' && come[at - 2] == b'\n')
-}
-
-/// Whether one of the bytes from a place on ends a line.
-fn has_line(come: &[u8], from: usize) -> bool {
-    match come.get(from..) {
-        Some(bytes) => bytes.contains(&b'\n'),
-        None => false,
-    }
-}
-
-/// Whether one of the bytes from a place on ends an empty line.
-fn has_empty_line(come: &[u8], from: usize) -> bool {
-    for at in from..come.len() {
-        if ends_empty_line(come, at) {
-            return true;
-        }
-    }
-    false
-}
-
-/// Whether what is awaited came with the bytes from a place on.
-fn has_come(awaited: Awaited, come: &[u8], from: usize) -> bool {
-    match awaited {
-        Awaited::Line => come.len() >= MOST_HEAD_BYTES || has_line(come, from),
-        Awaited::EmptyLine => come.len() >= MOST_HEAD_BYTES || has_empty_line(come, from),
-        Awaited::Bytes(most) => come.len() >= most,
-    }
-}
-
-/// What is awaited of a request, if anything that follows may change what it asks.
-fn look(routes: &Routes, come: &[u8]) -> Option<Awaited> {
-    match wanted_so_far(routes, come).more {
-        More::Nothing => None,
-        More::Head if come.contains(&b'\n') => Some(Awaited::EmptyLine),
-        More::Head => Some(Awaited::Line),
-        More::Content(lacking) => Some(Awaited::Bytes(come.len().saturating_add(lacking))),
-    }
 }
 
 /// Reads what has come of a request.
 fn take_request(
-    mut stream: &TcpStream,
+    stream: &Stream,
     routes: &Routes,
-    chunk: &mut [u8],
-    come: &mut Vec<u8>,
-    awaited: &mut Awaited,
+    page: &mut Page,
+    exchange: &mut Exchange,
 ) -> Next {
+    let mut reader = Counted::new(stream);
     for _ in 0..=MOST_ASKED {
-        let count = match stream.read(chunk) {
-            Ok(0) => return Next::IsWhole,
-            Ok(count) => count,
-            Err(error) if error.kind() == ErrorKind::WouldBlock => return Next::Waits,
-            Err(_) => return Next::Fails(ServeFault::ReadFailed),
-        };
-        let from = come.len();
-        if come.extend_from_slice(&chunk[..count]).is_err() {
-            return Next::Fails(ServeFault::NoMemory);
-        }
-        if come.len() >= MOST_ASKED {
+        if exchange.is_settled() {
             return Next::IsWhole;
         }
-        if has_come(*awaited, come.as_slice(), from) {
-            match look(routes, come.as_slice()) {
-                Some(more) => *awaited = more,
-                None => return Next::IsWhole,
-            }
+        match exchange.read_on(routes, &mut reader, page) {
+            Ok(0) => return Next::IsWhole,
+            Ok(_) => {}
+            Err(ReadFault::Failed(ErrorKind::WouldBlock)) => return Next::Waits,
+            Err(ReadFault::Failed(_)) => return Next::Fails(ServeFault::ReadFailed),
+            Err(ReadFault::NoMemory) => return Next::Fails(ServeFault::NoMemory),
         }
     }
     Next::IsWhole
 }
 
 /// Writes what the socket takes of the rest of a reply. It ends once all of it is out.
-fn send_rest(mut stream: &TcpStream, rest: &[u8], sent: &mut usize) -> Next {
-    for _ in 0..=rest.len() {
-        if *sent >= rest.len() {
+fn send_rest(stream: &Stream, page: &mut Page, reply: &mut Outgoing) -> Next {
+    let mut writer = Counted::new(stream);
+    for _ in 0..usize::MAX {
+        if reply.is_out() {
             break;
         }
-        match stream.write(&rest[*sent..]) {
+        match reply.send(&mut writer, page) {
             Ok(0) => return Next::Fails(ServeFault::WriteFailed),
-            Ok(count) => *sent += count,
-            Err(error) if error.kind() == ErrorKind::WouldBlock => return Next::Waits,
+            Ok(_) => {}
+            Err(ErrorKind::WouldBlock) => return Next::Waits,
             Err(_) => return Next::Fails(ServeFault::WriteFailed),
         }
     }
@@ -165,7 +112,7 @@ fn send_rest(mut stream: &TcpStream, rest: &[u8], sent: &mut usize) -> Next {
 }
 
 /// Takes what the peer still sends, so that it can read the reply before the connection is closed.
-fn read_last(mut stream: &TcpStream, chunk: &mut [u8], reads: &mut usize) -> Next {
+fn read_last(mut stream: &Stream, chunk: &mut [u8], reads: &mut usize) -> Next {
     for _ in 0..MOST_READS {
         if *reads >= MOST_READS {
             break;
@@ -182,89 +129,122 @@ fn read_last(mut stream: &TcpStream, chunk: &mut [u8], reads: &mut usize) -> Nex
 
 impl Connection {
     /// A connection that was just accepted.
-    pub(crate) fn new(alloc: Global, stream: TcpStream, now: u64) -> Connection {
+    pub(crate) fn new(alloc: Global, stream: Stream, now: u64) -> Connection {
         Connection {
             stream,
             due: now.saturating_add(TO_ASK),
-            stage: Stage::Asking {
-                come: Vec::new(alloc),
-                awaited: Awaited::Bytes(1),
-            },
+            came: now,
+            is_watched: false,
+            stage: Stage::Asking(Exchange::new(alloc)),
         }
     }
 
-    /// Whether its peer has sent nothing yet.
-    pub(crate) fn is_idle(&self) -> bool {
+    /// Has the poll tell when its peer is ready.
+    pub(crate) fn watch(&mut self, registry: &Registry, token: Token) -> io::Result<()> {
+        if !self.is_watched {
+            self.stream.watch(registry, token)?;
+            self.is_watched = true;
+        }
+        Ok(())
+    }
+
+    /// Whether its request is there, whole, and waits for its turn.
+    pub(crate) fn is_asked(&self) -> bool {
+        matches!(&self.stage, Stage::Asked(_))
+    }
+
+    /// Whether its request delivers a message.
+    pub(crate) fn is_delivery(&self, routes: &Routes) -> bool {
         match &self.stage {
-            Stage::Asking { come, .. } => come.is_empty(),
+            Stage::Asked(exchange) => { matches!(exchange.wanted(routes).ask, Ask::Deliver { .. }) }
             _ => false,
+        }
+    }
+
+    /// How fast it is, where it may be let go for another: the slowest is let go first. One that
+    /// was answered comes before all that ask, by the bytes a second that they sent, and these
+    /// before one whose reply is not out. None while its request waits for its turn.
+    pub(crate) fn pace(&self, now: u64) -> Option<u64> {
+        match &self.stage {
+            Stage::Closing { .. } => Some(0),
+            Stage::Asking(exchange) => {
+                let sent = HEAD_START.saturating_add(exchange.len() as u64);
+                let seconds = now.saturating_sub(self.came) / 1_000;
+                Some((sent / seconds.saturating_add(1)).saturating_add(1))
+            }
+            Stage::Answering(_) => Some(u64::MAX),
+            Stage::Asked(_) => None,
         }
     }
 
     /// The fault if it is let go now: none once its reply is out.
     pub(crate) fn fault(&self) -> Option<ServeFault> {
         match &self.stage {
-            Stage::Asking { .. } => Some(ServeFault::ReadFailed),
-            Stage::Answering { .. } => Some(ServeFault::WriteFailed),
+            Stage::Asking(_) | Stage::Asked(_) => Some(ServeFault::ReadFailed),
+            Stage::Answering(_) => Some(ServeFault::WriteFailed),
             Stage::Closing { .. } => None,
         }
     }
 
-    /// Goes on as far as its peer lets it, up to a whole request. What it reads comes into the
-    /// chunk first.
-    pub(crate) fn go_on(&mut self, routes: &Routes, chunk: &mut [u8], now: u64) -> Next {
+    /// Goes on as far as its peer lets it, up to a whole request.
+    pub(crate) fn go_on(&mut self, routes: &Routes, page: &mut Page, now: u64) -> Next {
         match &mut self.stage {
-            Stage::Asking { come, awaited } => {
-                take_request(&self.stream, routes, chunk, come, awaited)
-            }
-            Stage::Answering { rest, sent } => {
-                match send_rest(&self.stream, rest.as_slice(), sent) {
-                    Next::Ends => self.close(chunk, now),
-                    next => next,
-                }
-            }
-            Stage::Closing { .. } => self.read_last(chunk, now),
+            Stage::Asking(exchange) => match take_request(&self.stream, routes, page, exchange) {
+                Next::IsWhole => self.wait_for_turn(),
+                next => next,
+            },
+            Stage::Asked(_) => Next::IsWhole,
+            Stage::Answering(reply) => match send_rest(&self.stream, page, reply) {
+                Next::Ends => self.close(now),
+                next => next,
+            },
+            Stage::Closing { .. } => self.read_last(now),
         }
+    }
+
+    /// Waits until the desk answers its request. No time runs against its peer meanwhile.
+    fn wait_for_turn(&mut self) -> Next {
+        self.due = u64::MAX;
+        let stage = mem::replace(&mut self.stage, Stage::Closing { reads: 0 });
+        self.stage = match stage {
+            Stage::Asking(exchange) => Stage::Asked(exchange),
+            other => other,
+        };
+        Next::IsWhole
     }
 
     /// Ends the reply.
-    fn close(&mut self, chunk: &mut [u8], now: u64) -> Next {
-        if self.stream.shutdown(Shutdown::Write).is_err() {
+    fn close(&mut self, now: u64) -> Next {
+        if self.stream.end().is_err() {
             return Next::Ends;
         }
         self.stage = Stage::Closing { reads: 0 };
-        self.read_last(chunk, now)
+        self.read_last(now)
     }
 
-    fn read_last(&mut self, chunk: &mut [u8], now: u64) -> Next {
+    fn read_last(&mut self, now: u64) -> Next {
         let Stage::Closing { reads } = &mut self.stage else {
             return Next::Waits;
         };
         self.due = now.saturating_add(TO_CLOSE);
-        read_last(&self.stream, chunk, reads)
+        let mut chunk = [0; MOST_LAST];
+        read_last(&self.stream, &mut chunk, reads)
     }
 
-    /// Has the desk answer the request, and sends what the peer takes of the reply at once. It also
-    /// returns what the log says about a 503.
+    /// Has the desk answer the request. It also returns what the log says about a 503.
     pub(crate) fn answer<K: Keeper>(
         &mut self,
         alloc: Global,
+        routes: &Routes,
         desk: &mut Desk<K>,
-        workspace: &mut Workspace,
-    ) -> (Result<(), ServeFault>, Option<Wanting>) {
-        let Stage::Asking { come, .. } = &self.stage else {
-            return (Ok(()), None);
+    ) -> Option<Answered> {
+        let Stage::Asked(exchange) = &self.stage else {
+            return None;
         };
-        let mut reader = Counted::new(come.as_slice());
-        let mut writer = Counted::new(Outgoing::new(alloc, &self.stream));
-        let served = serve_in(alloc, desk, workspace, &mut reader, &mut writer);
-        let out = writer.into_inner();
-        let wanting = out.wanting;
-        self.stage = Stage::Answering {
-            rest: out.rest,
-            sent: 0,
-        };
-        (served, wanting)
+        let reply = exchange.answer(alloc, routes, desk);
+        let answered = Answered::of(reply.status, reply.refusal);
+        self.stage = Stage::Answering(reply.rest);
+        answered
     }
 
     /// Begins the time in which the reply has to go out.

@@ -2,9 +2,9 @@
 
 use crate::log::Log;
 use crate::service::{Service, events};
+use crate::socket::{At, listen};
 use desk::{Desk, Keeper};
-use mio::net::TcpListener;
-use std::net::{self, SocketAddr};
+use desk_commands::Address;
 use std::{fmt, io};
 
 /// What is served, as a line.
@@ -27,12 +27,19 @@ impl fmt::Display for Serving<'_> {
     }
 }
 
-/// The warning of an address that other machines may reach.
+/// Who can reach an address and a port, as a line.
 #[derive(Clone, Copy)]
-struct Warning(SocketAddr);
+struct Warning<'a>(&'a At<'a>);
 
-impl fmt::Display for Warning {
+impl fmt::Display for Warning<'_> {
     fn fmt<W: fmt::Write>(&self, f: &mut fmt::Formatter<W>) -> fmt::Result {
+        if self.0.is_loopback() {
+            return write!(
+                f,
+                "WARNING: EVERY ACCOUNT OF THIS MACHINE CAN POST AT {} AS ANY RELAY AND READ EVERY FILE, AND TAKE THE PORT WHILE NOBODY LISTENS",
+                self.0
+            );
+        }
         write!(
             f,
             "WARNING: {} IS NOT LOOPBACK. WHOEVER REACHES IT CAN POST AS ANY RELAY AND READ EVERY FILE",
@@ -54,27 +61,17 @@ impl fmt::Display for Ended<'_> {
     }
 }
 
-/// Listens at the address.
-fn listen(rt: &HostRuntime, addr: &str) -> io::Result<TcpListener> {
-    let listener = net::TcpListener::bind(rt, addr)?;
-    listener.set_nonblocking(true)?;
-    Ok(TcpListener::from_std(listener))
-}
-
 /// How many messages the desk has, where memory and the storage allow counting them.
 fn count<K: Keeper>(desk: &mut Desk<K>) -> Option<usize> {
-    match desk.texts() {
-        Ok(texts) => Some(texts.len()),
-        Err(_) => None,
-    }
+    desk.count().ok()
 }
 
-/// Serves the desk at the address, `HOST:PORT` with port 0 for any free one: so many connections;
-/// without a number, until the process ends. Their exchanges are made one after the other, each
-/// once its request is there.
+/// Serves the desk at the address, `HOST:PORT` with port 0 for any free one, or `unix:` and a path.
+/// It serves so many connections; without a number, until the process ends. Their exchanges are
+/// made one after the other, each once its request is there.
 ///
 /// It prints `listening` and the address, once it listens there. On the standard error it says what
-/// it serves, with the digest of the roster; a warning where the address is not loopback; each 503
+/// it serves, with the digest of the roster; a warning where the address has a port; each 503
 /// that is answered; each connection that is let go before its reply is out; and why it ended. It
 /// fails where the address cannot be listened at, where nothing can be printed, and where a
 /// connection cannot be accepted though no other is open.
@@ -82,17 +79,16 @@ pub(crate) fn serve_at<K: Keeper>(
     rt: &HostRuntime,
     desk: &mut Desk<K>,
     roster: &str,
-    addr: &str,
+    addr: &Address,
     requests: Option<u64>,
 ) -> io::Result<()> {
-    let listener = listen(rt, addr)?;
-    let at = listener.local_addr()?;
+    let (listener, at) = listen(rt, addr)?;
     let mut events = events(rt)?;
     let mut service = Service::new(rt, listener, requests.unwrap_or(u64::MAX))?;
     let mut log = Log::new(rt);
     println!(rt; "listening {at}")?;
-    if !at.ip().is_loopback() {
-        log.say(rt, &Warning(at));
+    if at.has_port() {
+        log.say(rt, &Warning(&at));
     }
     let messages = count(desk);
     log.say(rt, &Serving { roster, messages });

@@ -1,5 +1,7 @@
 //! What the service says on its standard error.
 
+use desk::Refusal;
+use http::StatusCode;
 use mio::event::Events;
 use mio::unix::SourceFd;
 use mio::{Interest, Poll, Token};
@@ -24,6 +26,27 @@ pub(crate) struct Log {
     /// None where it always takes them, as a file does.
     watch: Option<Watch>,
     dropped: u64,
+}
+
+/// A 503 that was answered, as a line: the refusal that it tells.
+#[derive(Clone, Copy)]
+pub(crate) struct Answered(Refusal);
+
+impl Answered {
+    /// What is said about a reply of this status that tells this refusal: nothing, unless it is a
+    /// 503.
+    pub(crate) fn of(status: StatusCode, refusal: Option<Refusal>) -> Option<Answered> {
+        if status.as_u16() != StatusCode::SERVICE_UNAVAILABLE.as_u16() {
+            return None;
+        }
+        refusal.map(Answered)
+    }
+}
+
+impl fmt::Display for Answered {
+    fn fmt<W: fmt::Write>(&self, f: &mut fmt::Formatter<W>) -> fmt::Result {
+        write!(f, "answered {}", self.0)
+    }
 }
 
 /// How many lines were dropped, as a line.

@@ -2,36 +2,47 @@
 
 use crate::connection::{Connection, Next};
 use crate::log::Log;
+use crate::socket::{Listener, Stream};
 use desk::{Desk, Keeper};
 use mio::event::Events;
-use mio::net::{TcpListener, TcpStream};
-use mio::{Interest, Poll, Token};
-use relay_http::{Routes, ServeFault, Workspace};
+use mio::{Poll, Token};
+use relay_http::{Page, Routes, ServeFault};
+use std::alloc::{AllocFailed, Global};
+use std::collections::VecDeque;
 use std::io::{self, ErrorKind};
 use std::time::{Duration, Instant};
 
 /// The most connections that are kept at once.
-const MOST_CONNECTIONS: usize = 1_000;
+const MOST_CONNECTIONS: usize = 4_096;
 
-/// The most connections that are accepted in one turn, and the most events that are looked at.
+/// The most connections that are accepted in one turn, and the most questions that are answered.
 const MOST_AT_ONCE: usize = 64;
 
-/// The most bytes of one read.
-const CHUNK: usize = 4096;
+/// The milliseconds after which no further question is answered in one turn.
+const MOST_BUSY: u64 = 20;
 
 /// The token of the listener. A connection's is its place.
 const LISTENER: Token = Token(MOST_CONNECTIONS);
+
+/// The places of the connections whose requests are whole, each kind in the order in which they
+/// came.
+#[derive(Drop)]
+struct Asked {
+    deliveries: VecDeque<usize>,
+    questions: VecDeque<usize>,
+}
 
 /// A listener with its connections.
 #[derive(Drop)]
 pub(crate) struct Service {
     poll: Poll,
-    listener: TcpListener,
+    listener: Listener,
     routes: Routes,
-    workspace: Workspace,
-    /// Where the bytes of a read come in, one connection's after another's.
-    chunk: [u8; CHUNK],
+    /// Where the bytes of a read come in and a short reply is put together, one connection's after
+    /// another's.
+    page: Page,
     places: Vec<Option<Connection>>,
+    asked: Asked,
     /// How many connections are open.
     open: usize,
     /// How many are still to be accepted.
@@ -47,19 +58,40 @@ fn millis(time: Duration) -> u64 {
     u64::try_from(time.as_millis()).unwrap_or(u64::MAX)
 }
 
-/// The one of two places that is due first.
-fn sooner(a: Option<(usize, u64)>, at: usize, due: u64) -> Option<(usize, u64)> {
-    match a {
-        Some((_, first)) if first <= due => a,
-        _ => Some((at, due)),
+/// Room for the events of all connections at once.
+pub(crate) fn events(rt: &HostRuntime) -> io::Result<Events> {
+    match Events::with_capacity(rt.alloc(), MOST_CONNECTIONS) {
+        Ok(events) => Ok(events),
+        Err(_) => Err(io::Error::from(ErrorKind::OutOfMemory)),
     }
 }
 
-/// Room for the events of one turn.
-pub(crate) fn events(rt: &HostRuntime) -> io::Result<Events> {
-    match Events::with_capacity(rt.alloc(), MOST_AT_ONCE) {
-        Ok(events) => Ok(events),
-        Err(_) => Err(io::Error::from(ErrorKind::OutOfMemory)),
+impl Asked {
+    /// None has asked yet.
+    fn new(alloc: Global) -> Asked {
+        Asked {
+            deliveries: VecDeque::new(alloc),
+            questions: VecDeque::new(alloc),
+        }
+    }
+
+    /// How many wait for their turn.
+    fn len(&self) -> usize {
+        self.deliveries.len().saturating_add(self.questions.len())
+    }
+
+    /// Whether none waits for its turn.
+    fn is_empty(&self) -> bool {
+        self.deliveries.is_empty() && self.questions.is_empty()
+    }
+
+    /// Has a connection wait behind the others of its kind.
+    fn push(&mut self, at: usize, is_delivery: bool) -> Result<(), AllocFailed<usize>> {
+        if is_delivery {
+            self.deliveries.push_back(at)
+        } else {
+            self.questions.push_back(at)
+        }
     }
 }
 
@@ -67,22 +99,21 @@ impl Service {
     /// A service that accepts so many connections.
     pub(crate) fn new(
         rt: &HostRuntime,
-        mut listener: TcpListener,
+        mut listener: Listener,
         requests: u64,
     ) -> io::Result<Service> {
         let poll = Poll::new(rt)?;
-        poll.registry()
-            .register(&mut listener, LISTENER, Interest::READABLE)?;
-        let Ok(routes) = Routes::new(rt.alloc()) else {
+        listener.watch(poll.registry(), LISTENER)?;
+        let (Ok(routes), Ok(page)) = (Routes::new(rt.alloc()), Page::new(rt.alloc())) else {
             return Err(io::Error::from(ErrorKind::OutOfMemory));
         };
         Ok(Service {
             poll,
             listener,
             routes,
-            workspace: Workspace::new(),
-            chunk: [0; CHUNK],
+            page,
             places: Vec::new(rt.alloc()),
+            asked: Asked::new(rt.alloc()),
             open: 0,
             left: requests,
             more_wait: false,
@@ -96,41 +127,121 @@ impl Service {
         Ok(millis(self.began.elapsed(rt)?).saturating_sub(self.busy))
     }
 
-    /// Has the desk answer a whole request, and begins to send the reply.
+    /// Takes the connection out of a place, where there is one.
+    fn take(&mut self, at: usize) -> Option<Connection> {
+        if at < self.places.len() {
+            self.places[at].take()
+        } else {
+            None
+        }
+    }
+
+    /// Puts a connection at its place.
+    fn put(&mut self, at: usize, connection: Connection) {
+        if at < self.places.len() {
+            self.places[at] = Some(connection);
+        }
+    }
+
+    /// Counts a connection that is over, and says why where its reply was not out.
+    fn end(&mut self, rt: &HostRuntime, log: &mut Log, fault: Option<ServeFault>) {
+        self.open = self.open.saturating_sub(1);
+        if let Some(fault) = fault {
+            log.say(rt, &fault);
+        }
+    }
+
+    /// Puts a connection back, to wait for its peer or for its turn, or ends it.
+    fn settle(
+        &mut self,
+        rt: &HostRuntime,
+        log: &mut Log,
+        at: usize,
+        mut connection: Connection,
+        next: Next,
+    ) {
+        match next {
+            Next::Waits => match connection.watch(self.poll.registry(), Token(at)) {
+                Ok(()) => self.put(at, connection),
+                Err(_) => self.end(rt, log, connection.fault()),
+            },
+            Next::IsWhole => {
+                let is_delivery = connection.is_delivery(&self.routes);
+                match self.asked.push(at, is_delivery) {
+                    Ok(()) => self.put(at, connection),
+                    Err(_) => self.end(rt, log, Some(ServeFault::NoMemory)),
+                }
+            }
+            Next::Ends => self.end(rt, log, None),
+            Next::Fails(fault) => self.end(rt, log, Some(fault)),
+        }
+    }
+
+    /// Goes on with the connection at a place as far as its peer lets it. Once its request is
+    /// whole, it waits for its turn.
+    fn go_on(&mut self, rt: &HostRuntime, log: &mut Log, at: usize) -> io::Result<()> {
+        let now = self.now(rt)?;
+        let Some(mut connection) = self.take(at) else {
+            return Ok(());
+        };
+        if connection.is_asked() {
+            self.put(at, connection);
+            return Ok(());
+        }
+        let next = connection.go_on(&self.routes, &mut self.page, now);
+        self.settle(rt, log, at, connection, next);
+        Ok(())
+    }
+
+    /// Has the desk answer the request of the connection at a place, and begins to send the reply.
     fn answer<K: Keeper>(
         &mut self,
         rt: &HostRuntime,
         desk: &mut Desk<K>,
         log: &mut Log,
-        connection: &mut Connection,
-    ) -> io::Result<Next> {
+        at: usize,
+    ) -> io::Result<()> {
         let began = Instant::now(rt)?;
-        let (served, wanting) = connection.answer(rt.alloc(), desk, &mut self.workspace);
+        let Some(mut connection) = self.take(at) else {
+            return Ok(());
+        };
+        let answered = connection.answer(rt.alloc(), &self.routes, desk);
         self.busy = self.busy.saturating_add(millis(began.elapsed(rt)?));
-        if let Some(line) = wanting {
+        if let Some(line) = answered {
             log.say(rt, &line);
-        }
-        if let Err(fault) = served {
-            return Ok(Next::Fails(fault));
         }
         let now = self.now(rt)?;
         connection.begin_reply(now);
-        Ok(connection.go_on(&self.routes, &mut self.chunk, now))
+        let next = connection.go_on(&self.routes, &mut self.page, now);
+        self.settle(rt, log, at, connection, next);
+        Ok(())
     }
 
-    /// Goes on with a connection as far as its peer lets it.
-    fn go_on<K: Keeper>(
+    /// Has the desk answer all deliveries that are whole, and then questions for a moment: so a
+    /// delivery that comes next waits for few of them, however many there are.
+    fn answer_some<K: Keeper>(
         &mut self,
         rt: &HostRuntime,
         desk: &mut Desk<K>,
         log: &mut Log,
-        connection: &mut Connection,
-    ) -> io::Result<Next> {
-        let now = self.now(rt)?;
-        match connection.go_on(&self.routes, &mut self.chunk, now) {
-            Next::IsWhole => self.answer(rt, desk, log, connection),
-            next => Ok(next),
+    ) -> io::Result<()> {
+        for _ in 0..MOST_CONNECTIONS {
+            match self.asked.deliveries.pop_front() {
+                Some(at) => self.answer(rt, desk, log, at)?,
+                None => break,
+            }
         }
+        let until = self.busy.saturating_add(MOST_BUSY);
+        for _ in 0..MOST_AT_ONCE {
+            match self.asked.questions.pop_front() {
+                Some(at) => self.answer(rt, desk, log, at)?,
+                None => break,
+            }
+            if self.busy >= until {
+                break;
+            }
+        }
+        Ok(())
     }
 
     /// A place for one more connection, where there is one.
@@ -146,148 +257,87 @@ impl Service {
         self.places.len().checked_sub(1)
     }
 
-    /// The connection that has waited longest without a byte, or else the one that is due first.
-    fn oldest(&self) -> Option<usize> {
-        let mut idle = None;
-        let mut any = None;
+    /// The slowest connection that may be let go for another; of equal ones the one that is due
+    /// first.
+    fn slowest(&self, now: u64) -> Option<usize> {
+        let mut found: Option<(usize, u64, u64)> = None;
         for at in 0..self.places.len() {
-            if let Some(connection) = &self.places[at] {
-                any = sooner(any, at, connection.due);
-                if connection.is_idle() {
-                    idle = sooner(idle, at, connection.due);
-                }
-            }
+            let Some(connection) = &self.places[at] else {
+                continue;
+            };
+            let Some(pace) = connection.pace(now) else {
+                continue;
+            };
+            let due = connection.due;
+            found = match found {
+                Some((_, slow, first)) if (slow, first) <= (pace, due) => found,
+                _ => Some((at, pace, due)),
+            };
         }
-        match (idle, any) {
-            (Some((at, _)), _) | (None, Some((at, _))) => Some(at),
-            (None, None) => None,
-        }
+        found.map(|(at, _, _)| at)
     }
 
     /// Lets a connection go.
     fn let_go(&mut self, rt: &HostRuntime, log: &mut Log, at: usize) {
-        if at >= self.places.len() {
-            return;
-        }
-        if let Some(connection) = self.places[at].take() {
-            self.open = self.open.saturating_sub(1);
-            if let Some(fault) = connection.fault() {
-                log.say(rt, &fault);
-            }
+        if let Some(connection) = self.take(at) {
+            self.end(rt, log, connection.fault());
         }
     }
 
-    /// Lets the oldest connection go, if there is one.
-    fn let_oldest_go(&mut self, rt: &HostRuntime, log: &mut Log) -> bool {
-        match self.oldest() {
-            Some(at) => {
-                self.let_go(rt, log, at);
-                true
-            }
-            None => false,
-        }
+    /// Lets the slowest connection go, if there is one that may be.
+    fn let_slowest_go(&mut self, rt: &HostRuntime, log: &mut Log) -> io::Result<bool> {
+        let now = self.now(rt)?;
+        let Some(at) = self.slowest(now) else {
+            return Ok(false);
+        };
+        self.let_go(rt, log, at);
+        Ok(true)
     }
 
-    /// Keeps a connection that waits for its peer. Where there is no place for it, the oldest is
+    /// Takes up a connection that was just accepted. Where there is no place for it, the slowest is
     /// let go.
-    fn keep(&mut self, rt: &HostRuntime, log: &mut Log, mut connection: Connection) {
+    fn admit(&mut self, rt: &HostRuntime, log: &mut Log, stream: Stream) -> io::Result<()> {
+        self.left = self.left.saturating_sub(1);
         let place = match self.free_place() {
             Some(at) => Some(at),
             None => {
-                self.let_oldest_go(rt, log);
+                self.let_slowest_go(rt, log)?;
                 self.free_place()
             }
         };
         let Some(at) = place else {
             log.say(rt, &ServeFault::NoMemory);
-            return;
+            return Ok(());
         };
-        let both = Interest::READABLE | Interest::WRITABLE;
-        let watched = self
-            .poll
-            .registry()
-            .register(&mut connection.stream, Token(at), both);
-        if watched.is_err() {
-            log.say(rt, &ServeFault::ReadFailed);
-            return;
-        }
-        if at < self.places.len() {
-            self.places[at] = Some(connection);
-            self.open = self.open.saturating_add(1);
-        }
-    }
-
-    /// Takes up a connection that was just accepted.
-    fn admit<K: Keeper>(
-        &mut self,
-        rt: &HostRuntime,
-        desk: &mut Desk<K>,
-        log: &mut Log,
-        stream: TcpStream,
-    ) -> io::Result<()> {
-        self.left = self.left.saturating_sub(1);
         let now = self.now(rt)?;
-        let mut connection = Connection::new(rt.alloc(), stream, now);
-        match self.go_on(rt, desk, log, &mut connection)? {
-            Next::Fails(fault) => log.say(rt, &fault),
-            Next::Ends => {}
-            Next::Waits | Next::IsWhole => self.keep(rt, log, connection),
-        }
-        Ok(())
+        self.put(at, Connection::new(rt.alloc(), stream, now));
+        self.open = self.open.saturating_add(1);
+        self.go_on(rt, log, at)
     }
 
-    /// Accepts what has connected. A connection that cannot be accepted is an error where no other
-    /// can be let go for it.
-    fn accept<K: Keeper>(
-        &mut self,
-        rt: &HostRuntime,
-        desk: &mut Desk<K>,
-        log: &mut Log,
-    ) -> io::Result<()> {
+    /// Accepts what has connected. While no connection may be let go for another, none is accepted
+    /// past the most. A connection that cannot be accepted is an error where no other is open.
+    fn accept(&mut self, rt: &HostRuntime, log: &mut Log) -> io::Result<()> {
         self.more_wait = false;
         for _ in 0..MOST_AT_ONCE {
             if self.left == 0 {
                 return Ok(());
             }
+            if self.asked.len() >= MOST_CONNECTIONS {
+                break;
+            }
             match self.listener.accept() {
-                Ok((stream, _)) => self.admit(rt, desk, log, stream)?,
+                Ok(stream) => self.admit(rt, log, stream)?,
                 Err(error) => match error.kind() {
                     ErrorKind::WouldBlock => return Ok(()),
                     ErrorKind::ConnectionAborted | ErrorKind::Interrupted => {}
-                    _ if self.let_oldest_go(rt, log) => {}
+                    _ if self.let_slowest_go(rt, log)? => {}
+                    _ if self.open > 0 => break,
                     _ => return Err(error),
                 },
             }
         }
         self.more_wait = true;
-        Ok(())
-    }
-
-    /// Goes on with the connection at a place.
-    fn step<K: Keeper>(
-        &mut self,
-        rt: &HostRuntime,
-        desk: &mut Desk<K>,
-        log: &mut Log,
-        at: usize,
-    ) -> io::Result<()> {
-        if at >= self.places.len() {
-            return Ok(());
-        }
-        let Some(mut connection) = self.places[at].take() else {
-            return Ok(());
-        };
-        match self.go_on(rt, desk, log, &mut connection)? {
-            Next::Waits | Next::IsWhole => {
-                if at < self.places.len() {
-                    self.places[at] = Some(connection);
-                }
-                return Ok(());
-            }
-            Next::Fails(fault) => log.say(rt, &fault),
-            Next::Ends => {}
-        }
-        self.open = self.open.saturating_sub(1);
         Ok(())
     }
 
@@ -307,22 +357,23 @@ impl Service {
     }
 
     /// How long to wait for an event: until a connection is due, without end where none is open,
-    /// and not at all where more may wait to be accepted.
+    /// and not at all where a request waits for its turn or more may wait to be accepted.
     fn patience(&self, rt: &HostRuntime) -> io::Result<Option<Duration>> {
-        if self.more_wait {
+        if self.more_wait || !self.asked.is_empty() {
             return Ok(Some(Duration::ZERO));
         }
-        let mut first = None;
+        let mut first: Option<u64> = None;
         for at in 0..self.places.len() {
             if let Some(connection) = &self.places[at] {
-                first = sooner(first, at, connection.due);
+                first = Some(first.unwrap_or(u64::MAX).min(connection.due));
             }
         }
         let now = self.now(rt)?;
-        Ok(first.map(|(_, due)| Duration::from_millis(due.saturating_sub(now).saturating_add(1))))
+        Ok(first.map(|due| Duration::from_millis(due.saturating_sub(now).saturating_add(1))))
     }
 
-    /// Waits until a peer is ready or a connection is due, and goes on.
+    /// Waits until a peer is ready or a connection is due, reads what has come on all connections,
+    /// and only then takes up new ones and answers.
     fn turn<K: Keeper>(
         &mut self,
         rt: &HostRuntime,
@@ -337,12 +388,13 @@ impl Service {
             if event.token() == LISTENER {
                 comes = true;
             } else {
-                self.step(rt, desk, log, event.token().0)?;
+                self.go_on(rt, log, event.token().0)?;
             }
         }
         if comes {
-            self.accept(rt, desk, log)?;
+            self.accept(rt, log)?;
         }
+        self.answer_some(rt, desk, log)?;
         self.let_due_go(rt, log)
     }
 

@@ -2,7 +2,7 @@
 
 use crate::listener::serve_at;
 use desk::Keeper;
-use desk_commands::{Refusal, Status, open_over};
+use desk_commands::{Address, Refusal, Status, open_over};
 use sha2::{Digest, Sha256};
 use std::alloc::Global;
 use std::io;
@@ -33,7 +33,7 @@ pub(crate) fn serve<K: Keeper>(
     rt: &HostRuntime,
     files: &[Vec<u8>],
     keeper: K,
-    addr: &str,
+    addr: &Address,
     requests: Option<u64>,
 ) -> (Result<Status, Refusal>, K) {
     let [roster, base, ..] = files else {

@@ -37,7 +37,7 @@ fn work_over<K: Keeper + Drop>(
     keeper: K,
 ) -> (Result<Status, Refusal>, K) {
     match job {
-        Job::Serve { addr, requests, .. } => serve(rt, files, keeper, addr.as_str(), *requests),
+        Job::Serve { addr, requests, .. } => serve(rt, files, keeper, addr, *requests),
         _ => run_on_streams(rt, job, files, keeper),
     }
 }

@@ -30,10 +30,12 @@ module _ (Does : Database → Type 0) (again' : (a b : Database) → IsDatabase 
   -- ---- it was committed
 
   module _ (mode : HasCleanDisk last → IsTrue last.in_transaction) (does : IsUp old → HasCleanDisk last → Does last.now) where
-    -- a crash in the commit may leave the whole
-    pub whole_survives : ((db : Trees) → P db → db ≡ last.now.trees) → IsUp old → Survives old end (At Does)
-    whole_survives only up = survives_then old last end _ _ (At Does) (λ _ db no_such. absurd no_such)
-        (λ clean db left. subst (At Does) (sym (only db left)) (λ b same sound. again' last.now b sound same (does up (clean_last clean)))) survives_from ends
+    -- a crash in the commit may leave the whole, if the connection was up
+    pub whole_survives : (HasCleanDisk last → IsTrue old.is_open) → ((db : Trees) → P db
+        → db ≡ last.now.trees) → Survives old end (λ trees. IsUp old × At Does trees)
+    whole_survives was_open only = survives_then old last end _ _ (λ trees. IsUp old × At Does trees) (λ _ db no_such. absurd no_such)
+        (λ clean db left. let mid = clean_last clean in let up : IsUp old = record { clean = clean_first mid; is_open = was_open mid } in
+        (up, subst (At Does) (sym (only db left)) (λ b same sound. again' last.now b sound same (does up mid)))) survives_from ends
 
     module _ (ok : HasCleanDisk end → IsTrue last.in_transaction × Shows last end last.now last.now false) where
       pub commit_ends : Ends old end

@@ -89,6 +89,7 @@ one p made rest a b c differ adds g = grows_more p made rest a b.now c.now diffe
 pub grown : (a b c d e f : State) → AddsPart part.Desk a b → AddsPart part.Messages b c
     → AddsPart part.Names c d → AddsPart part.Verdicts d e → AddsPart part.Parked e f → GrownWhole a f
 grown a b c d e f p q r s t = record {
+  was_open = p.inside.was_open;
   mode = t.inside.mode;
   grows = λ ready.
       one part.Parked _ _ a.now e f differ_parked t (one part.Verdicts _ _ a.now d e differ_verdicts s (one part.Names _ _ a.now c d differ_names r
@@ -234,6 +235,7 @@ module _ (roster : List ℕ) (a b c : Database) (ready : IsReady a.schema) (g : 
 
 pub filled : (roster : List ℕ) → IsUtf8 roster → (a b c : State) → GrownWhole a b → Marked IsBare (Says roster) b c → Filled roster a c
 filled roster utf8 a b c grown put = record {
+  was_open = grown.was_open;
   mode = put.inside.mode;
   founds = λ ready. let g = grown.grows ready in record {
     makes = makes a.now b.now g roster utf8 c.now (marks ready);

@@ -84,7 +84,7 @@ pub fn make<S: Alter>(conn: &mut Connection<S>, roster: &str) -> Result<(), Erro
     ensures was_up { IsUp (state S.Store conn.new) → IsUp (state S.Store conn.old) }
     ensures was_clean { HasCleanDisk (state S.Store conn.new)
         → HasCleanDisk (state S.Store conn.old) }
-    ensures up { IsUp (state S.Store conn.old) → HasCleanDisk (state S.Store conn.new)
+    ensures up { HasCleanDisk (state S.Store conn.new)
         → OnOk result (IsUp (state S.Store conn.new)) }
     ensures unmade { IsUp (state S.Store conn.new)
         → OnErr result ((state S.Store conn.new).now ≡ (state S.Store conn.old).now) }
@@ -92,8 +92,9 @@ pub fn make<S: Alter>(conn: &mut Connection<S>, roster: &str) -> Result<(), Erro
         (Founds roster.now (state S.Store conn.old).now (state S.Store conn.new).now) }
     ensures beside { IsUp (state S.Store conn.new)
         → OnOk result (KeepsBeside (state S.Store conn.old).now (state S.Store conn.new).now) }
-    ensures survives { IsUp (state S.Store conn.old) → Survives (state S.Store conn.old)
-        (state S.Store conn.new) (FoundsAt roster.now (state S.Store conn.old).now) }
+    // A connection that is not up commits nothing.
+    ensures survives { Survives (state S.Store conn.old) (state S.Store conn.new) (λ trees.
+        IsUp (state S.Store conn.old) × FoundsAt roster.now (state S.Store conn.old).now trees) }
 {
     let mut tx = conn.transaction();
     fill(&mut tx, roster)?;

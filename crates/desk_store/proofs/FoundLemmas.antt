@@ -19,7 +19,7 @@ use Rattle.desk_schema.specs.private.Making.{FoundsAt, Makes, fresh}
 use Rattle.desk_schema.proofs.MarksLemmas.{unmarked_spared}
 use Rattle.desk_opening.specs.Opened.{IsKept, IsOldDesk}
 use Rattle.desk_store.specs.Left.{Left, Nothing, ADesk, AnOldDesk, NoDesk, HoldsIn, IsAsKept, IsDeskOf}
-use Rattle.desk_store.specs.Left.{IsFoundAs, IsNothingOrFresh, IsOldDeskOf, IsReplacedOrNot, IsWithOrWithout}
+use Rattle.desk_store.specs.Left.{IsCommitted, IsFoundAs, IsNothingOrFresh, IsOldDeskOf, IsReplacedOrNot, IsWithOrWithout}
 use Rattle.desk_store.specs.Crash.{IsFound, MayLeave}
 use Rattle.desk_store.specs.private.Replacing.{Becomes, BecomesAt}
 use Rattle.desk_store.specs.private.Survival.{IsAgain, Settled}
@@ -152,27 +152,65 @@ module _ (old new : State) (settled : Settled old) (up : IsUp old) (clean : HasC
     | inr none ↦ absurd none
   ]
 
-  pub with_or_without : (m : Message) → IsMessage m → IsKept old.now → Survives old new (ArrivesAt (wire m) old.now)
+  pub with_or_without : (m : Message) → IsMessage m → IsKept old.now → Survives old new (λ trees. IsUp old × ArrivesAt (wire m) old.now trees)
       → IsWithOrWithout (content_of old.now).roster (HoldsText old.now) m left
-  with_or_without m is desk lives =
-      elim (before_or (ArrivesAt (wire m) old.now) lives) as (λ _. IsWithOrWithout (content_of old.now).roster (HoldsText old.now) m left) [
+  with_or_without m is desk lives = elim (before_or (λ trees. IsUp old × ArrivesAt (wire m) old.now trees) lives)
+      as (λ _. IsWithOrWithout (content_of old.now).roster (HoldsText old.now) m left) [
         | inl same ↦ inl ((again_left old.now may.0 left may.2 same).desk desk)
-        | inr arrives ↦ inr (arrives_left old.now may.0 left may.2 m is desk (arrives may.0 refl may.1.sound))
+        | inr arrives ↦ inr (arrives_left old.now may.0 left may.2 m is desk (arrives.1 may.0 refl may.1.sound))
       ]
 
-  pub nothing_or_made : (roster : List ℕ) → IsVacant old.now.schema → Survives old new (FoundsAt roster old.now) → IsNothingOrFresh roster left
-  nothing_or_made roster vacant lives = elim (before_or (FoundsAt roster old.now) lives) as (λ _. IsNothingOrFresh roster left) [
+  pub nothing_or_made : (roster : List ℕ) → IsVacant old.now.schema → Survives old new (λ trees. IsUp old × FoundsAt roster old.now trees)
+      → IsNothingOrFresh roster left
+  nothing_or_made roster vacant lives = elim (before_or (λ trees. IsUp old × FoundsAt roster old.now trees) lives) as (λ _. IsNothingOrFresh roster left) [
     | inl same ↦ inl ((again_left old.now may.0 left may.2 same).empty vacant)
-    | inr founds ↦ inr (made_left roster may.0 left may.2 (founds may.0 refl may.1.sound).makes)
+    | inr founds ↦ inr (made_left roster may.0 left may.2 (founds.1 may.0 refl may.1.sound).makes)
   ]
 
-  pub replaced_or_not : (roster : List ℕ) → Survives old new (BecomesAt roster old.now)
+  pub replaced_or_not : (roster : List ℕ) → Survives old new (λ trees. IsUp old × BecomesAt roster old.now trees)
       → IsReplacedOrNot (IsKept old.now) (IsOldDesk old.now) (content_of old.now).roster roster (HoldsText old.now) left
-  replaced_or_not roster lives = elim (before_or (BecomesAt roster old.now) lives)
+  replaced_or_not roster lives = elim (before_or (λ trees. IsUp old × BecomesAt roster old.now trees) lives)
       as (λ _. IsReplacedOrNot (IsKept old.now) (IsOldDesk old.now) (content_of old.now).roster roster (HoldsText old.now) left) [
         | inl same ↦ (let it = again_left old.now may.0 left may.2 same in record { desk = λ is. inl (it.desk is); old = λ is. inl (it.old is) })
         | inr becomes ↦
-            (let it = becomes_left old.now may.0 left may.2 roster (becomes may.0 refl may.1.sound) in record { desk = λ is. inr it; old = λ is. inr it })
+            (let it = becomes_left old.now may.0 left may.2 roster (becomes.1 may.0 refl may.1.sound) in record { desk = λ is. inr it; old = λ is. inr it })
+      ]
+
+-- ---- the store of a database, up or not
+
+module _ (old new : State) (clean : HasCleanDisk new) (left : Left) (may : MayLeave new left) where
+  -- what might have been left before
+  abbrev sooner : old.may_leave may.0.trees → MayLeave old left
+  sooner before = (may.0, record { left = before; sound = may.1.sound }, may.2)
+
+  -- a call that commits nothing
+  pub none_more : Survives old new (λ _. ⊥) → MayLeave old left ⊎ ⊥
+  none_more lives = elim (lives.crash clean may.0.trees may.1.left) as (λ _. MayLeave old left ⊎ ⊥) [
+    | inl before ↦ inl (sooner before)
+    | inr none ↦ inr none
+  ]
+
+  pub one_more : (m : Message) → IsMessage m → (IsUp old → IsKept old.now) → Survives old new (λ trees. IsUp old × ArrivesAt (wire m) old.now trees)
+      → MayLeave old left ⊎ IsCommitted (IsUp old) (content_of old.now).roster (With (HoldsText old.now) m) left
+  one_more m is desk lives = elim (lives.crash clean may.0.trees may.1.left)
+      as (λ _. MayLeave old left ⊎ IsCommitted (IsUp old) (content_of old.now).roster (With (HoldsText old.now) m) left) [
+        | inl before ↦ inl (sooner before)
+        | inr it ↦ inr (it.0, arrives_left old.now may.0 left may.2 m is (desk it.0) (it.1 may.0 refl may.1.sound))
+      ]
+
+  pub made_more : (roster : List ℕ) → Survives old new (λ trees. IsUp old × FoundsAt roster old.now trees)
+      → MayLeave old left ⊎ IsCommitted (IsUp old) roster (λ _. ⊥) left
+  made_more roster lives = elim (lives.crash clean may.0.trees may.1.left) as (λ _. MayLeave old left ⊎ IsCommitted (IsUp old) roster (λ _. ⊥) left) [
+    | inl before ↦ inl (sooner before)
+    | inr it ↦ inr (it.0, made_left roster may.0 left may.2 (it.1 may.0 refl may.1.sound).makes)
+  ]
+
+  pub replaced_more : (roster : List ℕ) → Survives old new (λ trees. IsUp old × BecomesAt roster old.now trees)
+      → MayLeave old left ⊎ IsCommitted (IsUp old) roster (HoldsText old.now) left
+  replaced_more roster lives = elim (lives.crash clean may.0.trees may.1.left)
+      as (λ _. MayLeave old left ⊎ IsCommitted (IsUp old) roster (HoldsText old.now) left) [
+        | inl before ↦ inl (sooner before)
+        | inr it ↦ inr (it.0, becomes_left old.now may.0 left may.2 roster (it.1 may.0 refl may.1.sound))
       ]
 
 -- ---- after a commit

@@ -1,12 +1,12 @@
 -- What a crash leaves of a keeper in memory.
-use Rattle.std.proofs.Common.{◌≡◌, inl, inr, ℕ, List, [], Result, Ok, Err, refl, subst}
-use Rattle.std.specs.Prelude.{IsSome, OnErr, OnOk, Option, Some, unwrap_or}
+use Rattle.std.proofs.Common.{◌≡◌, ◌⊎◌, inl, inr, ℕ, List, [], Result, Ok, Err, refl, subst}
+use Rattle.std.specs.Prelude.{⊤, IsSome, OnErr, OnOk, Option, Some, unwrap_or}
 use Rattle.messages.specs.Wire.{IsMessage}
 use Rattle.messages.specs.declared.message.Message.{Message}
 use Rattle.desk_tables.specs.Sets.{With}
 use Rattle.desk_store.specs.private.Collected.{IsPut}
 use Rattle.desk_store.specs.Memory.{MemoryContent, Holds}
-use Rattle.desk_store.specs.Left.{Left, Nothing, ADesk, AnOldDesk, NoDesk, IsDeskOf, IsReplacedOrNot, IsWithOrWithout, LeavesOnly}
+use Rattle.desk_store.specs.Left.{Left, Nothing, ADesk, AnOldDesk, NoDesk, IsCommitted, IsDeskOf, IsReplacedOrNot, IsWithOrWithout, LeavesOnly}
 use Rattle.desk_store.specs.Crash.{LeavesContent}
 use Rattle.desk_store.proofs.MemoryLemmas.{put_adds}
 use Rattle.desk_store.proofs.SameLeft.{same_left}
@@ -34,6 +34,12 @@ module _ {A E : Type 0} (r : Option (List ℕ)) (old : List Message) (m : Messag
   put_leaves (Ok a) put same left may = inr (put_lasts (Ok a) put left may)
   put_leaves (Err e) put same left may =
       inl (let P : List Message → Type 0 = λ l. LeavesContent (kept r l) left in content_left (kept r old) left some (subst P same may))
+
+  -- the message is all that may be left besides
+  pub put_adds_only : (result : Result A E) → OnOk result (IsPut old m new) → OnErr result (new ≡ old) → (left : Left) → LeavesContent (kept r new) left
+      → LeavesContent (kept r old) left ⊎ IsCommitted ⊤ (unwrap_or r []) (With (Holds (kept r old)) m) left
+  put_adds_only (Ok a) put same left may = inr (tt, put_lasts (Ok a) put left may)
+  put_adds_only (Err e) put same left may = inl (let P : List Message → Type 0 = λ l. LeavesContent (kept r l) left in subst P same may)
 
 -- if the roster's text was replaced
 pub replaced_lasts : (r : Option (List ℕ)) (text : List ℕ) (messages : List Message)

@@ -47,11 +47,11 @@ nothing_done roster s e rests = record {
   rests = rests;
   was_up = λ up. up;
   was_clean = λ clean. clean;
-  up = λ up clean. tt;
+  up = λ clean. tt;
   becomes = λ up. tt;
   beside = λ up. tt;
   unchanged = λ up. refl;
-  survives = λ up clean. survives_same s (BecomesAt roster s.now);
+  survives = survives_same s (λ trees. IsUp s × BecomesAt roster s.now trees);
 }
 
 pub nothing_came : {A E : Type 0} (roster : List ℕ) (s : State) (r : Result A E) → IsErr r → Rests s → Replaces roster s s r
@@ -65,11 +65,11 @@ module _ {A E : Type 0} (roster : List ℕ) (a b : State) (reads : Reads a b) wh
     rests = reads.rests;
     was_up = reads.was_up;
     was_clean = reads.was_clean;
-    up = λ up clean. tt;
+    up = λ clean. tt;
     becomes = λ up. tt;
     beside = λ up. tt;
     unchanged = reads.same;
-    survives = λ up clean. survives_weaker a b (λ _. ⊥) (BecomesAt roster a.now) (λ _ db none. absurd none) (reads.survives up clean);
+    survives = survives_weaker a b (λ _. ⊥) (λ trees. IsUp a × BecomesAt roster a.now trees) (λ _ db none. absurd none) reads.survives;
   }
 
   pub read_only : (r : Result A E) → IsErr r → Replaces roster a b r
@@ -77,19 +77,18 @@ module _ {A E : Type 0} (roster : List ℕ) (a b : State) (reads : Reads a b) wh
   read_only (Err e) is = read_refused e
 
   -- a call that read, and then one that replaced
-  pub then_replaces : (c : State) (r : Result A E) → (IsUp a → HasCleanDisk b → IsUp b) → Replaces roster b c r → Replaces roster a c r
-  then_replaces c r still two = record {
+  pub then_replaces : (c : State) (r : Result A E) → Replaces roster b c r → Replaces roster a c r
+  then_replaces c r two = record {
     rests = two.rests;
     was_up = λ up. reads.was_up (two.was_up up);
     was_clean = λ clean. reads.was_clean (two.was_clean clean);
-    up = λ up clean. two.up (still up (two.was_clean clean)) clean;
+    up = two.up;
     becomes = λ up. subst (λ (d : Database). OnOk r (Becomes roster d c.now)) (reads.same (two.was_up up)) (two.becomes up);
     beside = λ up. subst (λ (d : Database). OnOk r (KeepsBeside d c.now)) (reads.same (two.was_up up)) (two.beside up);
     unchanged = λ up. subst (λ (d : Database). OnErr r (c.now ≡ d)) (reads.same (two.was_up up)) (two.unchanged up);
-    survives = λ up clean.
-        let mid = still up (two.was_clean clean) in
-        survives_then a b c (λ _. ⊥) (BecomesAt roster b.now) (BecomesAt roster a.now) (λ _ db none. absurd none)
-        (λ _ db is. subst (λ (d : Database). BecomesAt roster d db) (reads.same mid) is) (reads.survives up (two.was_clean clean)) (two.survives mid clean);
+    survives = survives_then a b c (λ _. ⊥) (λ trees. IsUp b × BecomesAt roster b.now trees) (λ trees. IsUp a × BecomesAt roster a.now trees)
+        (λ _ db none. absurd none)
+        (λ _ db is. (reads.was_up is.0, subst (λ (d : Database). BecomesAt roster d db) (reads.same is.0) is.1)) reads.survives two.survives;
   }
 
 -- ---- a desk of today
@@ -117,14 +116,17 @@ module _ {A E : Type 0} (roster : List ℕ) (old new : State) (r : Result A E) (
   pub today_beside : IsUp new → OnOk r (Spares old.now new.now) → OnOk r (KeepsBeside old.now new.now)
   today_beside up spares = ok_then r spares (spared_beside old.now new.now (kept (was_up up)).desk.tidy.desk)
 
-  pub today_survives : IsUp old → Survives old new (ChangesAt roster old.now) → Survives old new (BecomesAt roster old.now)
-  today_survives up lives =
-      let was = kept up in
-      survives_weaker old new (ChangesAt roster old.now) (BecomesAt roster old.now) (λ _ trees at db same sound.
-      let it = at db same sound in record {
-        desk = record { desk = it.desk; unmarked = unmarked_spared old.now db it.listed was.desk.tidy.desk it.foreign was.unmarked };
-        content = it.content;
-      }) lives
+  pub today_survives : Survives old new (λ trees. IsUp old × ChangesAt roster old.now trees)
+      → Survives old new (λ trees. IsUp old × BecomesAt roster old.now trees)
+  today_survives lives =
+      survives_weaker old new (λ trees. IsUp old × ChangesAt roster old.now trees) (λ trees. IsUp old × BecomesAt roster old.now trees)
+      (λ _ trees at. let was = kept at.0 in (
+        at.0,
+        λ db same sound. let it = at.1 db same sound in record {
+          desk = record { desk = it.desk; unmarked = unmarked_spared old.now db it.listed was.desk.tidy.desk it.foreign was.unmarked };
+          content = it.content;
+        },
+      )) lives
 
 -- ---- a desk of an older form
 
@@ -167,7 +169,8 @@ module _ {A E : Type 0} (roster : List ℕ) (old new : State) (r : Result A E) w
       → OnOk r (KeepsOthers old.now new.now) → OnOk r (KeepsBeside old.now new.now)
   older_beside was kept grown others = all_ok r kept grown others (migrated_beside old.now new.now was)
 
-  pub older_survives : Survives old new (MigratesAt roster old.now) → Survives old new (BecomesAt roster old.now)
+  pub older_survives : Survives old new (λ trees. IsUp old × MigratesAt roster old.now trees)
+      → Survives old new (λ trees. IsUp old × BecomesAt roster old.now trees)
   older_survives lives =
-      survives_weaker old new (MigratesAt roster old.now) (BecomesAt roster old.now) (λ _ trees at db same sound. let it = at db same sound in
-      record { desk = it.kept; content = it.content }) lives
+      survives_weaker old new (λ trees. IsUp old × MigratesAt roster old.now trees) (λ trees. IsUp old × BecomesAt roster old.now trees)
+      (λ _ trees at. (at.0, λ db same sound. let it = at.1 db same sound in record { desk = it.kept; content = it.content })) lives

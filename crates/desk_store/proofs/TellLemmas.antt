@@ -8,11 +8,22 @@ use Rattle.desk_schema.proofs.ShapeLemmas.{common_of}
 use Rattle.desk_opening.specs.declared.found.Found.{Found as InDatabase}
 use Rattle.desk_opening.specs.declared.found.Found.TheVariants as database
 use Rattle.desk_opening.specs.Opened.{FoundIn, IsDeskBesideRows, IsKept, IsOldDesk}
+use Rattle.desk_opening.specs.Opened.{IsSomeDesk as IsFoundDesk}
 use Rattle.desk_opening.proofs.OpenedLemmas.{not_old, not_vacant}
 use Rattle.desk_opening.proofs.Shown.{recorded_two}
 use Rattle.desk_store.specs.declared.found.Found.{Found}
-use Rattle.desk_store.specs.Keeping.{Tells}
+use Rattle.desk_store.specs.Keeping.{IsSomeDesk, Tells}
 use Rattle.desk_store.specs.private.Showing.{shown}
+
+-- a look that answers that there is a desk was answered so by the database
+pub live_of : {Up : Type 0} (f : InDatabase) (g : Found) → g ≡ shown f → (IsFoundDesk f → Up) → IsSomeDesk g → Up
+live_of {Up} f g is live some = go f (subst IsSomeDesk is some) live
+  where
+    go : (f : InDatabase) → IsSomeDesk (shown f) → (IsFoundDesk f → Up) → Up
+    go database.Empty none live = absurd none
+    go (database.Desk c) some live = live tt
+    go (database.Old c) some live = live tt
+    go database.NotADesk none live = absurd none
 
 module _ (db : Database) where
   pub kept_not_vacant : IsKept db → ¬ IsVacant db.schema

@@ -1,5 +1,5 @@
 -- What a look at a keeper tells, what it knows of its messages, and what a count of failures says.
-use Rattle.std.specs.Prelude.{◌≡◌, ◌⊎◌, ℕ, ◌<◌, ◌≤◌, ◌+◌, ◌-◌, ◌^◌, List, min, string_bytes}
+use Rattle.std.specs.Prelude.{◌≡◌, ◌⊎◌, ⊤, ℕ, ◌<◌, ◌≤◌, ◌+◌, ◌-◌, ◌^◌, List, min, string_bytes}
 use Rattle.messages.specs.declared.message.Message.{Message}
 use Rattle.desk_tables.specs.Sets.{Lists}
 use Rattle.outcomes.specs.Gathered.{AreGathered, Known}
@@ -13,6 +13,13 @@ Tells Empty Desk Old roster (found.Desk text) =
     Desk × (¬ Empty) × (¬ Old) × (string_bytes text ≡ roster)
 Tells Empty Desk Old roster found.OldDesk = Old × (¬ Empty) × (¬ Desk)
 Tells Empty Desk Old roster found.NotADesk = (¬ Empty) × (¬ Desk) × (¬ Old)
+
+-- a desk, of today's form or of an older one
+abbrev pub IsSomeDesk : Found → Type 0
+IsSomeDesk found.Empty = ⊥
+IsSomeDesk (found.Desk text) = ⊤
+IsSomeDesk found.OldDesk = ⊤
+IsSomeDesk found.NotADesk = ⊥
 
 -- What is known of the set's messages, in whatever order they are listed.
 abbrev pub IsKnownOf : (Message → Type 0) → Known → Type 0

@@ -65,6 +65,16 @@ IsFoundAs Empty Desk Old roster S (ADesk c) =
 IsFoundAs Empty Desk Old roster S (AnOldDesk c) = Old × (¬ Empty) × (¬ Desk) × SameSet S (HoldsIn c)
 IsFoundAs Empty Desk Old roster S NoDesk = (¬ Empty) × (¬ Desk) × (¬ Old)
 
+-- a keeper that was up committed the whole desk, with this roster text and exactly these messages
+abbrev pub IsCommitted : (Up : Type 0) → (roster : List ℕ)
+    → (messages : Message → Type 0) → Left → Type 0
+IsCommitted Up roster S left = Up × IsDeskOf roster S left
+
+-- After a call a crash may leave what it might have left before, and besides only what has the
+-- property. So what was true of all that might be left stays true, if it is true of that.
+abbrev pub AddsOnly : (Before After Property : Left → Type 0) → Type 0
+AddsOnly Before After Property = (left : Left) → After left → Before left ⊎ Property left
+
 -- everything that may be left has the property
 abbrev pub LeavesOnly : (MayLeave Property : Left → Type 0) → Type 0
 LeavesOnly MayLeave Property = (left : Left) → MayLeave left → Property left

@@ -23,7 +23,7 @@ pub(crate) fn gather_in<S: Alter>(
     requires rests { Rests (state S.Store conn.old) }
     requires kept { IsUp (state S.Store conn.old) → IsKept (state S.Store conn.old).now }
     ensures reads { Reads (state S.Store conn.old) (state S.Store conn.new) }
-    ensures up { IsUp (state S.Store conn.old) → HasCleanDisk (state S.Store conn.new)
+    ensures up { HasCleanDisk (state S.Store conn.new)
         → OnOk result (IsUp (state S.Store conn.new)) }
     ensures known { IsUp (state S.Store conn.new)
         → IfOk result (IsKnownOf (HoldsText (state S.Store conn.old).now)) }

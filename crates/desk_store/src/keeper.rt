@@ -5,9 +5,10 @@ ghost use Rattle.messages.specs.Wire.{IsMessage, wire};
 ghost use Rattle.messages.specs.declared.message.Message.{Message as AnyMessage};
 ghost use Rattle.desk_schema.specs.Beside.{TableWithRows};
 ghost use Rattle.desk_tables.specs.Sets.{IsNothing, SameSet, IsWith, Lists, With};
-ghost use Rattle.desk_store.specs.Keeping.{IsKnownOf, Tells};
-ghost use Rattle.desk_store.specs.Left.{Left, IsAsKept, IsDeskOf, IsNothingOrFresh};
-ghost use Rattle.desk_store.specs.Left.{IsReplacedOrNot, IsWithOrWithout, LeavesOnly};
+ghost use Rattle.desk_store.specs.Keeping.{IsKnownOf, IsSomeDesk, Tells};
+ghost use Rattle.desk_store.specs.Left.{Left, AddsOnly, IsAsKept, IsCommitted, IsDeskOf};
+ghost use Rattle.desk_store.specs.Left.{IsNothingOrFresh, IsReplacedOrNot, IsWithOrWithout};
+ghost use Rattle.desk_store.specs.Left.{LeavesOnly};
 ghost use Rattle.desk_store.specs.Serving.{IsServed};
 
 use crate::error::KeeperError;
@@ -29,6 +30,10 @@ use outcomes::Gathered;
 /// has been honest: what a crash may leave then, for the next opening, is all that was kept when
 /// the call began, or all that the call was to commit. A clause `lasting` says that after Ok it is
 /// only the latter, and a clause `durable` that it is what the keeper keeps, as long as it is up.
+///
+/// The clauses `live` and `leaves` hold of a keeper that is not up as well, as long as its storage
+/// has been honest: one that a failure has shut answers Ok to no call but a look, and commits
+/// nothing. So a crash leaves nothing then that it might not have left before.
 pub trait Keeper {
     /// It keeps no part of a desk.
     ghost is_empty: { Self → Type 0 };
@@ -70,9 +75,15 @@ pub trait Keeper {
         ensures same { is_up self.new → is_same self.old self.new }
         ensures served { IsServed is_up is_clean failures beside self.old self.new
             (result ≡ Err KeeperError.Storage) (IsErr result) }
+        // A look that sees no table of a desk's may run no statement: so `Empty` and `NotADesk` do
+        // not say that the keeper is up.
+        ensures live { is_clean self.new
+            → IfOk result (λ found. IsSomeDesk found → is_up self.new) }
         ensures crash { is_up self.old → is_clean self.new
             → LeavesOnly (may_leave self.new) (IsAsKept (is_empty self.old)
-            (is_desk self.old) (is_old self.old) (roster self.old) (holds self.old)) };
+            (is_desk self.old) (is_old self.old) (roster self.old) (holds self.old)) }
+        ensures leaves { is_clean self.new
+            → AddsOnly (may_leave self.old) (may_leave self.new) (λ _. ⊥) };
 
     /// Makes a desk with this roster text and no messages, in one commit.
     fn make(&mut self, text: &str) -> Result<(), KeeperError>
@@ -83,8 +94,11 @@ pub trait Keeper {
         ensures unmade { is_up self.new → OnErr result (is_same self.old self.new) }
         ensures served { IsServed is_up is_clean failures beside self.old self.new
             (result ≡ Err KeeperError.Storage) (IsErr result) }
+        ensures live { is_clean self.new → OnOk result (is_up self.new) }
         ensures crash { is_up self.old → is_clean self.new
             → LeavesOnly (may_leave self.new) (IsNothingOrFresh text.now) }
+        ensures leaves { is_clean self.new → AddsOnly (may_leave self.old) (may_leave self.new)
+            (IsCommitted (is_up self.old) text.now (λ _. ⊥)) }
         ensures lasting { is_up self.old → is_clean self.new
             → OnOk result (LeavesOnly (may_leave self.new) (IsDeskOf text.now (λ _. ⊥))) }
         ensures durable { is_up self.new
@@ -107,8 +121,11 @@ pub trait Keeper {
         ensures roster { is_up self.new → roster self.new ≡ roster self.old }
         ensures served { IsServed is_up is_clean failures beside self.old self.new
             (result ≡ Err KeeperError.Storage) (IsErr result) }
+        ensures live { is_clean self.new → OnOk result (is_up self.new) }
         ensures crash { is_up self.old → is_clean self.new → LeavesOnly (may_leave self.new)
             (IsWithOrWithout (roster self.old) (holds self.old) message.now) }
+        ensures leaves { is_clean self.new → AddsOnly (may_leave self.old) (may_leave self.new)
+            (IsCommitted (is_up self.old) (roster self.old) (With (holds self.old) message.now)) }
         ensures lasting { is_up self.old → is_clean self.new → OnOk result (LeavesOnly
             (may_leave self.new) (IsDeskOf (roster self.old) (With (holds self.old) message.now))) }
         ensures durable { is_up self.new
@@ -124,9 +141,12 @@ pub trait Keeper {
         ensures unchanged { is_up self.new → OnErr result (is_same self.old self.new) }
         ensures served { IsServed is_up is_clean failures beside self.old self.new
             (result ≡ Err KeeperError.Storage) (IsErr result) }
+        ensures live { is_clean self.new → OnOk result (is_up self.new) }
         ensures crash { is_up self.old → is_clean self.new
             → LeavesOnly (may_leave self.new) (IsReplacedOrNot (is_desk self.old)
             (is_old self.old) (roster self.old) text.now (holds self.old)) }
+        ensures leaves { is_clean self.new → AddsOnly (may_leave self.old) (may_leave self.new)
+            (IsCommitted (is_up self.old) text.now (holds self.old)) }
         ensures lasting { is_up self.old → is_clean self.new
             → OnOk result (LeavesOnly (may_leave self.new) (IsDeskOf text.now (holds self.old))) }
         ensures durable { is_up self.new
@@ -141,8 +161,11 @@ pub trait Keeper {
         ensures same { is_up self.new → is_same self.old self.new }
         ensures served { IsServed is_up is_clean failures beside self.old self.new
             (result ≡ Err KeeperError.Storage) (IsErr result) }
+        ensures live { is_clean self.new → OnOk result (is_up self.new) }
         ensures crash { is_up self.old → is_clean self.new
-            → LeavesOnly (may_leave self.new) (IsDeskOf (roster self.old) (holds self.old)) };
+            → LeavesOnly (may_leave self.new) (IsDeskOf (roster self.old) (holds self.old)) }
+        ensures leaves { is_clean self.new
+            → AddsOnly (may_leave self.old) (may_leave self.new) (λ _. ⊥) };
 
     /// The desk's messages, in an order of the keeper's own. What is kept stays as it is.
     fn messages(&mut self) -> Result<Vec<Message>, KeeperError>
@@ -151,8 +174,11 @@ pub trait Keeper {
         ensures same { is_up self.new → is_same self.old self.new }
         ensures served { IsServed is_up is_clean failures beside self.old self.new
             (result ≡ Err KeeperError.Storage) (IsErr result) }
+        ensures live { is_clean self.new → OnOk result (is_up self.new) }
         ensures crash { is_up self.old → is_clean self.new
-            → LeavesOnly (may_leave self.new) (IsDeskOf (roster self.old) (holds self.old)) };
+            → LeavesOnly (may_leave self.new) (IsDeskOf (roster self.old) (holds self.old)) }
+        ensures leaves { is_clean self.new
+            → AddsOnly (may_leave self.old) (may_leave self.new) (λ _. ⊥) };
 
     /// How many failures it has counted, up to the greatest number of 64 bits.
     fn failures(&self) -> u64

@@ -1,10 +1,11 @@
 //! A keeper in memory.
 
-ghost use Rattle.std.specs.Prelude.{◌≡◌, ◌≢◌, ⊤, [], None, AllPairs, Err, IfOk, IsSome, unwrap_or};
+ghost use Rattle.std.specs.Prelude.{◌≡◌, ◌≢◌, ⊤, [], None, AllPairs, Err, IfOk, OnOk};
+ghost use Rattle.std.specs.Prelude.{IsSome, unwrap_or};
 ghost use Rattle.desk_tables.specs.Sets.{Lists};
 ghost use Rattle.desk_store.specs.Crash.{LeavesContent};
 ghost use Rattle.desk_store.specs.Keeping.{HasFailed};
-ghost use Rattle.desk_store.specs.Left.{IsDeskOf, LeavesOnly};
+ghost use Rattle.desk_store.specs.Left.{AddsOnly, IsDeskOf, LeavesOnly};
 ghost use Rattle.desk_store.specs.declared.error.KeeperError.TheVariants as errors;
 ghost use Rattle.desk_store.specs.Memory as memory;
 
@@ -134,8 +135,10 @@ impl Keeper for MemoryKeeper {
         ensures once { IfOk result (λ list. AllPairs (λ m n. m ≢ n) list.items) }
         ensures same { self.new ≡ self.old }
         ensures cause { result ≡ Err errors.Storage → HasFailed 0 0 }
+        ensures live { OnOk result ⊤ }
         ensures crash { LeavesOnly (LeavesContent self.new)
             (IsDeskOf (unwrap_or self.old.roster []) (memory.Holds self.old)) }
+        ensures leaves { AddsOnly (LeavesContent self.old) (LeavesContent self.new) (λ _. ⊥) }
     {
         self.messages.copied()
     }

@@ -40,16 +40,22 @@ module _ (text : List ℕ) (old last end : State) (rests : Rests old) (step : Is
     receives : IsUp old → HasCleanDisk last → Receives text old.now last.now
     receives up clean = (received clean).receives (live up.is_open).0 (desk up)
 
-    -- a crash in the commit may leave the whole
-    pub arrive_survives : ((db : Trees) → P db → db ≡ last.now.trees) → IsUp old → Survives old end (ArrivesAt text old.now)
-    arrive_survives only up = survives_then old last end _ _ (ArrivesAt text old.now) (λ _ db no_such. absurd no_such)
-        (λ clean db left. let it = receives up (clean_last clean) in subst (ArrivesAt text old.now) (sym (only db left)) (λ b same sound.
-        let again' = again last.now b it.sound sound same in record {
-          desk = again'.desk it.desk;
-          content = again'.content ∙ it.content;
-          foreign = λ t there foreign. ap (λ (db : Trees). db t.tree) same ∙ it.spares.foreign t there foreign;
-          listed = subst (λ s. IsListedAs s b.schema) it.spares.schema (listed_again last.now b it.sound sound same);
-        })) survives_from ends
+    up_first : HasCleanDisk last → IsUp old
+    up_first clean = record { clean = clean_first clean; is_open = (received clean).was_open }
+
+    -- a crash in the commit may leave the whole, if the connection was up
+    pub arrive_survives : ((db : Trees) → P db → db ≡ last.now.trees) → Survives old end (λ trees. IsUp old × ArrivesAt text old.now trees)
+    arrive_survives only = survives_then old last end _ _ (λ trees. IsUp old × ArrivesAt text old.now trees) (λ _ db no_such. absurd no_such)
+        (λ clean db left. let up = up_first (clean_last clean) in let it = receives up (clean_last clean) in (
+          up,
+          subst (ArrivesAt text old.now) (sym (only db left)) (λ b same sound.
+              let again' = again last.now b it.sound sound same in record {
+                desk = again'.desk it.desk;
+                content = again'.content ∙ it.content;
+                foreign = λ t there foreign. ap (λ (db : Trees). db t.tree) same ∙ it.spares.foreign t there foreign;
+                listed = subst (λ s. IsListedAs s b.schema) it.spares.schema (listed_again last.now b it.sound sound same);
+              }),
+        )) survives_from ends
 
     module _ (ok : HasCleanDisk end → IsTrue last.in_transaction × Shows last end last.now last.now false) where
       pub commit_ends : Ends old end

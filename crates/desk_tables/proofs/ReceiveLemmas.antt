@@ -84,6 +84,7 @@ received_again a text sound is there = record {
 
 pub again : (text : List ℕ) (told : Bool) (a b : State) → told ≡ true → FindsText text told a b → Received text a b
 again text told a b is finds = record {
+  was_open = finds.begun.was_open;
   mode = finds.begun.mode;
   receives = λ sound desk. subst (Receives text a.now) (sym (finds.same desk.tidy)) (received_again a.now text sound desk (sym (finds.tells desk.tidy) ∙ is));
   repeats = λ desk there. finds.same desk.tidy;
@@ -92,6 +93,7 @@ again text told a b is finds = record {
 pub anew : (text : List ℕ) (told : Bool) (m : Message) (a z b c : State) → IsWritten text → text ≡ wire m
     → told ≡ false → FindsText text told a z → WroteText text z b → Settled m b c → Received text a c
 anew text told m a z b c written wired is finds wrote settled = record {
+  was_open = finds.begun.was_open;
   mode = settled.mode;
   receives = λ sound desk.
       let adds = subst (λ d. AddsText text d b.now) (finds.same desk.tidy) (wrote.adds (subst IsTidy (sym (finds.same desk.tidy)) desk.tidy)) in

@@ -69,6 +69,7 @@ replaces roster ms a b c utf8 is lists one two = record {
 
 pub replaced : (roster : List ℕ) (ms : List Message) (a b c : State) → IsUtf8 roster → Recorded roster a b → Renewed ms b c → Replaced roster ms a c
 replaced roster ms a b c utf8 one two = record {
+  was_open = one.was_open;
   mode = two.mode;
   replaces = λ is lists. let first = one.records is in replaces roster ms a.now b.now c.now utf8 is lists first (two.renews first.tidy);
 }
@@ -95,16 +96,22 @@ module _ (roster : List ℕ) (old last end : State) (rests : Rests old) (step : 
     does : IsUp old → HasCleanDisk last → Replaces roster old.now last.now
     does up clean = (received clean).replaces (desk up) (lists up)
 
-    -- a crash in the commit may leave the whole
-    pub replace_survives : ((db : Trees) → P db → db ≡ last.now.trees) → IsUp old → Survives old end (ChangesAt roster old.now)
-    replace_survives only up = survives_then old last end _ _ (ChangesAt roster old.now) (λ _ db no_such. absurd no_such)
-        (λ clean db left. let it = does up (clean_last clean) in subst (ChangesAt roster old.now) (sym (only db left)) (λ b same sound.
-        let again' = again last.now b it.sound sound same in record {
-          desk = again'.desk it.desk;
-          content = again'.content ∙ it.content;
-          foreign = λ t there foreign. ap (λ (db : Trees). db t.tree) same ∙ it.spares.foreign t there foreign;
-          listed = subst (λ s. IsListedAs s b.schema) it.spares.schema (listed_again last.now b it.sound sound same);
-        })) survives_from ends
+    up_first : HasCleanDisk last → IsUp old
+    up_first clean = record { clean = clean_first clean; is_open = (received clean).was_open }
+
+    -- a crash in the commit may leave the whole, if the connection was up
+    pub replace_survives : ((db : Trees) → P db → db ≡ last.now.trees) → Survives old end (λ trees. IsUp old × ChangesAt roster old.now trees)
+    replace_survives only = survives_then old last end _ _ (λ trees. IsUp old × ChangesAt roster old.now trees) (λ _ db no_such. absurd no_such)
+        (λ clean db left. let up = up_first (clean_last clean) in let it = does up (clean_last clean) in (
+          up,
+          subst (ChangesAt roster old.now) (sym (only db left)) (λ b same sound.
+              let again' = again last.now b it.sound sound same in record {
+                desk = again'.desk it.desk;
+                content = again'.content ∙ it.content;
+                foreign = λ t there foreign. ap (λ (db : Trees). db t.tree) same ∙ it.spares.foreign t there foreign;
+                listed = subst (λ s. IsListedAs s b.schema) it.spares.schema (listed_again last.now b it.sound sound same);
+              }),
+        )) survives_from ends
 
     module _ (ok : HasCleanDisk end → IsTrue last.in_transaction × Shows last end last.now last.now false) where
       pub commit_ends : Ends old end

@@ -133,6 +133,7 @@ roster_written old new roster count tidy none h =
 
 pub recorded_anew : (roster : List ℕ) (a b c : State) → Marked IsKeyed IsBare a b → Marked IsBare (Says roster) b c → Recorded roster a c
 recorded_anew roster a b c emptied put = record {
+  was_open = emptied.inside.was_open;
   mode = put.inside.mode;
   records = λ is.
       let one = emptied.marks is.tidy (keyed_marked (table_in a.now (codes "desk")) is.marked.0 is.marked.1) in

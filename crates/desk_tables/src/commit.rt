@@ -42,7 +42,7 @@ pub fn arrive<S: Alter>(
     ensures was_up { IsUp (state S.Store conn.new) → IsUp (state S.Store conn.old) }
     ensures was_clean { HasCleanDisk (state S.Store conn.new)
         → HasCleanDisk (state S.Store conn.old) }
-    ensures up { IsUp (state S.Store conn.old) → HasCleanDisk (state S.Store conn.new)
+    ensures up { HasCleanDisk (state S.Store conn.new)
         → OnOk result (IsUp (state S.Store conn.new)) }
     ensures desk { IsUp (state S.Store conn.new) → IsDeskDatabase (state S.Store conn.new).now }
     ensures arrived { IsUp (state S.Store conn.new)
@@ -55,8 +55,9 @@ pub fn arrive<S: Alter>(
         → OnOk result (Spares (state S.Store conn.old).now (state S.Store conn.new).now) }
     ensures unchanged { IsUp (state S.Store conn.new)
         → OnErr result ((state S.Store conn.new).now ≡ (state S.Store conn.old).now) }
-    ensures survives { IsUp (state S.Store conn.old) → Survives (state S.Store conn.old)
-        (state S.Store conn.new) (ArrivesAt body.now (state S.Store conn.old).now) }
+    // A connection that is not up commits nothing.
+    ensures survives { Survives (state S.Store conn.old) (state S.Store conn.new) (λ trees.
+        IsUp (state S.Store conn.old) × ArrivesAt body.now (state S.Store conn.old).now trees) }
 {
     obeys(conn);
     let mut tx = conn.transaction();
@@ -83,7 +84,7 @@ pub fn replace<S: Alter>(
     ensures was_up { IsUp (state S.Store conn.new) → IsUp (state S.Store conn.old) }
     ensures was_clean { HasCleanDisk (state S.Store conn.new)
         → HasCleanDisk (state S.Store conn.old) }
-    ensures up { IsUp (state S.Store conn.old) → HasCleanDisk (state S.Store conn.new)
+    ensures up { HasCleanDisk (state S.Store conn.new)
         → OnOk result (IsUp (state S.Store conn.new)) }
     ensures desk { IsUp (state S.Store conn.new) → IsDeskDatabase (state S.Store conn.new).now }
     ensures replaced { IsUp (state S.Store conn.new)
@@ -93,8 +94,9 @@ pub fn replace<S: Alter>(
         → OnOk result (Spares (state S.Store conn.old).now (state S.Store conn.new).now) }
     ensures unchanged { IsUp (state S.Store conn.new)
         → OnErr result ((state S.Store conn.new).now ≡ (state S.Store conn.old).now) }
-    ensures survives { IsUp (state S.Store conn.old) → Survives (state S.Store conn.old)
-        (state S.Store conn.new) (ChangesAt roster.now (state S.Store conn.old).now) }
+    // A connection that is not up commits nothing.
+    ensures survives { Survives (state S.Store conn.old) (state S.Store conn.new) (λ trees.
+        IsUp (state S.Store conn.old) × ChangesAt roster.now (state S.Store conn.old).now trees) }
 {
     let mut tx = conn.transaction();
     replace_within(alloc, &mut tx, roster, messages)?;

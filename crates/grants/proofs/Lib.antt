@@ -16,6 +16,7 @@ pub mod NthLemmas
 pub mod StatusLemmas
 pub mod StatusLaws
 pub mod CountingLaws
+pub mod WeightLaws
 pub mod ApprovalLemmas
 pub mod MemberCases
 pub mod NthSmallest

@@ -106,7 +106,7 @@ pub approved_people : (f : RosterFields Cmnd) (c : CeilingFields Cmnd) (set : Li
 approved_people f c set q moment at a =
     subst (λ (d : CeilingFields Cmnd). AtLeast d.needs (HasGiven f set q kinds.Approve moment)) (one_ceiling f q c a.ceiling at a.ceiling_is) a.people
 
-completes : (f : RosterFields Cmnd) (c : CeilingFields Cmnd) (set : List Message) (k : Kept)
+pub completes : (f : RosterFields Cmnd) (c : CeilingFields Cmnd) (set : List Message) (k : Kept)
     → IsUnder f k.request c → 1 ≤ c.needs → StandsFor set k → Completes f set k.request (completion f c k)
 completes f c set k at some s = of (completion f c k) (nth_given f c set k.request kinds.Approve k.approvals at s.approvals c.needs some)
   where

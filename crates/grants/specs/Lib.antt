@@ -7,6 +7,7 @@ pub mod WorkedAdmission
 -- statuses: which verdicts count, what the messages about a name come to, and definitions for its
 -- laws
 pub mod Verdicts
+pub mod Weights
 pub mod Statuses
 pub mod Completion
 pub mod Counting

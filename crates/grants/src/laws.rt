@@ -12,6 +12,8 @@ pub use crate::status_laws::{
     bounds_of_window, completion_is_nth_smallest, one_status, order_is_free, rights_of_the_moment,
     uncounted_changes_nothing, who_does_not_count, worked_days, worked_statuses,
 };
+// what a verdict weighs
+pub use crate::weight_laws::{when_it_weighs_what, worked_weights};
 // windows, and past moments
 pub use crate::moment_laws::{past_is_not_rewritten, window_is_unbroken};
 // summaries

@@ -19,6 +19,8 @@ mod status_laws;
 mod summary;
 mod summary_laws;
 mod voters;
+mod weighing;
+mod weight_laws;
 mod within;
 mod within_laws;
 
@@ -30,7 +32,8 @@ pub use host_file::host_policy;
 pub use lines::push_lines;
 pub use marks::Mark;
 pub use outcome::{Status, Window};
-pub use request_status::status;
+pub use request_status::{completed_at, status};
 pub use rules::{grant_rules, rules_of};
 pub use summary::{Summary, apply, ask, ask_again, dispute};
+pub use weighing::{Weight, weigh, weight_of};
 pub use within::is_inside;

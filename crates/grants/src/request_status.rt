@@ -1,6 +1,6 @@
 //! What the messages about a request come to.
 
-ghost use Rattle.std.specs.Prelude.{◌≡◌, ◌≤◌, List, max, Some, IfSome, IfNone};
+ghost use Rattle.std.specs.Prelude.{◌≡◌, ◌≤◌, List, max, Some, IfSome, IfNone, MatchOption};
 ghost use Rattle.messages.specs.Names.{name_of};
 ghost use Rattle.messages.specs.declared.message.Message.{Message as AnyMessage};
 ghost use Rattle.messages.specs.declared.kind.VerdictKind.TheVariants as kinds;
@@ -8,8 +8,9 @@ ghost use Rattle.grants.specs.Admission.{AdmitsRequest};
 ghost use Rattle.grants.specs.private.Firsts.{has_counting};
 ghost use Rattle.grants.specs.private.Status as of_status;
 ghost use Rattle.grants.specs.private.Status.{IsAdmittedUnder};
-ghost use Rattle.grants.specs.Statuses.{IsStatus};
+ghost use Rattle.grants.specs.Statuses.{IsStatus, NeverComplete};
 ghost use Rattle.grants.specs.Summaries.{StandsFor};
+ghost use Rattle.grants.specs.Verdicts.{IsComplete};
 ghost use Rattle.grants.specs.private.Voters.{counting};
 
 use crate::admission::admit_request;
@@ -159,6 +160,18 @@ fn ceiling_of<'r>(roster: &'r Roster, request: &Request) -> Option<&'r Ceiling>
     match admit_request(roster, request) {
         Ok(()) => roster.ceiling(request.ceiling()),
         Err(_) => None,
+    }
+}
+
+/// When enough people have approved the request, if they ever have. It takes no memory.
+pub fn completed_at(roster: &Roster, s: &Summary) -> Option<Moment>
+    ensures { (set : List AnyMessage) → StandsFor set s.now → MatchOption result
+        (NeverComplete roster.now.says set s.now.request)
+        (IsComplete roster.now.says set s.now.request) }
+{
+    match roster.ceiling(s.request.ceiling()) {
+        Some(ceiling) => completion(roster, ceiling, s),
+        None => None,
     }
 }
 

@@ -4,6 +4,7 @@ ghost use Rattle.std.specs.Prelude.{◌≡◌};
 ghost use Rattle.grants.specs.private.Voters.{counting};
 
 use crate::marks::Mark;
+use crate::weighing::{Weight, weight_of};
 use messages::VerdictKind;
 use roster::{Ceiling, Roster};
 use sudo_words::Name;
@@ -24,11 +25,6 @@ impl<'a> Voters<'a> {
         ensures { result ≡ counting self.now mark.now }
     {
         let (person, at) = (&mark.person, mark.at);
-        match self.kind {
-            VerdictKind::Approve | VerdictKind::Refuse => {
-                self.roster.eligible(person, self.asker, self.ceiling, at)
-            }
-            VerdictKind::Revoke => self.roster.may_revoke(person, self.asker, self.ceiling, at),
-        }
+        weight_of(self.roster, self.ceiling, self.kind, person, self.asker, at) == Weight::Counts
     }
 }

@@ -169,7 +169,7 @@ gathered_from set s w by = record {
 }
 
 -- The map has each summary in the list at its request's name.
-kept_at : (set : List Message) (s : Summaries) → Gathers set s → (k : Kept) → Contains (values s) k → at_name s (name_of k.request) ≡ Some k
+pub kept_at : (set : List Message) (s : Summaries) → Gathers set s → (k : Kept) → Contains (values s) k → at_name s (name_of k.request) ≡ Some k
 kept_at set s g k m =
     let entry = value_from_entry s.entries k m in
     let there : at_name s entry.0.0 ≡ Some k = at_entry s g.ordered entry.0 entry.1 ∙ ap (λ (x : Kept). Some x) entry.2 in

@@ -5,7 +5,7 @@ use Rattle.std.specs.Prelude.{◌↔◌, Contains, filter}
 use Rattle.std.specs.List.{AllByRecursion}
 use Rattle.std.specs.BTreeMap.{BTreeMap, values}
 use Rattle.std.proofs.lemmas.Bool.{leb-true, le-leb}
-use Rattle.std.proofs.lemmas.List.{length-map, map-append}
+use Rattle.std.proofs.lemmas.List.{append-nil, length-map, map-append}
 use Rattle.std.proofs.lemmas.List.Elements.{All-contains, filter_agree}
 use Rattle.sudo_words.specs.Word.{is_host_name}
 use Rattle.sudo_words.specs.Command.{IsLawful}
@@ -30,7 +30,8 @@ use Rattle.grants.specs.GrantRules.{IsGrantRule, rules_for}
 use Rattle.grants.specs.Summaries.{Kept}
 use Rattle.grants.specs.GrantLines as written
 use Rattle.grants.proofs.LawfulRules.{extended_policy}
-use Rattle.outcomes.specs.private.Behind.{AreBehind, rules_left}
+use Rattle.outcomes.specs.private.Behind.{AreBehind, AreNamesLines, rules_left}
+use Rattle.outcomes.specs.private.ByHost.{if_kept}
 use Rattle.outcomes.specs.private.ByName.{Gathers}
 use Rattle.outcomes.specs.private.InTurn.{Give}
 use Rattle.messages.specs.declared.request_name.RequestName.{RequestName}
@@ -42,8 +43,8 @@ use Rattle.outcomes.specs.HostFile.{Line, IsLine, LinePrecedes, AreLines, IsHost
 use Rattle.outcomes.specs.LinesLeft.{IsFileLeft, IsPast, lines_left, stays}
 use Rattle.outcomes.specs.Rights.{GivesRights, GivesRightsAfter}
 use Rattle.outcomes.proofs.Filters.{all_left, kept, passes, was_there}
-use Rattle.outcomes.proofs.GivenLists.{all_both, is_roll, one_given}
-use Rattle.outcomes.proofs.HostLines.{are_lines, left_given, rule_in}
+use Rattle.outcomes.proofs.GivenLists.{IsHostRoll, all_both, one_given}
+use Rattle.outcomes.proofs.HostLines.{are_host_lines, left_given, rule_in}
 use Rattle.outcomes.proofs.Headline.{SpeakFor, all_speak, bare_as_base, covered_allowed, entries_of_rules, left_speak}
 use Rattle.outcomes.proofs.Membership.{Contains-head, Contains-behind, Contains-from_get}
 use Rattle.outcomes.proofs.Orders.{lines_strict, same_lists}
@@ -71,11 +72,11 @@ one_file_after f base set host moment x y a b =
 abbrev pub HasRules : RosterFields Cmnd → List Message → List ℕ → Option ℕ → List Rule → Type 0
 HasRules f set host after rules = (lines : List Line) × AreLines f set host lines × (rules ≡ map rule_in (lines_left after lines))
 
-pub has_rules : (f : RosterFields Cmnd) (set : List Message) (host : List ℕ) (after : Option ℕ) (m : BTreeMap RequestName Kept) (rules : List Rule)
-    → Gathers set m → Give f set (rules_left after host) (values m) rules → HasRules f set host after rules
-has_rules f set host after m rules g given =
-    let found = left_given f set host after (values m) rules given in
-    (found.0, are_lines f set host (values m) (is_roll set m g) found.0 found.1, found.2)
+pub has_rules : (f : RosterFields Cmnd) (set : List Message) (host : List ℕ) (after : Option ℕ) (ks : List Kept) (rules : List Rule)
+    → IsHostRoll set host ks → Give f set (rules_left after host) ks rules → HasRules f set host after rules
+has_rules f set host after ks rules roll given =
+    let found = left_given f set host after ks rules given in
+    (found.0, are_host_lines f set host ks roll found.0 found.1, found.2)
 
 pub extended : (base : List Entry) (rules : List Rule) (lines : List Line) → rules ≡ map rule_in lines → with_rules base rules ≡ with_lines base lines
 extended base rules lines e =
@@ -136,21 +137,36 @@ one_behind f set host after seen k first old new count more before w =
       rw (before.4, w.added.count_is) (sym (length-append rules here)),
     )
 
+-- or nothing, where the name has none
+pub named_behind : (f : RosterFields Cmnd) (set : List Message) (host : List ℕ) (after : Option ℕ) (seen : List Kept)
+    (o : Option Kept) (first old new : List ℕ) (count more : ℕ) → (rules : List Rule) × Give f set (rules_left after host) seen rules
+    × AllByRecursion IsGrantRule rules × (old ≡ first ++ canon (map entries.Rule rules)) × (count ≡ length rules)
+    → AreNamesLines f set host after o old new more → (all : List Rule) × Give f set (rules_left after host) (seen ++ if_kept o) all
+    × AllByRecursion IsGrantRule all × (new ≡ first ++ canon (map entries.Rule all)) × (count + more ≡ length all)
+named_behind f set host after seen None first old new count more before w = (
+  before.0,
+  subst (λ (ks : List Kept). Give f set (rules_left after host) ks before.0) (sym (append-nil seen)) before.1,
+  before.2,
+  w.0 ∙ before.3,
+  omega (arith, before.4, w.1),
+)
+named_behind f set host after seen (Some k) first old new count more before w = one_behind f set host after seen k first old new count more before w
+
 -- the base's text and the lines after it are the file
-pub is_file_left : (f : RosterFields Cmnd) (base : List Entry) (set : List Message) (host : List ℕ) (after : Option ℕ) (m : BTreeMap RequestName Kept)
-    (text : List ℕ) → FitsBase base → Gathers set m → AreBehind f set host after (values m) (canon base) text → IsFileLeft f base set host after text
-is_file_left f base set host after m text fits g b =
+pub is_file_left : (f : RosterFields Cmnd) (base : List Entry) (set : List Message) (host : List ℕ) (after : Option ℕ) (ks : List Kept)
+    (text : List ℕ) → FitsBase base → IsHostRoll set host ks → AreBehind f set host after ks (canon base) text → IsFileLeft f base set host after text
+is_file_left f base set host after ks text fits roll b =
     let spelled = canon_spells (with_rules base b.rules) (extended_policy base b.rules fits b.few b.grants) in
     let is : text ≡ canon (with_rules base b.rules) = b.text_is ∙ sym (canon_both base (map entries.Rule b.rules)) in
-    is_left f base set host after text b.rules (has_rules f set host after m b.rules g b.given) is
+    is_left f base set host after text b.rules (has_rules f set host after ks b.rules roll b.given) is
     (subst (λ (t : List ℕ). Spells t (with_rules base b.rules)) (sym is) spelled)
 
 -- and in that case they are not too many
 pub not_past :
-    (f : RosterFields Cmnd) (set : List Message) (host : List ℕ) (after : Option ℕ) (m : BTreeMap RequestName Kept) (old new : List ℕ) (lines : List Line)
-    → Gathers set m → AreBehind f set host after (values m) old new → AreLines f set host lines → 8_192 < length (lines_left after lines) → ⊥
-not_past f set host after m old new lines g b are past =
-    omega (arith, past, b.few, same_count f set host after b.rules lines (has_rules f set host after m b.rules g b.given) are)
+    (f : RosterFields Cmnd) (set : List Message) (host : List ℕ) (after : Option ℕ) (ks : List Kept) (old new : List ℕ) (lines : List Line)
+    → IsHostRoll set host ks → AreBehind f set host after ks old new → AreLines f set host lines → 8_192 < length (lines_left after lines) → ⊥
+not_past f set host after ks old new lines roll b are past =
+    omega (arith, past, b.few, same_count f set host after b.rules lines (has_rules f set host after ks b.rules roll b.given) are)
 
 -- if the lines are few enough, only want of memory is a reason to have none
 pub memory_alone : (f : RosterFields Cmnd) (set : List Message) (host : List ℕ) (after : Option ℕ) (e : HostFault) (lines : List Line)

@@ -1,5 +1,5 @@
 -- What the summaries of a set give in turn.
-use Rattle.std.proofs.Common.{◌≡◌, List, [], ◌∷◌, ◌++◌, Option, Some, None, refl, sym, ap, ◌∙◌, subst, inl, inr, append_assoc}
+use Rattle.std.proofs.Common.{◌≡◌, ℕ, List, [], ◌∷◌, ◌++◌, Option, Some, None, refl, sym, ap, ◌∙◌, subst, inl, inr, append_assoc}
 use Rattle.std.proofs.lemmas.List.{append-nil}
 use Rattle.std.specs.List.{Contains, AllByRecursion}
 use Rattle.std.specs.List.Sorted.{IsStrictlySortedBy}
@@ -96,6 +96,16 @@ pub record IsRoll (set : List Message) (ks : List Kept) : Type 0 where
 pub is_roll : (set : List Message) (m : BTreeMap RequestName Kept) → Gathers set m → IsRoll set (values m)
 is_roll set m g =
     record { in_order = kept_in_order set m g; stands = kept_stands set m g; alone = kept_alone set m g }
+
+-- The same of a host: a request that stands alone and lists the host is the request of one of them.
+pub record IsHostRoll (set : List Message) (host : List ℕ) (ks : List Kept) : Type 0 where
+  pub in_order : AreInOrder SummaryPrecedes ks
+  pub stands : (k : Kept) → Contains ks k → StandsFor set k
+  pub alone : (q : RequestFields) → StandsAlone set q → Contains q.hosts host → (k : Kept) × Contains ks k × (k.request ≡ q)
+
+pub is_host_roll : (set : List Message) (host : List ℕ) (ks : List Kept) → IsRoll set ks → IsHostRoll set host ks
+is_host_roll set host ks roll =
+    record { in_order = roll.in_order; stands = roll.stands; alone = λ q alone lists. roll.alone q alone }
 
 -- ---- one turn of a loop over them
 

@@ -25,7 +25,7 @@ use Rattle.messages.specs.Order.{AllAfter, AreInOrder}
 use Rattle.outcomes.specs.HostFile.{Line, IsLine, LinePrecedes, AreLines}
 use Rattle.outcomes.specs.LinesLeft.{lines_left, stays}
 use Rattle.outcomes.proofs.Filters.{kept, left_in_order, left_of_given, left_of_map, passes, was_there}
-use Rattle.outcomes.proofs.GivenLists.{IsRoll, given_by, given_in_order, gives}
+use Rattle.outcomes.proofs.GivenLists.{IsHostRoll, IsRoll, given_by, given_in_order, gives, is_host_roll}
 use Rattle.outcomes.proofs.Membership.{no_member, Contains-head, Contains-behind, Contains-cases, member_from_test, test_from_member}
 use Rattle.outcomes.proofs.Orders.{lines_strict, no_longer, ordered_front}
 
@@ -256,10 +256,10 @@ module _ (f : RosterFields Cmnd) (set : List Message) (host : List ℕ) where
       subst (λ (b : Bool). Contains (cond b (cmnd_lines host q l.first l.last 0 q.cmnds) []) line)
       (sym (test_from_member q.hosts host l.names_host)) (subst (λ (x : Line). Contains (cmnd_lines host q l.first l.last 0 q.cmnds) x) same there)
 
-  module _ (ks : List Kept) (roll : IsRoll set ks) where
+  module _ (ks : List Kept) (roll : IsHostRoll set host ks) where
     all_lines : (lines : List Line) → Give f set (lines_for host) ks lines → (line : Line) → IsLine f set host line → Contains lines line
     all_lines lines given line l =
-        let found = roll.alone l.request l.first_is.inside.alone in
+        let found = roll.alone l.request l.first_is.inside.alone l.names_host in
         let k = found.0 in
         let status : Status = Granted (record { start = l.first; end = l.last }) in
         let is =
@@ -267,21 +267,25 @@ module _ (f : RosterFields Cmnd) (set : List Message) (host : List ℕ) where
         gives f set (lines_for host) ks lines given k found.1 status is line
         (subst (λ (q : RequestFields). Contains (lines_for host q status) line) (sym found.2) (line_inside line l))
 
-    pub are_lines : (lines : List Line) → Give f set (lines_for host) ks lines → AreLines f set host lines
-    are_lines lines given =
+    pub are_host_lines : (lines : List Line) → Give f set (lines_for host) ks lines → AreLines f set host lines
+    are_host_lines lines given =
         record { in_order = lines_ordered ks lines roll.in_order given; each = each_line ks lines roll.stands given; all = all_lines lines given }
 
-    -- the first few summaries leave no more lines than the set does
-    pub some_lines : (after : Option ℕ) (seen rest : List Kept) (rules : List Rule) (all : List Line) → seen ++ rest ≡ ks
-        → Give f set (rules_left after host) seen rules → AreLines f set host all → length rules ≤ length (lines_left after all)
-    some_lines after seen rest rules all split given are =
-        let found = left_given f set host after seen rules given in
-        let ordered = ordered_front SummaryPrecedes seen rest (subst (AreInOrder SummaryPrecedes) (sym split) roll.in_order) in
-        let stands : (k : Kept) → Contains seen k → StandsFor set k =
-        λ k h. roll.stands k (subst (λ (l : List Kept). Contains l k) split (Contains-append_left seen rest k h)) in
-        let p : Line → Bool = λ line. stays after line.rule in
-        let inside : (line : Line) → Contains (lines_left after found.0) line → Contains (lines_left after all) line =
-        λ line h. kept p all line (are.all line (each_line seen found.0 stands found.1 line (was_there p found.0 line h))) (passes p found.0 line h) in
-        let fewer = no_longer LinePrecedes lines_strict (lines_left after found.0) (lines_left after all)
-        (left_in_order p LinePrecedes found.0 (lines_ordered seen found.0 ordered found.1)) (left_in_order p LinePrecedes all are.in_order) inside in
-        omega (arith, fewer, ap length found.2, length-map (lines_left after found.0) rule_in)
+  -- the first few summaries leave no more lines than the set does
+  pub some_lines : (ks : List Kept) → AreInOrder SummaryPrecedes ks → ((k : Kept) → Contains ks k → StandsFor set k)
+      → (after : Option ℕ) (seen rest : List Kept) (rules : List Rule) (all : List Line) → seen ++ rest ≡ ks
+      → Give f set (rules_left after host) seen rules → AreLines f set host all → length rules ≤ length (lines_left after all)
+  some_lines ks in_order stands_all after seen rest rules all split given are =
+      let found = left_given f set host after seen rules given in
+      let ordered = ordered_front SummaryPrecedes seen rest (subst (AreInOrder SummaryPrecedes) (sym split) in_order) in
+      let stands : (k : Kept) → Contains seen k → StandsFor set k =
+      λ k h. stands_all k (subst (λ (l : List Kept). Contains l k) split (Contains-append_left seen rest k h)) in
+      let p : Line → Bool = λ line. stays after line.rule in
+      let inside : (line : Line) → Contains (lines_left after found.0) line → Contains (lines_left after all) line =
+      λ line h. kept p all line (are.all line (each_line seen found.0 stands found.1 line (was_there p found.0 line h))) (passes p found.0 line h) in
+      let fewer = no_longer LinePrecedes lines_strict (lines_left after found.0) (lines_left after all)
+      (left_in_order p LinePrecedes found.0 (lines_ordered seen found.0 ordered found.1)) (left_in_order p LinePrecedes all are.in_order) inside in
+      omega (arith, fewer, ap length found.2, length-map (lines_left after found.0) rule_in)
+
+  pub are_lines : (ks : List Kept) → IsRoll set ks → (lines : List Line) → Give f set (lines_for host) ks lines → AreLines f set host lines
+  are_lines ks roll lines given = are_host_lines ks (is_host_roll set host ks roll) lines given

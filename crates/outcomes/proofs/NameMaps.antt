@@ -21,7 +21,7 @@ pub names_total : IsTotalOrder name_cmp
 names_total =
     then_total (on_total (λ (k : RequestName). k.by) nat_list_cmp_total) (on_total (λ (k : RequestName). k.no) nat_cmp_total)
 
-same_from_equal : (a b : RequestName) → name_cmp a b ≡ Equal → a ≡ b
+pub same_from_equal : (a b : RequestName) → name_cmp a b ≡ Equal → a ≡ b
 same_from_equal a b h =
     let pairs : ◌≡◌ {A = List ℕ × ℕ} (a.by, a.no) (b.by, b.no) =
     exact_pairs (slice_cmp nat_cmp) nat_cmp exact_bytes exact_unsigned (a.by, a.no) (b.by, b.no) h in
@@ -31,7 +31,7 @@ equal_itself : (a : RequestName) → name_cmp a a ≡ Equal
 equal_itself a =
     ap (λ (o : Ordering). ordering_then o (nat_cmp a.no a.no)) (tied_itself nat_list_cmp_total a.by) ∙ tied_itself nat_cmp_total a.no
 
-equal_from_test : (o : Ordering) → is_eq o ≡ true → o ≡ Equal
+pub equal_from_test : (o : Ordering) → is_eq o ≡ true → o ≡ Equal
 equal_from_test Less h = absurd cc
 equal_from_test Equal h = refl
 equal_from_test Greater h = absurd cc

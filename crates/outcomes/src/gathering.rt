@@ -15,28 +15,33 @@ ghost use Rattle.outcomes.specs.Gathered.{AreGathered};
 ghost use Rattle.outcomes.specs.private.ByName.{AreAlone, AreByName, Gathers};
 ghost use Rattle.outcomes.specs.private.ByName.{GathersRows, HasNoVerdict, IsByName};
 ghost use Rattle.outcomes.specs.private.ByName.{IsRowOf, at_name, verdicts_at};
+ghost use Rattle.outcomes.specs.private.ByHost.{AreListed, Hosts};
 
+use crate::by_host::list_hosts;
 use grants::{Summary, apply, ask, ask_again, dispute};
 use messages::{Message, NameRow, Request, RequestName, Verdict};
 use std::alloc::Global;
-use std::collections::BTreeMap;
+use std::collections::{BTreeMap, BTreeSet};
 use std::marker::Model;
-use sudo_words::NoMemory;
+use sudo_words::{HostName, NoMemory};
 
 /// What is known of a set of messages: a summary for each name that somebody asks under, and the
 /// verdicts that wait for their request. Both are kept by name: a verdict is kept as it is until
-/// its request comes, and is part of the summary from then on.
+/// its request comes, and is part of the summary from then on. The index has, for each host, the
+/// names of the requests that list it, so that a host's file costs what the host has.
 #[derive(Drop)]
 pub struct Gathered {
     pub(crate) alloc: Global,
     pub(crate) summaries: BTreeMap<RequestName, Summary>,
     pub(crate) waiting: BTreeMap<RequestName, Vec<Verdict>>,
+    pub(crate) hosts: BTreeMap<HostName, BTreeSet<RequestName>>,
 }
 
 impl Model for Gathered {
     ghost use Rattle.std.specs.BTreeMap.{values};
     ghost use Rattle.outcomes.specs.Gathered.{Known};
     ghost use Rattle.outcomes.specs.private.ByName.{IsByName, in_turn};
+    ghost use Rattle.outcomes.specs.private.ByHost.{AreListed};
 
     ghost Value = { Known };
 
@@ -45,7 +50,7 @@ impl Model for Gathered {
       waiting = in_turn (values g.waiting);
     } };
 
-    ghost invariant = { λ g. IsByName g.summaries g.waiting };
+    ghost invariant = { λ g. IsByName g.summaries g.waiting × AreListed g.hosts g.summaries };
 }
 
 /// The verdicts that wait under a name.
@@ -73,22 +78,27 @@ fn first_of(alloc: Global, request: &Request, verdicts: &[Verdict]) -> Result<Su
 }
 
 /// Adds the first request of its name: the verdicts that waited for it are part of its summary, and
-/// wait no longer.
+/// wait no longer. Its name is listed at each of its hosts first: if memory runs out later, a name
+/// that has no summary may stay listed, which no answer shows.
 fn put_first(
     alloc: Global,
     summaries: &mut BTreeMap<RequestName, Summary>,
     waiting: &mut BTreeMap<RequestName, Vec<Verdict>>,
+    hosts: &mut BTreeMap<HostName, BTreeSet<RequestName>>,
     name: RequestName,
     request: &Request,
 ) -> Result<(), NoMemory>
     requires known { IsByName summaries.old waiting.old }
     requires named { name ≡ name_of request.now }
     requires first { at_name summaries.old name ≡ None }
-    ensures { (set : List AnyMessage) → AreByName set summaries.old waiting.old → MatchResult result
+    ensures listed { AreListed hosts.old summaries.old → AreListed hosts.new summaries.new }
+    ensures known { (set : List AnyMessage) → AreByName set summaries.old waiting.old
+        → MatchResult result
         (λ _. AreByName (set ++ message_of.Request request.now ∷ []) summaries.new waiting.new)
         (λ _. AreByName set summaries.new waiting.new) }
 {
     let summary = first_of(alloc, request, waited(waiting, &name))?;
+    list_hosts(alloc, hosts, request.hosts(), &name)?;
     let settled = name.clone()?;
     summaries.insert(name, summary)?;
     let _part_of_it = waiting.remove(&settled);
@@ -100,10 +110,13 @@ fn put_request(
     alloc: Global,
     summaries: &mut BTreeMap<RequestName, Summary>,
     waiting: &mut BTreeMap<RequestName, Vec<Verdict>>,
+    hosts: &mut BTreeMap<HostName, BTreeSet<RequestName>>,
     request: &Request,
 ) -> Result<(), NoMemory>
     requires { IsByName summaries.old waiting.old }
-    ensures { (set : List AnyMessage) → AreByName set summaries.old waiting.old → MatchResult result
+    ensures listed { AreListed hosts.old summaries.old → AreListed hosts.new summaries.new }
+    ensures known { (set : List AnyMessage) → AreByName set summaries.old waiting.old
+        → MatchResult result
         (λ _. AreByName (set ++ message_of.Request request.now ∷ []) summaries.new waiting.new)
         (λ _. AreByName set summaries.new waiting.new) }
 {
@@ -113,7 +126,7 @@ fn put_request(
             ask_again(summary, request);
             Ok(())
         }
-        None => put_first(alloc, summaries, waiting, name, request),
+        None => put_first(alloc, summaries, waiting, hosts, name, request),
     }
 }
 
@@ -151,7 +164,10 @@ fn put_verdict(
     verdict: &Verdict,
 ) -> Result<(), NoMemory>
     requires { IsByName summaries.old waiting.old }
-    ensures { (set : List AnyMessage) → AreByName set summaries.old waiting.old → MatchResult result
+    ensures listed { (hosts : Hosts) → AreListed hosts summaries.old
+        → AreListed hosts summaries.new }
+    ensures known { (set : List AnyMessage) → AreByName set summaries.old waiting.old
+        → MatchResult result
         (λ _. AreByName (set ++ message_of.Verdict verdict.now ∷ []) summaries.new waiting.new)
         (λ _. AreByName set summaries.new waiting.new) }
 {
@@ -180,8 +196,10 @@ fn summary_of(alloc: Global, row: &NameRow) -> Result<Summary, NoMemory>
 fn put_row(
     alloc: Global,
     summaries: &mut BTreeMap<RequestName, Summary>,
+    hosts: &mut BTreeMap<HostName, BTreeSet<RequestName>>,
     row: &NameRow,
 ) -> Result<(), NoMemory>
+    ensures listed { AreListed hosts.old summaries.old → AreListed hosts.new summaries.new }
     ensures alone { AreAlone summaries.old → OnOk result (AreAlone summaries.new) }
     ensures rows { (set : List AnyMessage) (rows : List AnyRow) → HasNoVerdict set
         → IsRowOf set row.now → GathersRows set rows summaries.old
@@ -192,21 +210,28 @@ fn put_row(
         Some(_) => Ok(()),
         None => {
             let summary = summary_of(alloc, row)?;
+            list_hosts(alloc, hosts, row.request.hosts(), &name)?;
             summaries.insert(name, summary)?;
             Ok(())
         }
     }
 }
 
-/// A summary for each name that has a row, before any verdict.
-fn summaries_of(alloc: Global, rows: &[NameRow]) -> Result<BTreeMap<RequestName, Summary>, NoMemory>
+/// A summary for each name that has a row, before any verdict. The index, empty before, has their
+/// names.
+fn summaries_of(
+    alloc: Global,
+    hosts: &mut BTreeMap<HostName, BTreeSet<RequestName>>,
+    rows: &[NameRow],
+) -> Result<BTreeMap<RequestName, Summary>, NoMemory>
+    ensures listed { IfOk result (AreListed hosts.new) }
     ensures alone { IfOk result AreAlone }
     ensures known { (set : List AnyMessage)
         → ShowSet (λ m. Contains set m) rows.now [] → IfOk result (Gathers set) }
 {
     let mut summaries = BTreeMap::new(alloc);
     for row in rows {
-        put_row(alloc, &mut summaries, row)?;
+        put_row(alloc, &mut summaries, hosts, row)?;
     }
     Ok(summaries)
 }
@@ -220,6 +245,7 @@ impl Gathered {
             alloc,
             summaries: BTreeMap::new(alloc),
             waiting: BTreeMap::new(alloc),
+            hosts: BTreeMap::new(alloc),
         }
     }
 
@@ -228,11 +254,13 @@ impl Gathered {
         ensures { (set : List AnyMessage) → ShowSet (λ m. Contains set m) names.now []
             → IfOk result (AreGathered set) }
     {
-        let summaries = summaries_of(alloc, names)?;
+        let mut hosts = BTreeMap::new(alloc);
+        let summaries = summaries_of(alloc, &mut hosts, names)?;
         Ok(Gathered {
             alloc,
             summaries,
             waiting: BTreeMap::new(alloc),
+            hosts,
         })
     }
 
@@ -260,6 +288,7 @@ impl Gathered {
                 self.alloc,
                 &mut self.summaries,
                 &mut self.waiting,
+                &mut self.hosts,
                 request,
             ),
             Message::Verdict(verdict) => self.hear(verdict),

@@ -2,15 +2,17 @@
 
 ghost use Rattle.std.specs.Prelude.{◌≡◌, ◌⊎◌, ◌<◌, ◌≤◌, List, IfOk, IfErr};
 ghost use Rattle.std.specs.Prelude.{OnOk, MatchResult, length, string_bytes};
-ghost use Rattle.std.specs.BTreeMap.{values};
+ghost use Rattle.std.specs.List.Sorted.{IsStrictlySortedBy};
+ghost use Rattle.messages.specs.Names.{name_cmp};
 ghost use Rattle.messages.specs.declared.message.Message.{Message as AnyMessage};
 ghost use Rattle.grants.specs.Bases.{FitsBase};
 ghost use Rattle.grants.specs.declared.host_fault.HostFault.TheVariants as fault;
 ghost use Rattle.outcomes.specs.Gathered.{AreGathered};
 ghost use Rattle.outcomes.specs.HostFile.{Line, AreLines};
 ghost use Rattle.outcomes.specs.LinesLeft as left;
-ghost use Rattle.outcomes.specs.private.Behind.{AreBehind};
-ghost use Rattle.outcomes.specs.private.ByName.{Gathers};
+ghost use Rattle.outcomes.specs.private.Behind.{AreBehind, AreNamesLines};
+ghost use Rattle.outcomes.specs.private.ByHost.{kept_of, names_at};
+ghost use Rattle.outcomes.specs.private.ByName.{Gathers, at_name};
 
 use crate::base::Base;
 use crate::gathering::Gathered;
@@ -18,37 +20,86 @@ use grants::{HostFault, Summary, push_lines};
 use messages::RequestName;
 use roster::Roster;
 use std::alloc::Global;
-use std::collections::BTreeMap;
+use std::collections::{BTreeMap, BTreeSet};
 use sudo_words::{HostName, Moment, NoMemory};
 
 /// The most lines of a host's file after those of the base.
 const MOST_LINES: usize = 8_192;
 
-/// Adds the lines that the summaries' requests give the host and that are left, in the order of
-/// their names: `TooManyRules` if they are more than 8,192.
+/// Adds the lines that the request of a name gives the host and that are left, and answers how many
+/// they are: none if nobody asks under the name.
+fn push_name(
+    alloc: Global,
+    text: &mut String,
+    roster: &Roster,
+    summaries: &BTreeMap<RequestName, Summary>,
+    name: &RequestName,
+    host: &HostName,
+    after: &Option<Moment>,
+) -> Result<usize, NoMemory>
+    ensures { (set : List AnyMessage) → Gathers set summaries.now
+        → IfOk result (AreNamesLines roster.now.says set host.now after.now
+        (at_name summaries.now name.now) (string_bytes text.old) (string_bytes text.new)) }
+{
+    match summaries.get(name) {
+        Some(summary) => push_lines(alloc, text, roster, summary, host, *after),
+        None => Ok(0),
+    }
+}
+
+/// Adds the lines that the requests of these names give the host and that are left, in the order of
+/// the names: `TooManyRules` if they are more than 8,192.
 fn push_all(
     alloc: Global,
     text: &mut String,
     roster: &Roster,
     summaries: &BTreeMap<RequestName, Summary>,
+    names: &BTreeSet<RequestName>,
     host: &HostName,
     after: &Option<Moment>,
 ) -> Result<(), HostFault>
     ensures ok { (set : List AnyMessage) → Gathers set summaries.now
         → OnOk result (AreBehind roster.now.says set host.now after.now
-        (values summaries.now) (string_bytes text.old) (string_bytes text.new)) }
+        (kept_of summaries.now names.now.keys) (string_bytes text.old) (string_bytes text.new)) }
+    ensures ordered { OnOk result (IsStrictlySortedBy name_cmp names.now.keys) }
     ensures err { (set : List AnyMessage) → Gathers set summaries.now
         → IfErr result (left.IsPast roster.now.says set host.now after.now) }
 {
     let mut count = 0;
-    for summary in summaries.values() {
-        let more = push_lines(alloc, text, roster, summary, host, *after)?;
+    for name in names {
+        let more = push_name(alloc, text, roster, summaries, name, host, after)?;
         if more > MOST_LINES - count {
             return Err(HostFault::TooManyRules);
         }
         count += more;
     }
     Ok(())
+}
+
+/// Adds the lines that the requests give the host and that are left, in the order of their names:
+/// `TooManyRules` if they are more than 8,192. Only the names that are listed at the host are
+/// looked at.
+fn push_listed(
+    alloc: Global,
+    text: &mut String,
+    roster: &Roster,
+    summaries: &BTreeMap<RequestName, Summary>,
+    hosts: &BTreeMap<HostName, BTreeSet<RequestName>>,
+    host: &HostName,
+    after: &Option<Moment>,
+) -> Result<(), HostFault>
+    ensures ok { (set : List AnyMessage) → Gathers set summaries.now
+        → OnOk result (AreBehind roster.now.says set host.now after.now
+        (kept_of summaries.now (names_at hosts.now host.now))
+        (string_bytes text.old) (string_bytes text.new)) }
+    ensures ordered { OnOk result (IsStrictlySortedBy name_cmp (names_at hosts.now host.now)) }
+    ensures err { (set : List AnyMessage) → Gathers set summaries.now
+        → IfErr result (left.IsPast roster.now.says set host.now after.now) }
+{
+    match hosts.get(host) {
+        Some(names) => push_all(alloc, text, roster, summaries, names, host, after),
+        None => Ok(()),
+    }
 }
 
 /// The text of the host's sudoers file: the base's canonical text, and after it a line for each
@@ -80,6 +131,7 @@ pub fn host_file_in(
     ensures base { base.new ≡ base.old }
 {
     let mut text = base.text(alloc)?;
-    push_all(alloc, &mut text, roster, &gathered.summaries, host, &after)?;
+    let (summaries, hosts) = (&gathered.summaries, &gathered.hosts);
+    push_listed(alloc, &mut text, roster, summaries, hosts, host, &after)?;
     Ok(text)
 }

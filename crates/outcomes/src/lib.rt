@@ -4,6 +4,7 @@
 #![tactic(auto)]
 
 mod base;
+mod by_host;
 mod gathering;
 mod grant_laws;
 mod host_file;

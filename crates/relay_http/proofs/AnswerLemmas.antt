@@ -2,29 +2,34 @@
 use Rattle.std.proofs.Common.{◌≡◌, ◌⊎◌, ◌<◌, ◌≤◌, ◌&&◌, ◌==◌, ◌∙◌, ℕ, Bool, true, false, List, []}
 use Rattle.std.proofs.Common.{◌∷◌, length, nat_le, Result, Ok, Err, String, sym, ap, refl, inl, inr}
 use Rattle.std.proofs.lemmas.Bool.{cases_Bool, leb-true, leb-false}
-use Rattle.std.specs.Prelude.{◌↔◌, ◌≢◌, IfOk, IfErr, IsErrAnd, MatchResult, string_bytes}
+use Rattle.std.specs.Prelude.{◌↔◌, ◌≢◌, IfOk, OnOk, IfErr, IsErrAnd, MatchResult, string_bytes}
 use Rattle.std.specs.declared.alloc.Global.{Global}
 use Rattle.sudo_words.specs.Word.{is_host_name}
 use Rattle.sudo_words.specs.declared.cmnd.Cmnd.{Cmnd}
 use Rattle.sudo_policy.specs.Printing.{canon}
 use Rattle.sudo_policy.specs.declared.entry.Entry.{Entry}
 use Rattle.messages.specs.declared.message.Message.{Message}
-use Rattle.roster.specs.Fields.{RosterFields}
+use Rattle.roster.specs.Fields.{Reading, RosterFields}
 use Rattle.roster.specs.Rules.{is_among}
 use Rattle.grants.specs.declared.denial.Denial.TheVariants as denials
 use Rattle.outcomes.specs.HostFile.{Line, AreLines, IsHostFile, IsHostFileAfter, lines_after, with_lines}
 use Rattle.desk_schema.specs.Beside.{TableWithRows}
+use Rattle.desk_store.specs.Left.{AddsOnly}
 use Rattle.desk_store.specs.Serving.{IsServed}
+use Rattle.desk_store.specs.declared.keeper.Keeper.{Ghosts}
 use Rattle.desk_store.proofs.ServingLemmas.{served_as}
 use Rattle.desk.specs.Refusals.{IsWant}
+use Rattle.desk.specs.Serving.{OnlyAsks}
+use Rattle.desk.specs.declared.ack.Ack.{Ack}
 use Rattle.desk.specs.declared.refusal.Refusal.{Refusal}
 use Rattle.desk.specs.declared.refusal.Refusal.TheVariants.{UnknownRelay, UnknownHost, TooLong, NotCanonical, BadField, Denied, TooManyRules}
 use Rattle.desk.specs.declared.refusal.Refusal.TheVariants.{RosterChanged, NotADesk, OldSchema, Storage, NoMemory, BaseTooLarge}
 use Rattle.review.specs.Report.{IsReport}
-use Rattle.relay_http.specs.Asked.{report}
+use Rattle.relay_http.specs.Asked.{Asked, deliver, report}
+use Rattle.relay_http.specs.Lasting.{IsAddedBy, Lasts}
 use Rattle.relay_http.specs.Prepared.{to_question}
 use Rattle.relay_http.specs.declared.status.Status.TheVariants as status
-use Rattle.relay_http.specs.Replies.{IsFileReply, IsReply, IsWanting, Reply, done, is_known_host, refusal}
+use Rattle.relay_http.specs.Replies.{IsFileReply, IsReply, IsWanting, Reply, done, is_known_host, refusal, to_delivery}
 
 -- the two wants of a refusal, as replies
 wanting : (e : Refusal) → IsWant e → IsWanting (refusal e)
@@ -84,11 +89,11 @@ text_served r served = served_as (to_question r ≡ refusal Storage) (IsWanting 
 
 -- ---- a report
 
-pub report_right : (f : RosterFields Cmnd) (base : List Entry) (set : List Message) (at : ℕ) (r : Result (String Global) Refusal)
-    → IfOk r (λ s. IsReport f base set at (string_bytes s)) → IfErr r IsWant
-    → IsReply f base set (report at) (to_question r) ⊎ IsWanting (to_question r)
-report_right f base set at (Ok s) is err = inl (string_bytes s, is, refl)
-report_right f base set at (Err e) is err = inr (wanting e err)
+pub report_right : (roster : Reading) (base : List Entry) (set : List Message) (at : ℕ) (r : Result (String Global) Refusal)
+    → IfOk r (λ s. IsReport roster.says base set at (string_bytes s)) → IfErr r IsWant
+    → IsReply roster base set (report at) (to_question r) ⊎ IsWanting (to_question r)
+report_right roster base set at (Ok s) is err = inl (string_bytes s, is, refl)
+report_right roster base set at (Err e) is err = inr (wanting e err)
 
 -- ---- a host's file
 
@@ -144,3 +149,41 @@ pub left_after : (f : RosterFields Cmnd) (base : List Entry) (set : List Message
     → IfOk r (λ s. IsHostFileAfter f base set host at (string_bytes s)) → IfOk r (λ s. Left (lines_after at) f base set host (string_bytes s))
 left_after f base set host at (Ok s) file = (file.lines, file.lines_are, file.text_is)
 left_after f base set host at (Err e) file = tt
+
+-- ---- what a reply leaves
+
+-- a refusal is not told by the status 200
+not_done : (e : Refusal) (P : Type 0) → (refusal e).status ≡ status.Done → P
+not_done UnknownRelay P is = absurd cc
+not_done UnknownHost P is = absurd cc
+not_done TooLong P is = absurd cc
+not_done NotCanonical P is = absurd cc
+not_done BadField P is = absurd cc
+not_done (Denied denial) P is = absurd cc
+not_done TooManyRules P is = absurd cc
+not_done RosterChanged P is = absurd cc
+not_done NotADesk P is = absurd cc
+not_done OldSchema P is = absurd cc
+not_done Storage P is = absurd cc
+not_done NoMemory P is = absurd cc
+not_done BaseTooLarge P is = absurd cc
+
+module _ {K : Type 0} (g : Ghosts K) (f : RosterFields Cmnd) (roster : List ℕ) (a b : K) where
+  -- a question's reply
+  pub text_lasts : (asked : Asked ℕ) (r : Result (String Global) Refusal) → OnlyAsks g a b r
+      → (g.is_clean b → AddsOnly (g.may_leave a) (g.may_leave b) (IsAddedBy (g.is_up a) f roster (g.holds a) asked))
+      → Lasts g f roster a b asked (to_question r)
+  text_lasts asked (Ok s) asks leaves = record { live = λ clean done. asks.live clean; leaves = leaves }
+  text_lasts asked (Err e) asks leaves = record { live = λ clean done. not_done e (g.is_up b) done; leaves = leaves }
+
+  -- a delivery's reply
+  pub delivery_lasts : (relay body : List ℕ) (r : Result Ack Refusal) → (g.is_clean b → OnOk r (g.is_up b))
+      → (g.is_clean b → AddsOnly (g.may_leave a) (g.may_leave b) (IsAddedBy (g.is_up a) f roster (g.holds a) (deliver relay body)))
+      → Lasts g f roster a b (deliver relay body) (to_delivery r)
+  delivery_lasts relay body (Ok ack) live leaves = record { live = λ clean done. live clean; leaves = leaves }
+  delivery_lasts relay body (Err e) live leaves = record { live = λ clean done. not_done e (g.is_up b) done; leaves = leaves }
+
+-- a refusal without a question to the keeper
+pub refusal_lasts : {K : Type 0} (g : Ghosts K) (f : RosterFields Cmnd) (roster : List ℕ) (a : K) (asked : Asked ℕ) (e : Refusal)
+    → Lasts g f roster a a asked (refusal e)
+refusal_lasts g f roster a asked e = record { live = λ clean done. not_done e (g.is_up a) done; leaves = λ clean left may. inl may }

@@ -1,21 +1,19 @@
 -- What an exchange leaves, by what its bytes ask for.
-use Rattle.std.proofs.Common.{◌≡◌, ◌⊎◌, ◌+◌, ◌<◌, ◌≤◌, ◌∙◌, ℕ, Bool, true, List, ◌++◌, Option, Some, None, IfSome}
-use Rattle.std.proofs.Common.{nat_le, not, sym, ap, subst, refl, inl, inr, drop, take, length, map, arith, codes}
+use Rattle.std.proofs.Common.{◌≡◌, ◌⊎◌, ◌+◌, ◌<◌, ◌≤◌, ◌∙◌, ℕ, Bool, true, List, Option, Some, None, IfSome}
+use Rattle.std.proofs.Common.{nat_le, not, sym, ap, subst, refl, inl, inr, drop, length, map, arith, codes}
 use Rattle.std.proofs.lemmas.Bool.{cases_Bool, leb-true, leb-false}
-use Rattle.std.proofs.lemmas.List.{take-append-le, take_all}
 use Rattle.std.specs.Prelude.{◌≢◌}
 use Rattle.httparse.specs.Grammar.{RequestHead, print_request}
 use Rattle.httparse.specs.Spans.{name_and_value}
 use Rattle.httparse.proofs.GrammarLemmas.{request_unique}
-use Rattle.sudo_words.specs.declared.cmnd.Cmnd.{Cmnd}
 use Rattle.sudo_policy.specs.declared.entry.Entry.{Entry}
 use Rattle.messages.specs.declared.message.Message.{Message}
-use Rattle.roster.specs.Fields.{RosterFields}
+use Rattle.roster.specs.Fields.{Reading}
 use Rattle.desk_schema.specs.Beside.{TableWithRows}
 use Rattle.desk_store.specs.Keeping.{HasFailed}
 use Rattle.desk_store.specs.Serving.{IsServed}
 use Rattle.desk_store.proofs.ServingLemmas.{served_as}
-use Rattle.relay_http.specs.Asked.{Asked, Request, deliver, all_messages, grants, parked, host_file, host_file_after, report, refused}
+use Rattle.relay_http.specs.Asked.{Asked, Request, deliver, all_messages, count, grants, parked, host_file, host_file_after, report, refused}
 use Rattle.relay_http.specs.Counting.{most_failures, one_failure}
 use Rattle.relay_http.specs.Exchange.{IsAcknowledged, IsExchange, IsPost, WritesWant}
 use Rattle.relay_http.specs.Replies.{Leaves, Reply}
@@ -35,13 +33,6 @@ failure_seen n = elim (cases_Bool (nat_le (n + 1) most_failures)) as (λ _. HasF
   | inr gt ↦ inr (let large : most_failures < n + 1 = leb-false (n + 1) most_failures gt in omega (arith, large))
 ]
 
--- what was written into a buffer that was lent whole, and is as long as before
-pub asks_lent : (n filled : ℕ) (new rest now : List ℕ) (request : Request ℕ) → now ≡ take n (new ++ rest) → length new ≡ n
-    → Asks (take filled now) request → Asks (take filled new) request
-asks_lent n filled new rest now request is size asks =
-    let lent : now ≡ new = is ∙ take-append-le n new rest (omega (arith, size)) ∙ take_all n new (omega (arith, size)) in
-    subst (λ (l : List ℕ). Asks (take filled l) request) lent asks
-
 -- what holds of the request of the bytes that were read holds of the request of all
 pub holds_of_all : (P : Request ℕ → Type 0) (known : Option (List ℕ)) (bytes : List ℕ) (asked : Request ℕ) → Asks bytes asked
     → IfSome known (λ all. (request : Request ℕ) → Asks bytes request → Asks all request) → P asked
@@ -56,6 +47,7 @@ dated_delivery (deliver r b) relay body e =
     let texts : Asked ℕ → Asked (List ℕ) = λ a. elim a [
       | deliver x y ↦ deliver x y
       | all_messages ↦ parked
+      | count ↦ parked
       | grants at ↦ parked
       | parked ↦ parked
       | host_file host ↦ parked
@@ -65,6 +57,7 @@ dated_delivery (deliver r b) relay body e =
     ] in
     sym (ap texts e)
 dated_delivery all_messages relay body e = absurd cc
+dated_delivery count relay body e = absurd cc
 dated_delivery (grants at) relay body (inl x) = absurd (let wrong : ◌≡◌ {A = Asked ℕ} (deliver relay body) (grants x.0) = x.2 in cc)
 dated_delivery (grants at) relay body (inr x) = absurd (let wrong = x.1 in cc)
 dated_delivery parked relay body e = absurd cc
@@ -112,6 +105,7 @@ only_done_leaves Same old new (deliver relay body) reply left =
       | inr other ↦ inl (left.1 other)
     ]
 only_done_leaves Same old new all_messages reply left = inl left
+only_done_leaves Same old new count reply left = inl left
 only_done_leaves Same old new (grants at) reply left = inl left
 only_done_leaves Same old new parked reply left = inl left
 only_done_leaves Same old new (host_file host) reply left = inl left
@@ -119,10 +113,10 @@ only_done_leaves Same old new (host_file_after host at) reply left = inl left
 only_done_leaves Same old new (report at) reply left = inl left
 only_done_leaves Same old new (refused fault) reply left = inl left
 
-module _ (f : RosterFields Cmnd) (base : List Entry) (IsUp : Type 0) (old new : Message
+module _ (roster : Reading) (base : List Entry) (IsUp : Type 0) (old new : Message
     → Type 0) (Same : Type 0) (Served : Type 0 → Type 0 → Type 0) (Wrote : List ℕ → Type 0) where
   -- an exchange changes nothing, or it is acknowledged
-  pub changes : (bytes : List ℕ) (request : Request ℕ) → Asks bytes request → IsExchange f base IsUp old new Same Served Wrote request → IsUp
+  pub changes : (bytes : List ℕ) (request : Request ℕ) → Asks bytes request → IsExchange roster base IsUp old new Same Served Wrote request → IsUp
       → Same ⊎ IsAcknowledged bytes Wrote
   changes bytes request asks x up =
       elim (only_done_leaves Same old new request.asked x.reply (x.answered.leaves up)) as (λ _. Same ⊎ IsAcknowledged bytes Wrote) [
@@ -139,7 +133,7 @@ module _ (f : RosterFields Cmnd) (base : List Entry) (IsUp : Type 0) (old new : 
       ]
 
   -- a head with another method is not that of a POST
-  pub queries : (bytes : List ℕ) (request : Request ℕ) → Asks bytes request → IsExchange f base IsUp old new Same Served Wrote request → IsUp
+  pub queries : (bytes : List ℕ) (request : Request ℕ) → Asks bytes request → IsExchange roster base IsUp old new Same Served Wrote request → IsUp
       → (head : RequestHead) → HasHead bytes head → head.method ≢ codes "POST" → Same
   queries bytes request asks x up head has differs =
       elim (changes bytes request asks x up) as (λ _. Same) [
@@ -151,22 +145,22 @@ module _ (f : RosterFields Cmnd) (base : List Entry) (IsUp : Type 0) (old new : 
   -- the same, of all the bytes of a stream
   pub all_changes : (known : Option (List ℕ)) (bytes : List ℕ) (asked : Request ℕ) → Asks bytes asked
       → IfSome known (λ all. (request : Request ℕ) → Asks bytes request → Asks all request)
-      → IsExchange f base IsUp old new Same Served Wrote asked → IsUp → IfSome known (λ all. Same ⊎ IsAcknowledged all Wrote)
+      → IsExchange roster base IsUp old new Same Served Wrote asked → IsUp → IfSome known (λ all. Same ⊎ IsAcknowledged all Wrote)
   all_changes None bytes asked asks more x up = tt
   all_changes (Some all) bytes asked asks more x up = changes all asked (more asked asks) x up
 
   pub all_queries : (known : Option (List ℕ)) (bytes : List ℕ) (asked : Request ℕ) → Asks bytes asked
       → IfSome known (λ all. (request : Request ℕ) → Asks bytes request → Asks all request)
-      → IsExchange f base IsUp old new Same Served Wrote asked → IsUp
+      → IsExchange roster base IsUp old new Same Served Wrote asked → IsUp
       → IfSome known (λ all. (head : RequestHead) → HasHead all head → head.method ≢ codes "POST" → Same)
   all_queries None bytes asked asks more x up = tt
   all_queries (Some all) bytes asked asks more x up = queries all asked (more asked asks) x up
 
 -- ---- what storage did
 
-pub exchange_served : {K : Type 0} {is_up is_clean : K → Type 0} {failures : K → ℕ} {beside : K → TableWithRows → Type 0} {a b : K} (f : RosterFields Cmnd)
+pub exchange_served : {K : Type 0} {is_up is_clean : K → Type 0} {failures : K → ℕ} {beside : K → TableWithRows → Type 0} {a b : K} (roster : Reading)
     (base : List Entry) (IsUp : Type 0) (old new : Message → Type 0) (Same : Type 0) (Wrote : List ℕ → Type 0) (request : Request ℕ)
-    → IsExchange f base IsUp old new Same (IsServed is_up is_clean failures beside a b) Wrote request
+    → IsExchange roster base IsUp old new Same (IsServed is_up is_clean failures beside a b) Wrote request
     → IsServed is_up is_clean failures beside a b ⊥ (WritesWant Wrote)
-exchange_served f base IsUp old new Same Wrote request x =
+exchange_served roster base IsUp old new Same Wrote request x =
     served_as ⊥ (WritesWant Wrote) (λ none. absurd none) (λ want. (x.reply, request.with_body, want, x.wrote)) x.answered.served

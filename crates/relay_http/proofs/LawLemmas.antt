@@ -6,7 +6,7 @@ use Rattle.std.proofs.lemmas.Bool.Decides.{nat_tests}
 use Rattle.std.proofs.lemmas.Slice.Eq.{bytes_eq-Decides}
 use Rattle.matchit.specs.Router.{RouteOf}
 use Rattle.matchit.specs.Seek.{first}
-use Rattle.relay_http.specs.Asked.{Asked, Request, deliver, all_messages, grants, parked, host_file, host_file_after, report, refused}
+use Rattle.relay_http.specs.Asked.{Asked, Request, deliver, all_messages, count, grants, parked, host_file, host_file_after, report, refused}
 use Rattle.relay_http.specs.Content.{by_lengths, content, content_of, is_length, most_content, sized}
 use Rattle.relay_http.specs.Fields.{Fields, values, is_bad_host}
 use Rattle.relay_http.specs.Routes.{routes, part}
@@ -15,7 +15,7 @@ use Rattle.relay_http.specs.Wanted.{Asks, AsksByHead, Dates, allow, asked_by, at
 use Rattle.relay_http.specs.declared.fault.RequestFault.{RequestFault}
 use Rattle.relay_http.specs.declared.fault.RequestFault.TheVariants.{BadHead, BadLength, BadMethod, BadTarget, ShortBody, TooLong}
 use Rattle.relay_http.specs.declared.place.Place.{Place}
-use Rattle.relay_http.specs.declared.place.Place.TheVariants.{Messages, AllMessages, Grants, Parked, HostFile, HostFileAfter, Report}
+use Rattle.relay_http.specs.declared.place.Place.TheVariants.{Messages, AllMessages, Count, Grants, Parked, HostFile, HostFileAfter, Report}
 use Rattle.relay_http.proofs.SettleLemmas.{kept}
 
 pub rest_ignored : (bytes more : List ℕ) (request : Request ℕ) → AsksByHead bytes request
@@ -27,6 +27,7 @@ head_at : (place : Place) (named : List ℕ → List ℕ) (fields : Fields) (res
     → at_place place (codes "HEAD") named fields rest ≡ at_place place (codes "GET") named fields rest
 head_at Messages named fields rest = refl
 head_at AllMessages named fields rest = refl
+head_at Count named fields rest = refl
 head_at Grants named fields rest = refl
 head_at Parked named fields rest = refl
 head_at HostFile named fields rest = refl
@@ -48,6 +49,7 @@ head_asks target minor fields rest =
 abbrev IsPosted : (method rest : List ℕ) → Asked (List ℕ) → Type 0
 IsPosted method rest (deliver relay body) = (method ≡ codes "POST") × (length body ≤ 16384) × (body ≡ take (length body) rest)
 IsPosted method rest all_messages = Unit {0}
+IsPosted method rest count = Unit {0}
 IsPosted method rest (grants at) = Unit {0}
 IsPosted method rest parked = Unit {0}
 IsPosted method rest (host_file host) = Unit {0}
@@ -100,6 +102,7 @@ module _ (rest : List ℕ) where
       by Messages true e = posted method (named (codes "relay")) ((bytes_eq-Decides method (codes "POST")).0 e) _
           (is_content (values (codes "transfer-encoding") fields) (values (codes "content-length") fields))
       by AllMessages true e = tt
+      by Count true e = tt
       by Grants true e = tt
       by Parked true e = tt
       by HostFile true e = tt
@@ -129,6 +132,7 @@ only_post_delivers method target minor fields rest relay body e =
 abbrev IsOfMessages : Option (RouteOf Place) → Asked (List ℕ) → Type 0
 IsOfMessages found (deliver relay body) = (route : RouteOf Place) × (found ≡ Some route) × (route.value ≡ Messages)
 IsOfMessages found all_messages = Unit {0}
+IsOfMessages found count = Unit {0}
 IsOfMessages found (grants at) = Unit {0}
 IsOfMessages found parked = Unit {0}
 IsOfMessages found (host_file host) = Unit {0}
@@ -147,6 +151,7 @@ module _ (method target rest : List ℕ) (fields : Fields) where
   messages_at route named place is false = tt
   messages_at route named Messages is true = messages_delivered route (named (codes "relay")) is (content_of fields rest)
   messages_at route named AllMessages is true = tt
+  messages_at route named Count is true = tt
   messages_at route named Grants is true = tt
   messages_at route named Parked is true = tt
   messages_at route named HostFile is true = tt

@@ -9,3 +9,6 @@ pub mod SentLemmas
 pub mod AnswerLemmas
 pub mod ReplyLemmas
 pub mod ExchangeLemmas
+pub mod OutgoingLemmas
+pub mod ScanLemmas
+pub mod StageLemmas

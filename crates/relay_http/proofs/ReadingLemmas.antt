@@ -1,23 +1,15 @@
 -- What has been read of a stream, and what the whole asks.
-use Rattle.std.proofs.Common.{◌≡◌, ◌+◌, ℕ, List, ◌++◌, Option, Some, None, IfSome, sym, ap, ◌∙◌, subst, take, drop, append_assoc}
+use Rattle.std.proofs.Common.{ℕ, List, ◌++◌, Option, Some, None, IfSome, sym, ap, ◌∙◌, subst, append_assoc}
 use Rattle.std.proofs.lemmas.List.{append-nil}
-use Rattle.std.proofs.Math.Seq.{take-add}
 use Rattle.std.specs.Io.KnownBytes.{Consumes, IsAtEnd}
 use Rattle.relay_http.specs.Asked.{Request}
 use Rattle.relay_http.specs.Wanted.{Asks}
 
-consumes_both : (a b c : Option (List ℕ)) (xs ys : List ℕ) → Consumes a b xs → Consumes b c ys → Consumes a c (xs ++ ys)
+pub consumes_both : (a b c : Option (List ℕ)) (xs ys : List ℕ) → Consumes a b xs → Consumes b c ys → Consumes a c (xs ++ ys)
 consumes_both None b c xs ys h k = tt
 consumes_both (Some s) None c xs ys h k = absurd h
 consumes_both (Some s) (Some t) None xs ys h k = absurd k
 consumes_both (Some s) (Some t) (Some u) xs ys h k = h ∙ ap (λ (l : List ℕ). xs ++ l) k ∙ sym (append_assoc xs ys u)
-
--- one more read
-pub next_bytes : (a b c : Option (List ℕ)) (old new : List ℕ) (filled count : ℕ) → Consumes a b (take filled old) → take filled new ≡ take filled old
-    → Consumes b c (take count (drop filled new)) → Consumes a c (take (filled + count) new)
-next_bytes a b c old new filled count before front_kept here =
-    subst (λ (l : List ℕ). Consumes a c l) (sym (take-add filled count new ∙ ap (λ (l : List ℕ). l ++ take count (drop filled new)) front_kept))
-    (consumes_both a b c (take filled old) (take count (drop filled new)) before here)
 
 -- what is read asks what all asks
 pub asks_all : (old new : Option (List ℕ)) (bytes : List ℕ) → Consumes old new bytes

@@ -1,19 +1,20 @@
 -- What is asked has at most one reply.
-use Rattle.std.proofs.Common.{◌≡◌, ◌∙◌, ℕ, true, false, List, map, sym, ap, inl, inr, arith}
+use Rattle.std.proofs.Common.{◌≡◌, ◌∙◌, ℕ, true, false, List, [], ◌∷◌, ◌++◌, map, sym, ap, inl, inr, arith}
 use Rattle.sudo_words.specs.declared.cmnd.Cmnd.{Cmnd}
 use Rattle.sudo_policy.specs.Printing.{canon}
 use Rattle.sudo_policy.specs.declared.entry.Entry.{Entry}
 use Rattle.messages.specs.declared.message.Message.{Message}
-use Rattle.roster.specs.Fields.{RosterFields}
+use Rattle.roster.specs.Fields.{Reading, RosterFields}
 use Rattle.outcomes.specs.HostFile.{Line, lines_after, with_lines}
 use Rattle.outcomes.specs.Outcomes.{LiveGrant}
+use Rattle.desk.proofs.CountLemmas.{one_count}
 use Rattle.desk.proofs.DeliveryLemmas.{one_answer}
 use Rattle.desk.proofs.TextLemmas.{one_texts}
 use Rattle.outcomes.proofs.FileLemmas.{one_lines}
 use Rattle.outcomes.proofs.SetLemmas.{one_live, one_parked}
 use Rattle.review.proofs.ReportOne.{one_report}
-use Rattle.relay_http.specs.Asked.{Asked, deliver, all_messages, grants, parked, host_file, host_file_after, report, refused}
-use Rattle.relay_http.specs.Replies.{IsFileReply, IsReply, Reply, delivery, done, is_known_host, each_on_a_line, live_line, to_delivery}
+use Rattle.relay_http.specs.Asked.{Asked, deliver, all_messages, count, grants, parked, host_file, host_file_after, report, refused}
+use Rattle.relay_http.specs.Replies.{IsFileReply, IsReply, Reply, count_line, delivery, done, is_known_host, each_on_a_line, live_line, newline, to_delivery}
 
 -- a host is known, or it is not
 one_known : (f : RosterFields Cmnd) (host : List ℕ) → is_known_host f host ≡ false → is_known_host f host ≡ true → ⊥
@@ -32,15 +33,19 @@ one_file_reply left f base set host a b (inr (inl x)) (inr (inr y)) = absurd (om
 one_file_reply left f base set host a b (inr (inr x)) (inr (inl y)) = absurd (omega (arith, y.1.2, x.1 y.1.0 y.1.1))
 one_file_reply left f base set host a b (inr (inr x)) (inr (inr y)) = x.2 ∙ sym y.2
 
-pub one_reply : (f : RosterFields Cmnd) (base : List Entry) (set : List Message) (asked : Asked ℕ) (a b : Reply)
-    → IsReply f base set asked a → IsReply f base set asked b → a ≡ b
-one_reply f base set (deliver relay body) a b x y = x.2 ∙ ap to_delivery (one_answer f (delivery relay body) x.0 y.0 x.1 y.1) ∙ sym y.2
-one_reply f base set all_messages a b x y =
+pub one_reply : (r : Reading) (base : List Entry) (set : List Message) (asked : Asked ℕ) (a b : Reply)
+    → IsReply r base set asked a → IsReply r base set asked b → a ≡ b
+one_reply r base set (deliver relay body) a b x y = x.2 ∙ ap to_delivery (one_answer r.says (delivery relay body) x.0 y.0 x.1 y.1) ∙ sym y.2
+one_reply r base set all_messages a b x y =
     x.2 ∙ ap (λ (texts : List (List ℕ)). done (each_on_a_line texts)) (one_texts set set x.0 y.0 (λ m. (λ held. held, λ held. held)) x.1 y.1) ∙ sym y.2
-one_reply f base set (grants at) a b x y =
-    x.2 ∙ ap (λ (list : List LiveGrant). done (each_on_a_line (map live_line list))) (one_live f set at x.0 y.0 x.1 y.1) ∙ sym y.2
-one_reply f base set parked a b x y = x.2 ∙ ap (λ (texts : List (List ℕ)). done (each_on_a_line texts)) (one_parked set x.0 y.0 x.1 y.1) ∙ sym y.2
-one_reply f base set (host_file host) a b x y = one_file_reply (λ lines. lines) f base set host a b x y
-one_reply f base set (host_file_after host at) a b x y = one_file_reply (lines_after at) f base set host a b x y
-one_reply f base set (report at) a b x y = x.2 ∙ ap done (one_report f base set set at x.0 y.0 (λ m. (λ held. held, λ held. held)) x.1 y.1) ∙ sym y.2
-one_reply f base set (refused fault) a b x y = x ∙ sym y
+one_reply r base set count a b x y =
+    x.2
+    ∙ ap (λ (n : ℕ). done (count_line n r.text base ++ newline ∷ [])) (one_count set set x.0 y.0 (λ m. (λ held. held, λ held. held)) x.1 y.1)
+    ∙ sym y.2
+one_reply r base set (grants at) a b x y =
+    x.2 ∙ ap (λ (list : List LiveGrant). done (each_on_a_line (map live_line list))) (one_live r.says set at x.0 y.0 x.1 y.1) ∙ sym y.2
+one_reply r base set parked a b x y = x.2 ∙ ap (λ (texts : List (List ℕ)). done (each_on_a_line texts)) (one_parked set x.0 y.0 x.1 y.1) ∙ sym y.2
+one_reply r base set (host_file host) a b x y = one_file_reply (λ lines. lines) r.says base set host a b x y
+one_reply r base set (host_file_after host at) a b x y = one_file_reply (lines_after at) r.says base set host a b x y
+one_reply r base set (report at) a b x y = x.2 ∙ ap done (one_report r.says base set set at x.0 y.0 (λ m. (λ held. held, λ held. held)) x.1 y.1) ∙ sym y.2
+one_reply r base set (refused fault) a b x y = x ∙ sym y

@@ -9,7 +9,7 @@ use Rattle.matchit.specs.declared.error.InsertError.{InsertError}
 use Rattle.matchit.specs.declared.error.InsertError.TheVariants.{Conflict, InvalidCatchAll, InvalidParam, InvalidParamSegment, OutOfMemory}
 use Rattle.matchit.proofs.RenameLemmas.{first-rename}
 use Rattle.relay_http.specs.declared.place.Place.{Place}
-use Rattle.relay_http.specs.declared.place.Place.TheVariants.{Messages, AllMessages, Grants, Parked, HostFile, HostFileAfter, Report}
+use Rattle.relay_http.specs.declared.place.Place.TheVariants.{Messages, AllMessages, Count, Grants, Parked, HostFile, HostFileAfter, Report}
 use Rattle.relay_http.specs.Routes.{IsFree, routes, added, with_route}
 use Rattle.relay_http.specs.Target.{is_plain, is_plain_byte}
 use Rattle.matchit.specs.Route.{parse_route}
@@ -79,6 +79,13 @@ pub free_all_messages : IsFree (parse_route (codes "/v1/messages")) (with_route 
 unfolding scan
 free_all_messages = refl
 
+pub free_count : IsFree (parse_route (codes "/v1/count")) (with_route (codes "/v1/messages") AllMessages
+    (with_route (codes "/v1/hosts/{host}/sudoers/{at}") HostFileAfter
+    (with_route (codes "/v1/reviews/{at}") Report (with_route (codes "/v1/hosts/{host}/sudoers") HostFile
+    (with_route (codes "/v1/parked") Parked (with_route (codes "/v1/grants/{at}") Grants (with_route (codes "/v1/relays/{relay}/messages") Messages [])))))))
+unfolding scan
+free_count = refl
+
 and_true_left : (a b : Bool) → (a && b) ≡ true → a ≡ true
 and_true_left true b h = refl
 and_true_left false b h = h
@@ -103,6 +110,7 @@ plain_ascii target h = below_ascii target (plain_below target (and_true_right _ 
 abbrev pub text_for : Place → List ℕ
 text_for Messages = codes "/v1/relays/{relay}/messages"
 text_for AllMessages = codes "/v1/messages"
+text_for Count = codes "/v1/count"
 text_for Grants = codes "/v1/grants/{at}"
 text_for Parked = codes "/v1/parked"
 text_for HostFile = codes "/v1/hosts/{host}/sudoers"
@@ -146,6 +154,7 @@ text_ascii : (place : Place) → IsAscii (route_for place).text
 unfolding scan
 text_ascii Messages = below_ascii (route_for Messages).text refl
 text_ascii AllMessages = below_ascii (route_for AllMessages).text refl
+text_ascii Count = below_ascii (route_for Count).text refl
 text_ascii Grants = below_ascii (route_for Grants).text refl
 text_ascii Parked = below_ascii (route_for Parked).text refl
 text_ascii HostFile = below_ascii (route_for HostFile).text refl

@@ -20,7 +20,7 @@ use Rattle.relay_http.specs.Wanted.{at_place, delivered, front, is_head, methods
 use Rattle.relay_http.specs.declared.fault.RequestFault.{RequestFault}
 use Rattle.relay_http.specs.declared.fault.RequestFault.TheVariants.{BadHead, BadLength, BadMethod, BadTarget, ShortBody, TooLong}
 use Rattle.relay_http.specs.declared.place.Place.{Place}
-use Rattle.relay_http.specs.declared.place.Place.TheVariants.{Messages, AllMessages, Grants, Parked, HostFile, HostFileAfter, Report}
+use Rattle.relay_http.specs.declared.place.Place.TheVariants.{Messages, AllMessages, Count, Grants, Parked, HostFile, HostFileAfter, Report}
 
 -- the content is there, or as many bytes as any content may have
 abbrev pub Enough : Result (List ℕ) RequestFault → List ℕ → Type 0
@@ -68,6 +68,7 @@ module _ (rest more : List ℕ) where
       ap (λ (r : Result (List ℕ) RequestFault). delivered (named (codes "relay")) r) (content_more (values (codes "transfer-encoding") fields)
       (values (codes "content-length") fields) (enough_content (named (codes "relay")) (content_of fields rest) h))
   sought_more AllMessages named fields h = refl
+  sought_more Count named fields h = refl
   sought_more Grants named fields h = refl
   sought_more Parked named fields h = refl
   sought_more HostFile named fields h = refl
@@ -108,7 +109,7 @@ take-append-split (suc n) (x ∷ xs) ys =
     let e : suc n - suc (length xs) ≡ n - length xs = omega arith in
     ap (λ (l : List ℕ). x ∷ l) (take-append-split n xs ys) ∙ ap (λ (k : ℕ). x ∷ (take n xs ++ take k ys)) (sym e)
 
-head_fits : (bytes : List ℕ) (h : RequestHead) (rest : List ℕ) → ReadsRequest (front bytes) h rest
+pub head_fits : (bytes : List ℕ) (h : RequestHead) (rest : List ℕ) → ReadsRequest (front bytes) h rest
     → (length (print_request h) ≤ length bytes) × (length (print_request h) ≤ 8192)
 unfolding front
 head_fits bytes h rest reads =
@@ -119,7 +120,7 @@ front_more : (bytes more : List ℕ) → (rest : List ℕ) × (front (bytes ++ m
 unfolding front
 front_more bytes more = (take (8192 - length bytes) more, take-append-split 8192 bytes more)
 
-has_more : (bytes more : List ℕ) (h : RequestHead) → HasHead bytes h → HasHead (bytes ++ more) h
+pub has_more : (bytes more : List ℕ) (h : RequestHead) → HasHead bytes h → HasHead (bytes ++ more) h
 has_more bytes more h has =
     let longer = front_more bytes more in (
       (

@@ -12,7 +12,7 @@ use Rattle.httparse.specs.Grammar.{RequestHead, ReadsRequest, Field}
 use Rattle.httparse.proofs.GrammarLemmas.{request_unique}
 use Rattle.sudo_words.proofs.MomentLemmas.{stamp_spells}
 use Rattle.sudo_words.proofs.MomentTexts.{one_spelled}
-use Rattle.relay_http.specs.Asked.{Asked, Request, deliver, all_messages, grants, parked, host_file, host_file_after, report, refused}
+use Rattle.relay_http.specs.Asked.{Asked, Request, deliver, all_messages, count, grants, parked, host_file, host_file_after, report, refused}
 use Rattle.relay_http.specs.Wanted.{Asks, AsksByHead, Dates, DatesAt, DatesRequest, front, request_by, asks_by}
 
 take_at_most : (xs : List ℕ) (n k : ℕ) → n ≡ min (length xs) k → take n xs ≡ take k xs
@@ -33,12 +33,12 @@ incomplete {A} P s e h = subst (λ (t : Status A). IsCompleteAnd {E = Error} (Ok
 pub complete_at : {A : Type 0} (P : A → Type 0) (s : Status A) (a : A) → s ≡ Complete a → IfComplete {E = Error} (Ok s) P → P a
 complete_at {A} P s a e h = subst (λ (t : Status A). IfComplete {E = Error} (Ok t) P) e h
 
-fields_fit : (buf : List ℕ) (headers : List HeaderSpan) (count : ℕ) (fields : List Field)
-    → map (header_bytes buf) (take count headers) ≡ map name_and_value fields → length headers ≡ 32 → length fields ≤ 32
-fields_fit buf headers count fields e len =
-    let lengths : length (take count headers) ≡ length fields =
-    sym (length-map (take count headers) (header_bytes buf)) ∙ ap length e ∙ length-map fields name_and_value in
-    omega (arith, length-take count headers, len, lengths)
+pub fields_fit : (buf : List ℕ) (headers : List HeaderSpan) (many : ℕ) (fields : List Field)
+    → map (header_bytes buf) (take many headers) ≡ map name_and_value fields → length headers ≡ 32 → length fields ≤ 32
+fields_fit buf headers many fields e len =
+    let lengths : length (take many headers) ≡ length fields =
+    sym (length-map (take many headers) (header_bytes buf)) ∙ ap length e ∙ length-map fields name_and_value in
+    omega (arith, length-take many headers, len, lengths)
 
 -- the parts that the spans cover are those of a head, so what they ask for is asked
 pub asks_at : (buf found : List ℕ) (headers : List HeaderSpan) (spans : RequestSpans) (h : RequestHead) (result : Request ℕ)
@@ -70,6 +70,7 @@ one_dated_at question at a b (inr x) (inr y) = x.1 ∙ sym y.1
 one_dated : (r : Asked (List ℕ)) (a b : Asked ℕ) → Dates r a → Dates r b → a ≡ b
 one_dated (deliver relay body) a b x y = x ∙ sym y
 one_dated all_messages a b x y = x ∙ sym y
+one_dated count a b x y = x ∙ sym y
 one_dated (grants at) a b x y = one_dated_at grants at a b x y
 one_dated parked a b x y = x ∙ sym y
 one_dated (host_file host) a b x y = x ∙ sym y

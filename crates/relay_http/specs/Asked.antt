@@ -3,7 +3,7 @@ use Rattle.std.specs.Prelude.{ℕ, List, Bool}
 use Rattle.relay_http.specs.declared.fault.RequestFault.{RequestFault}
 use Rattle.relay_http.specs.declared.asked.Ask.{Ask}
 use Rattle.relay_http.specs.declared.asked.Ask.TheVariants.{Deliver, AllMessages, Grants}
-use Rattle.relay_http.specs.declared.asked.Ask.TheVariants.{Parked, HostFile}
+use Rattle.relay_http.specs.declared.asked.Ask.TheVariants.{Count, Parked, HostFile}
 use Rattle.relay_http.specs.declared.asked.Ask.TheVariants.{HostFileAfter, Report, Refused}
 use Rattle.relay_http.specs.declared.asked.Wanted.{Wanted}
 
@@ -12,6 +12,7 @@ use Rattle.relay_http.specs.declared.asked.Wanted.{Wanted}
 pub data Asked (At : Type 0) : Type 0 where
   deliver : (relay body : List ℕ) → Asked At
   all_messages : Asked At
+  count : Asked At
   grants : (at : At) → Asked At
   parked : Asked At
   host_file : (host : List ℕ) → Asked At
@@ -29,6 +30,7 @@ pub record Request (At : Type 0) : Type 0 where
 abbrev pub asked_of : Ask → Asked ℕ
 asked_of (Deliver relay body) = deliver relay.now body.now
 asked_of AllMessages = all_messages
+asked_of Count = count
 asked_of (Grants at) = grants at
 asked_of Parked = parked
 asked_of (HostFile host) = host_file host.now

@@ -7,9 +7,14 @@ pub mod Wanted
 pub mod Reply
 pub mod Replies
 pub mod Exchange
+pub mod Lasting
 pub mod Counting
 pub mod Sent
+pub mod Outgoing
 pub mod Seen
 pub mod Settled
+pub mod Needs
+pub mod Scan
+pub mod Stages
 pub mod Prepared
 pub mod Worked

@@ -1,15 +1,10 @@
 -- The program's replies, as replies of the definitions. For the program alone.
-use Rattle.std.specs.Prelude.{ℕ, List, Result, Ok, Err, String, string_bytes}
+use Rattle.std.specs.Prelude.{Result, Ok, Err, String, string_bytes}
 use Rattle.std.specs.declared.alloc.Global.{Global}
 use Rattle.desk.specs.declared.refusal.Refusal.{Refusal}
+use Rattle.relay_http.specs.Outgoing.{body_bytes}
 use Rattle.relay_http.specs.Replies.{Reply, done, refusal}
-use Rattle.relay_http.specs.declared.answer.Body.{Body}
-use Rattle.relay_http.specs.declared.answer.Body.TheVariants.{Fixed, Made}
 use Rattle.relay_http.specs.declared.answer.Answer.{Answer}
-
-abbrev pub body_bytes : Body → List ℕ
-body_bytes (Fixed bytes) = bytes.now
-body_bytes (Made text) = string_bytes text
 
 abbrev pub reply_of : Answer → Reply
 reply_of a = record { status = a.status; body = body_bytes a.body }

@@ -1,7 +1,10 @@
 -- What a desk replies to what is asked of it, by the set of messages that it holds, and what it
 -- holds then.
 use Rattle.std.specs.Prelude.{◌≡◌, ◌≢◌, ◌⊎◌, ◌≤◌, ◌<◌, ◌&&◌, ℕ, true, false, Bool, List}
-use Rattle.std.specs.Prelude.{[], ◌∷◌, ◌++◌, Result, Ok, Err, codes, decimal, length, map}
+use Rattle.std.specs.Prelude.{[], ◌∷◌, ◌++◌, Option, Some, None, Result, Ok, Err, codes, decimal}
+use Rattle.std.specs.Prelude.{length, map}
+use Rattle.hex.specs.Hex.{encode_lower}
+use Rattle.sha2.specs.Sha256.{sha256}
 use Rattle.sudo_words.specs.Word.{is_host_name}
 use Rattle.sudo_words.specs.Moment.{stamp}
 use Rattle.sudo_words.specs.declared.cmnd.Cmnd.{Cmnd}
@@ -10,7 +13,7 @@ use Rattle.sudo_policy.specs.declared.entry.Entry.{Entry}
 use Rattle.messages.specs.declared.request_name.RequestName.{RequestName}
 use Rattle.messages.specs.Wire.{IsMessage, wire}
 use Rattle.messages.specs.declared.message.Message.{Message}
-use Rattle.roster.specs.Fields.{RosterFields}
+use Rattle.roster.specs.Fields.{Reading, RosterFields}
 use Rattle.roster.specs.Rules.{is_among}
 use Rattle.grants.specs.declared.outcome.Window.{Window}
 use Rattle.desk_store.specs.Sets.{SameSet}
@@ -18,6 +21,7 @@ use Rattle.desk.specs.Delivery.{Answers, Delivery}
 use Rattle.outcomes.specs.HostFile.{Line, AreLines, lines_after, with_lines}
 use Rattle.outcomes.specs.Outcomes.{AreLive, LiveGrant}
 use Rattle.outcomes.specs.Parked.{AreParked}
+use Rattle.desk.specs.Count.{IsCount}
 use Rattle.desk.specs.Refusals.{refusal_text}
 use Rattle.desk.specs.Texts.{AreTexts}
 use Rattle.desk.specs.declared.ack.Ack.{Ack}
@@ -28,7 +32,7 @@ use Rattle.desk.specs.declared.refusal.Refusal.TheVariants.{TooManyRules, Roster
 use Rattle.desk.specs.declared.refusal.Refusal.TheVariants.{NotADesk, OldSchema, Storage}
 use Rattle.desk.specs.declared.refusal.Refusal.TheVariants.{NoMemory, BaseTooLarge}
 use Rattle.review.specs.Report.{IsReport}
-use Rattle.relay_http.specs.Asked.{Asked, deliver, all_messages, grants, parked}
+use Rattle.relay_http.specs.Asked.{Asked, deliver, all_messages, count, grants, parked}
 use Rattle.relay_http.specs.Asked.{host_file, host_file_after, report, refused}
 use Rattle.relay_http.specs.Reply.{fault_line, status_of}
 use Rattle.relay_http.specs.declared.status.Status.{Status}
@@ -67,6 +71,16 @@ window_text w = space ∷ [] ++ moment_text w.start ++ space ∷ [] ++ moment_te
 -- a grant in force: its request's name, its ceiling, and its window
 unfoldable pub live_line : LiveGrant → List ℕ
 live_line l = name_text l.name ++ space ∷ [] ++ l.ceiling ++ window_text l.window
+
+-- the SHA-256 digest of a text (FIPS 180-4), as 64 hex digits in lower case
+unfoldable pub digest_text : List ℕ → List ℕ
+digest_text text = encode_lower (sha256 text)
+
+-- how many messages there are, the digest of the roster's text, and that of the base's canonical
+-- text
+unfoldable pub count_line : (messages : ℕ) → (roster : List ℕ) → (base : List Entry) → List ℕ
+count_line messages roster base =
+    decimal messages ++ space ∷ [] ++ digest_text roster ++ space ∷ [] ++ digest_text (canon base)
 
 -- ---- replies
 
@@ -121,22 +135,24 @@ IsFileReply left f base set host reply =
 
 -- The reply to what is asked, by a roster, a base and the messages of a set, where memory lasts and
 -- the storage holds: at most one, by a law.
-abbrev pub IsReply : RosterFields Cmnd → (base : List Entry)
+abbrev pub IsReply : Reading → (base : List Entry)
     → List Message → Asked ℕ → Reply → Type 0
-IsReply f base set (deliver relay body) reply = (answer : Result Ack Refusal)
-    × Answers f (delivery relay body) answer × (reply ≡ to_delivery answer)
-IsReply f base set all_messages reply =
+IsReply r base set (deliver relay body) reply = (answer : Result Ack Refusal)
+    × Answers r.says (delivery relay body) answer × (reply ≡ to_delivery answer)
+IsReply r base set all_messages reply =
     (texts : List (List ℕ)) × AreTexts set texts × (reply ≡ done (each_on_a_line texts))
-IsReply f base set (grants at) reply = (list : List LiveGrant)
-    × AreLive f set at list × (reply ≡ done (each_on_a_line (map live_line list)))
-IsReply f base set parked reply =
+IsReply r base set count reply = (messages : ℕ) × IsCount set messages
+    × (reply ≡ done (count_line messages r.text base ++ newline ∷ []))
+IsReply r base set (grants at) reply = (list : List LiveGrant)
+    × AreLive r.says set at list × (reply ≡ done (each_on_a_line (map live_line list)))
+IsReply r base set parked reply =
     (texts : List (List ℕ)) × AreParked set texts × (reply ≡ done (each_on_a_line texts))
-IsReply f base set (host_file host) reply = IsFileReply (λ lines. lines) f base set host reply
-IsReply f base set (host_file_after host at) reply =
-    IsFileReply (lines_after at) f base set host reply
-IsReply f base set (report at) reply =
-    (text : List ℕ) × IsReport f base set at text × (reply ≡ done text)
-IsReply f base set (refused fault) reply = reply ≡ record {
+IsReply r base set (host_file host) reply = IsFileReply (λ lines. lines) r.says base set host reply
+IsReply r base set (host_file_after host at) reply =
+    IsFileReply (lines_after at) r.says base set host reply
+IsReply r base set (report at) reply =
+    (text : List ℕ) × IsReport r.says base set at text × (reply ≡ done text)
+IsReply r base set (refused fault) reply = reply ≡ record {
   status = status_of fault;
   body = fault_line fault;
 }
@@ -144,6 +160,12 @@ IsReply f base set (refused fault) reply = reply ≡ record {
 -- memory or the storage was wanting: never a right reply
 abbrev pub IsWanting : Reply → Type 0
 IsWanting reply = (reply ≡ refusal NoMemory) ⊎ (reply ≡ refusal Storage)
+
+-- What the program knows of a refusal beside the bytes: which one the reply tells. A reply that
+-- tells none has another status than 503.
+abbrev pub TellsRefusal : Option Refusal → Reply → Type 0
+TellsRefusal None reply = reply.status ≢ status.ServiceUnavailable
+TellsRefusal (Some e) reply = reply ≡ refusal e
 
 -- ---- what is held then
 
@@ -157,6 +179,7 @@ abbrev pub Leaves : (Same : Type 0) → (old new : Message → Type 0) → Asked
 Leaves Same old new (deliver relay body) reply =
     SameSet (λ m. old m ⊎ Stores body reply m) new × (reply.status ≢ status.Done → Same)
 Leaves Same old new all_messages reply = Same
+Leaves Same old new count reply = Same
 Leaves Same old new (grants at) reply = Same
 Leaves Same old new parked reply = Same
 Leaves Same old new (host_file host) reply = Same

@@ -1,5 +1,6 @@
 -- The bytes of a reply (RFC 9112, sections 2 and 4).
 use Rattle.std.specs.Prelude.{ℕ, List, [], ◌∷◌, ◌++◌, Bool, length, if◌then◌else◌, codes, decimal}
+use Rattle.http.specs.StatusCode.{code_digits}
 use Rattle.relay_http.specs.declared.fault.RequestFault.{RequestFault}
 use Rattle.relay_http.specs.declared.fault.RequestFault.TheVariants.{BadHead, BadTarget, NoRoute}
 use Rattle.relay_http.specs.declared.fault.RequestFault.TheVariants.{BadMethod, LengthRequired}
@@ -9,16 +10,31 @@ use Rattle.relay_http.specs.declared.place.Methods.TheVariants.{Post, GetOrHead}
 use Rattle.relay_http.specs.declared.status.Status.{Status}
 use Rattle.relay_http.specs.declared.status.Status.TheVariants as status
 
--- the code of a status and its phrase (RFC 9110, section 15)
+-- the code of a status (RFC 9110, section 15)
+abbrev pub code_of : Status → ℕ
+code_of status.Done = 200
+code_of status.BadRequest = 400
+code_of status.Forbidden = 403
+code_of status.NotFound = 404
+code_of (status.MethodNotAllowed methods) = 405
+code_of status.LengthRequired = 411
+code_of status.ContentTooLarge = 413
+code_of status.ServiceUnavailable = 503
+
+-- and its phrase
+abbrev pub phrase_of : Status → List ℕ
+phrase_of status.Done = codes "OK"
+phrase_of status.BadRequest = codes "Bad Request"
+phrase_of status.Forbidden = codes "Forbidden"
+phrase_of status.NotFound = codes "Not Found"
+phrase_of (status.MethodNotAllowed methods) = codes "Method Not Allowed"
+phrase_of status.LengthRequired = codes "Length Required"
+phrase_of status.ContentTooLarge = codes "Content Too Large"
+phrase_of status.ServiceUnavailable = codes "Service Unavailable"
+
+-- the three digits of the code, a space, and the phrase (RFC 9112, section 4)
 abbrev pub status_text : Status → List ℕ
-status_text status.Done = codes "200 OK"
-status_text status.BadRequest = codes "400 Bad Request"
-status_text status.Forbidden = codes "403 Forbidden"
-status_text status.NotFound = codes "404 Not Found"
-status_text (status.MethodNotAllowed methods) = codes "405 Method Not Allowed"
-status_text status.LengthRequired = codes "411 Length Required"
-status_text status.ContentTooLarge = codes "413 Content Too Large"
-status_text status.ServiceUnavailable = codes "503 Service Unavailable"
+status_text s = code_digits (code_of s) ++ codes " " ++ phrase_of s
 
 -- carriage return and newline
 abbrev pub line_end : List ℕ

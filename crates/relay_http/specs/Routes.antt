@@ -8,8 +8,9 @@ use Rattle.matchit.specs.Router.{RouteOf, nearest, route_from}
 use Rattle.matchit.specs.Params.{walk, named}
 use Rattle.matchit.specs.declared.error.InsertError.{InsertError}
 use Rattle.relay_http.specs.declared.place.Place.{Place}
-use Rattle.relay_http.specs.declared.place.Place.TheVariants.{Messages, AllMessages, Grants, Parked}
-use Rattle.relay_http.specs.declared.place.Place.TheVariants.{HostFile, HostFileAfter, Report}
+use Rattle.relay_http.specs.declared.place.Place.TheVariants.{Messages, AllMessages, Count, Grants}
+use Rattle.relay_http.specs.declared.place.Place.TheVariants.{Parked, HostFile, HostFileAfter}
+use Rattle.relay_http.specs.declared.place.Place.TheVariants.{Report}
 
 -- the routes with one more
 abbrev pub added : Result Scan InsertError → Place → RowsOf (RouteOf Place) → RowsOf (RouteOf Place)
@@ -28,13 +29,14 @@ IsFree (Err e) rows = ⊥
 -- empty
 unfoldable pub routes : RowsOf (RouteOf Place)
 routes =
-    with_route (codes "/v1/messages") AllMessages
+    with_route (codes "/v1/count") Count
+    (with_route (codes "/v1/messages") AllMessages
     (with_route (codes "/v1/hosts/{host}/sudoers/{at}") HostFileAfter
     (with_route (codes "/v1/reviews/{at}") Report
     (with_route (codes "/v1/hosts/{host}/sudoers") HostFile
     (with_route (codes "/v1/parked") Parked
     (with_route (codes "/v1/grants/{at}") Grants
-    (with_route (codes "/v1/relays/{relay}/messages") Messages []))))))
+    (with_route (codes "/v1/relays/{relay}/messages") Messages [])))))))
 
 -- the part of the target that the route's parameter of this name takes
 unfoldable pub part : List ℕ → RouteOf Place → List ℕ → List ℕ
@@ -45,6 +47,7 @@ part name route target =
 abbrev pub parameter : Place → List ℕ
 parameter Messages = codes "relay"
 parameter AllMessages = []
+parameter Count = []
 parameter Grants = codes "at"
 parameter Parked = []
 parameter HostFile = codes "host"
@@ -55,6 +58,7 @@ parameter Report = codes "at"
 abbrev pub moment_parameter : Place → List ℕ
 moment_parameter Messages = []
 moment_parameter AllMessages = []
+moment_parameter Count = []
 moment_parameter Grants = []
 moment_parameter Parked = []
 moment_parameter HostFile = []

@@ -1,9 +1,7 @@
--- When the content is not there yet, and how many bytes may count. For the program alone: no
--- promise cites it.
-use Rattle.std.specs.Prelude.{◌++◌, ℕ, List, Bool, true, false}
-use Rattle.relay_http.specs.Asked.{Asked, Request, deliver, all_messages, grants}
+-- When the content is not there yet. For the program alone: no promise cites it.
+use Rattle.std.specs.Prelude.{Bool, true, false}
+use Rattle.relay_http.specs.Asked.{Asked, Request, deliver, all_messages, count, grants}
 use Rattle.relay_http.specs.Asked.{parked, host_file, host_file_after, report, refused}
-use Rattle.relay_http.specs.Wanted.{Asks}
 use Rattle.relay_http.specs.declared.fault.RequestFault.{RequestFault}
 use Rattle.relay_http.specs.declared.fault.RequestFault.TheVariants.{BadHead, BadTarget, NoRoute}
 use Rattle.relay_http.specs.declared.fault.RequestFault.TheVariants.{BadMethod, LengthRequired}
@@ -24,6 +22,7 @@ is_short_body BadMoment = false
 abbrev pub lacks_content : {At : Type 0} → Asked At → Bool
 lacks_content (deliver relay body) = false
 lacks_content all_messages = false
+lacks_content count = false
 lacks_content (grants at) = false
 lacks_content parked = false
 lacks_content (host_file host) = false
@@ -33,12 +32,3 @@ lacks_content (refused fault) = is_short_body fault
 
 abbrev pub is_short : {At : Type 0} → Request At → Bool
 is_short request = lacks_content request.asked
-
--- the longest head and the longest content
-abbrev pub most_read : ℕ
-most_read = 24_576
-
--- no bytes that follow change what these ask
-abbrev pub IsSettled : List ℕ → Type 0
-IsSettled bytes =
-    (request : Request ℕ) → Asks bytes request → (more : List ℕ) → Asks (bytes ++ more) request

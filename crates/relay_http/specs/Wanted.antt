@@ -7,7 +7,7 @@ use Rattle.httparse.specs.Spans.{name_and_value}
 use Rattle.matchit.specs.Router.{RouteOf}
 use Rattle.matchit.specs.Seek.{first}
 use Rattle.sudo_words.specs.Moment.{IsStamp}
-use Rattle.relay_http.specs.Asked.{Asked, Request, deliver, all_messages, grants}
+use Rattle.relay_http.specs.Asked.{Asked, Request, deliver, all_messages, count, grants}
 use Rattle.relay_http.specs.Asked.{parked, host_file, host_file_after, report, refused}
 use Rattle.relay_http.specs.Fields.{Fields, values, is_bad_host}
 use Rattle.relay_http.specs.Content.{content_of}
@@ -17,8 +17,9 @@ use Rattle.relay_http.specs.declared.fault.RequestFault.{RequestFault}
 use Rattle.relay_http.specs.declared.fault.RequestFault.TheVariants.{BadHead, BadTarget, NoRoute}
 use Rattle.relay_http.specs.declared.fault.RequestFault.TheVariants.{BadMethod, BadMoment}
 use Rattle.relay_http.specs.declared.place.Place.{Place}
-use Rattle.relay_http.specs.declared.place.Place.TheVariants.{Messages, AllMessages, Grants, Parked}
-use Rattle.relay_http.specs.declared.place.Place.TheVariants.{HostFile, HostFileAfter, Report}
+use Rattle.relay_http.specs.declared.place.Place.TheVariants.{Messages, AllMessages, Count, Grants}
+use Rattle.relay_http.specs.declared.place.Place.TheVariants.{Parked, HostFile, HostFileAfter}
+use Rattle.relay_http.specs.declared.place.Place.TheVariants.{Report}
 use Rattle.relay_http.specs.declared.place.Methods.{Methods}
 use Rattle.relay_http.specs.declared.place.Methods.TheVariants.{Post, GetOrHead}
 
@@ -36,6 +37,7 @@ is_head method = bytes_eq method (codes "HEAD")
 abbrev pub methods_of : Place → Methods
 methods_of Messages = Post
 methods_of AllMessages = GetOrHead
+methods_of Count = GetOrHead
 methods_of Grants = GetOrHead
 methods_of Parked = GetOrHead
 methods_of HostFile = GetOrHead
@@ -57,6 +59,7 @@ abbrev pub sought : Place → (List ℕ → List ℕ) → Fields → (rest : Lis
 sought Messages part_named fields rest =
     delivered (part_named (codes "relay")) (content_of fields rest)
 sought AllMessages part_named fields rest = all_messages
+sought Count part_named fields rest = count
 sought Grants part_named fields rest = grants (part_named (codes "at"))
 sought Parked part_named fields rest = parked
 sought HostFile part_named fields rest = host_file (part_named (codes "host"))
@@ -111,6 +114,7 @@ DatesAt question at asked =
 abbrev pub Dates : Asked (List ℕ) → Asked ℕ → Type 0
 Dates (deliver relay body) asked = asked ≡ deliver relay body
 Dates all_messages asked = asked ≡ all_messages
+Dates count asked = asked ≡ count
 Dates (grants at) asked = DatesAt grants at asked
 Dates parked asked = asked ≡ parked
 Dates (host_file host) asked = asked ≡ host_file host

@@ -2,24 +2,29 @@
 
 ghost use Rattle.std.specs.Prelude.{◌≡◌};
 ghost use Rattle.desk_store.specs.Serves.{Serves};
-ghost use Rattle.relay_http.specs.Asked.{all_messages, asked_of, deliver, grants};
+ghost use Rattle.relay_http.specs.Asked.{all_messages, asked_of, count, deliver, grants};
 ghost use Rattle.relay_http.specs.Asked.{host_file, host_file_after, parked, report};
 ghost use Rattle.relay_http.specs.Exchange.{IsAnswered};
+ghost use Rattle.relay_http.specs.Lasting.{Lasts};
 ghost use Rattle.relay_http.specs.Prepared.{reply_of, to_question};
+ghost use Rattle.relay_http.specs.Replies.{TellsRefusal};
 
 use crate::answer::{Answer, to_delivery, to_fault, to_question};
 use crate::asked::Ask;
-use crate::bodies::{lines_text, live_text};
+use crate::bodies::{count_text, lines_text, live_text};
 use desk::{Desk, Keeper, Refusal};
 use std::alloc::Global;
 use sudo_words::{HostName, Moment, WordFault};
 
 /// The answer to a delivery. Once the message is acknowledged no memory is taken.
 fn delivered<K: Keeper>(desk: &mut Desk<K>, relay: &str, body: &[u8]) -> Answer
-    ensures answered { IsAnswered desk.old.roster.says desk.old.base
+    ensures answered { IsAnswered desk.old.roster desk.old.base
         (K.is_up desk.new.keeper) (K.holds desk.old.keeper) (K.holds desk.new.keeper)
         (K.is_same desk.old.keeper desk.new.keeper) (Serves K.Keeper desk.old.keeper
         desk.new.keeper) (deliver relay.now body.now) (reply_of result) }
+    ensures lasts { Lasts K.Keeper desk.old.roster.says desk.old.roster.text
+        desk.old.keeper desk.new.keeper (deliver relay.now body.now) (reply_of result) }
+    ensures told { TellsRefusal result.refusal (reply_of result) }
     ensures roster { desk.new.roster ≡ desk.old.roster }
     ensures base { desk.new.base ≡ desk.old.base }
 {
@@ -28,10 +33,12 @@ fn delivered<K: Keeper>(desk: &mut Desk<K>, relay: &str, body: &[u8]) -> Answer
 
 /// The lines of all messages.
 fn all_messages<K: Keeper>(alloc: Global, desk: &mut Desk<K>) -> Result<String, Refusal>
-    ensures answered { IsAnswered desk.old.roster.says desk.old.base
+    ensures answered { IsAnswered desk.old.roster desk.old.base
         (K.is_up desk.new.keeper) (K.holds desk.old.keeper) (K.holds desk.new.keeper)
         (K.is_same desk.old.keeper desk.new.keeper)
         (Serves K.Keeper desk.old.keeper desk.new.keeper) all_messages (to_question result) }
+    ensures lasts { Lasts K.Keeper desk.old.roster.says desk.old.roster.text
+        desk.old.keeper desk.new.keeper all_messages (to_question result) }
     ensures roster { desk.new.roster ≡ desk.old.roster }
     ensures base { desk.new.base ≡ desk.old.base }
 {
@@ -44,12 +51,34 @@ fn all_messages<K: Keeper>(alloc: Global, desk: &mut Desk<K>) -> Result<String, 
     }
 }
 
+/// The line that says how many messages there are, under which roster and which base.
+fn count<K: Keeper>(alloc: Global, desk: &mut Desk<K>) -> Result<String, Refusal>
+    ensures answered { IsAnswered desk.old.roster desk.old.base
+        (K.is_up desk.new.keeper) (K.holds desk.old.keeper) (K.holds desk.new.keeper)
+        (K.is_same desk.old.keeper desk.new.keeper)
+        (Serves K.Keeper desk.old.keeper desk.new.keeper) count (to_question result) }
+    ensures lasts { Lasts K.Keeper desk.old.roster.says desk.old.roster.text
+        desk.old.keeper desk.new.keeper count (to_question result) }
+    ensures roster { desk.new.roster ≡ desk.old.roster }
+    ensures base { desk.new.base ≡ desk.old.base }
+{
+    match desk.count() {
+        Ok(messages) => match count_text(alloc, messages, desk.roster().text(), desk.base()) {
+            Ok(text) => Ok(text),
+            Err(_) => Err(Refusal::NoMemory),
+        },
+        Err(refusal) => Err(refusal),
+    }
+}
+
 /// The lines of the grants in force.
 fn live<K: Keeper>(alloc: Global, desk: &mut Desk<K>, at: Moment) -> Result<String, Refusal>
-    ensures answered { IsAnswered desk.old.roster.says desk.old.base
+    ensures answered { IsAnswered desk.old.roster desk.old.base
         (K.is_up desk.new.keeper) (K.holds desk.old.keeper) (K.holds desk.new.keeper)
         (K.is_same desk.old.keeper desk.new.keeper)
         (Serves K.Keeper desk.old.keeper desk.new.keeper) (grants at) (to_question result) }
+    ensures lasts { Lasts K.Keeper desk.old.roster.says desk.old.roster.text
+        desk.old.keeper desk.new.keeper (grants at) (to_question result) }
     ensures roster { desk.new.roster ≡ desk.old.roster }
     ensures base { desk.new.base ≡ desk.old.base }
 {
@@ -64,10 +93,12 @@ fn live<K: Keeper>(alloc: Global, desk: &mut Desk<K>, at: Moment) -> Result<Stri
 
 /// The lines of the parked verdicts.
 fn parked<K: Keeper>(alloc: Global, desk: &mut Desk<K>) -> Result<String, Refusal>
-    ensures answered { IsAnswered desk.old.roster.says desk.old.base
+    ensures answered { IsAnswered desk.old.roster desk.old.base
         (K.is_up desk.new.keeper) (K.holds desk.old.keeper) (K.holds desk.new.keeper)
         (K.is_same desk.old.keeper desk.new.keeper)
         (Serves K.Keeper desk.old.keeper desk.new.keeper) parked (to_question result) }
+    ensures lasts { Lasts K.Keeper desk.old.roster.says desk.old.roster.text
+        desk.old.keeper desk.new.keeper parked (to_question result) }
     ensures roster { desk.new.roster ≡ desk.old.roster }
     ensures base { desk.new.base ≡ desk.old.base }
 {
@@ -82,10 +113,12 @@ fn parked<K: Keeper>(alloc: Global, desk: &mut Desk<K>) -> Result<String, Refusa
 
 /// The host's file. A text that is not a host's name counts as a host that the roster lacks.
 fn host_file<K: Keeper>(alloc: Global, desk: &mut Desk<K>, host: &str) -> Result<String, Refusal>
-    ensures answered { IsAnswered desk.old.roster.says desk.old.base
+    ensures answered { IsAnswered desk.old.roster desk.old.base
         (K.is_up desk.new.keeper) (K.holds desk.old.keeper) (K.holds desk.new.keeper)
         (K.is_same desk.old.keeper desk.new.keeper) (Serves K.Keeper
         desk.old.keeper desk.new.keeper) (host_file host.now) (to_question result) }
+    ensures lasts { Lasts K.Keeper desk.old.roster.says desk.old.roster.text
+        desk.old.keeper desk.new.keeper (host_file host.now) (to_question result) }
     ensures roster { desk.new.roster ≡ desk.old.roster }
     ensures base { desk.new.base ≡ desk.old.base }
 {
@@ -103,10 +136,12 @@ fn host_file_after<K: Keeper>(
     host: &str,
     at: Moment,
 ) -> Result<String, Refusal>
-    ensures answered { IsAnswered desk.old.roster.says desk.old.base
+    ensures answered { IsAnswered desk.old.roster desk.old.base
         (K.is_up desk.new.keeper) (K.holds desk.old.keeper) (K.holds desk.new.keeper)
         (K.is_same desk.old.keeper desk.new.keeper) (Serves K.Keeper desk.old.keeper
         desk.new.keeper) (host_file_after host.now at) (to_question result) }
+    ensures lasts { Lasts K.Keeper desk.old.roster.says desk.old.roster.text
+        desk.old.keeper desk.new.keeper (host_file_after host.now at) (to_question result) }
     ensures roster { desk.new.roster ≡ desk.old.roster }
     ensures base { desk.new.base ≡ desk.old.base }
 {
@@ -119,10 +154,12 @@ fn host_file_after<K: Keeper>(
 
 /// The report of what the desk holds.
 fn report<K: Keeper>(desk: &mut Desk<K>, at: Moment) -> Result<String, Refusal>
-    ensures answered { IsAnswered desk.old.roster.says desk.old.base
+    ensures answered { IsAnswered desk.old.roster desk.old.base
         (K.is_up desk.new.keeper) (K.holds desk.old.keeper) (K.holds desk.new.keeper)
         (K.is_same desk.old.keeper desk.new.keeper)
         (Serves K.Keeper desk.old.keeper desk.new.keeper) (report at) (to_question result) }
+    ensures lasts { Lasts K.Keeper desk.old.roster.says desk.old.roster.text
+        desk.old.keeper desk.new.keeper (report at) (to_question result) }
     ensures roster { desk.new.roster ≡ desk.old.roster }
     ensures base { desk.new.base ≡ desk.old.base }
 {
@@ -131,16 +168,20 @@ fn report<K: Keeper>(desk: &mut Desk<K>, at: Moment) -> Result<String, Refusal>
 
 /// The answer of the desk to what is asked.
 pub fn answered<K: Keeper>(alloc: Global, desk: &mut Desk<K>, ask: Ask<'_>) -> Answer
-    ensures answered { IsAnswered desk.old.roster.says desk.old.base
+    ensures answered { IsAnswered desk.old.roster desk.old.base
         (K.is_up desk.new.keeper) (K.holds desk.old.keeper) (K.holds desk.new.keeper)
         (K.is_same desk.old.keeper desk.new.keeper)
         (Serves K.Keeper desk.old.keeper desk.new.keeper) (asked_of ask.entry) (reply_of result) }
+    ensures lasts { Lasts K.Keeper desk.old.roster.says desk.old.roster.text
+        desk.old.keeper desk.new.keeper (asked_of ask.entry) (reply_of result) }
+    ensures told { TellsRefusal result.refusal (reply_of result) }
     ensures roster { desk.new.roster ≡ desk.old.roster }
     ensures base { desk.new.base ≡ desk.old.base }
 {
     match ask {
         Ask::Deliver { relay, body } => delivered(desk, relay, body),
         Ask::AllMessages => to_question(all_messages(alloc, desk)),
+        Ask::Count => to_question(count(alloc, desk)),
         Ask::Grants(at) => to_question(live(alloc, desk, at)),
         Ask::Parked => to_question(parked(alloc, desk)),
         Ask::HostFile(host) => to_question(host_file(alloc, desk, host)),

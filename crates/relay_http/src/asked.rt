@@ -10,6 +10,8 @@ pub enum Ask<'b> {
     Deliver { relay: &'b str, body: &'b [u8] },
     /// Every message.
     AllMessages,
+    /// How many messages there are, under which roster and which base.
+    Count,
     /// The grants that are live at the moment.
     Grants(Moment),
     /// The verdicts whose request has not come.

@@ -1,14 +1,17 @@
 //! The bodies of replies to questions.
 
 ghost use Rattle.std.specs.Prelude.{◌≡◌, ◌++◌, ◌∷◌, [], IfOk, OnOk, map, string_bytes};
+ghost use Rattle.relay_http.specs.Replies.{count_line, digest_text};
 ghost use Rattle.relay_http.specs.Replies.{each_on_a_line, live_line, moment_text};
 ghost use Rattle.relay_http.specs.Replies.{name_text, newline, window_text};
 
 use desk::{Live, RequestName};
 use grants::Window;
+use sha2::{Digest, Sha256};
 use std::alloc::{AllocError, Global};
 use std::fmt::Write;
-use sudo_words::Moment;
+use sudo_policy::{Policy, print_policy};
+use sudo_words::{Moment, NoMemory};
 
 #[tactic(auto, unfolding(crate::specs::Replies::moment_text))]
 fn push_stamp(out: &mut String, moment: Moment) -> Result<(), AllocError>
@@ -78,5 +81,36 @@ pub fn lines_text(alloc: Global, texts: &[String]) -> Result<String, AllocError>
     for text in texts {
         push_line(&mut out, text.as_str())?;
     }
+    Ok(out)
+}
+
+/// Appends the SHA-256 digest of the text.
+#[tactic(auto, unfolding(crate::specs::Replies::digest_text))]
+fn push_digest(alloc: Global, out: &mut String, text: &str) -> Result<(), AllocError>
+    ensures { OnOk result (string_bytes out.new ≡ string_bytes out.old ++ digest_text text.now) }
+{
+    let digest = hex::encode(alloc, Sha256::digest(text.as_bytes()))?;
+    out.push_str(digest.as_str())
+}
+
+/// The line that says how many messages there are, with the digests of the roster's text and of the
+/// base's canonical text.
+#[tactic(auto, unfolding(crate::specs::Replies::count_line))]
+pub fn count_text(
+    alloc: Global,
+    messages: usize,
+    roster: &str,
+    base: &Policy,
+) -> Result<String, NoMemory>
+    ensures { IfOk result
+        (λ s. string_bytes s ≡ count_line messages roster.now base.now ++ newline ∷ []) }
+{
+    let canonical = print_policy(alloc, base)?;
+    let mut out = String::new(alloc);
+    write!(out, "{messages} ")?;
+    push_digest(alloc, &mut out, roster)?;
+    out.push_str(" ")?;
+    push_digest(alloc, &mut out, canonical.as_str())?;
+    out.push_str("\n")?;
     Ok(out)
 }

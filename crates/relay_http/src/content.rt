@@ -3,8 +3,9 @@
 ghost use Rattle.std.specs.Prelude.{◌≡◌, ℕ, List, Some, None, if◌then◌else◌};
 ghost use Rattle.std.specs.Result.{result_map_both};
 ghost use Rattle.std.specs.Str.Parse.{digits_value};
-ghost use Rattle.relay_http.specs.Content.{by_lengths, content, is_length, sized};
+ghost use Rattle.relay_http.specs.Content.{is_length, sized};
 ghost use Rattle.relay_http.specs.Seen.{AreValues};
+ghost use Rattle.relay_http.specs.Stages.{cut, size, size_by};
 
 use crate::fault::RequestFault;
 use crate::values::Values;
@@ -31,40 +32,36 @@ fn sized(n: u64, rest: &[u8]) -> Result<&[u8], RequestFault>
     Ok(&rest[..n as usize])
 }
 
-fn by_lengths<'b>(lengths: Values<'_>, rest: &'b [u8]) -> Result<&'b [u8], RequestFault>
-    ensures { (vs : List (List ℕ)) → AreValues lengths.entry vs
-        → result_map_both (λ b. b.now) (λ e. e) result ≡ by_lengths vs rest.now }
+fn by_lengths(lengths: Values<'_>) -> Result<u64, RequestFault>
+    ensures { (vs : List (List ℕ)) → AreValues lengths.entry vs → result ≡ size_by vs }
 {
     match lengths {
         Values::Nothing => Err(RequestFault::LengthRequired),
         Values::One(value) => match length_of(value) {
-            Some(n) => sized(n, rest),
+            Some(n) => Ok(n),
             None => Err(RequestFault::BadLength),
         },
         Values::Many => Err(RequestFault::BadLength),
     }
 }
 
-/// How many bytes of the content are missing, where so many have come.
-pub fn lacking(lengths: Values<'_>, come: usize) -> usize {
-    match lengths {
-        Values::One(value) => length_of(value).map_or(0, |n| (n as usize).saturating_sub(come)),
-        _ => 0,
+/// The length of the content, by the values of Transfer-Encoding and Content-Length.
+pub fn content_size(codings: Values<'_>, lengths: Values<'_>) -> Result<u64, RequestFault>
+    ensures { (cs ls : List (List ℕ)) → AreValues codings.entry cs → AreValues lengths.entry ls
+        → result ≡ size cs ls }
+{
+    match codings {
+        Values::Nothing => by_lengths(lengths),
+        _ => Err(RequestFault::BadLength),
     }
 }
 
-/// The content, by the values of Transfer-Encoding and Content-Length and the bytes that follow the
-/// head.
-pub fn content<'b>(
-    codings: Values<'_>,
-    lengths: Values<'_>,
-    rest: &'b [u8],
-) -> Result<&'b [u8], RequestFault>
-    ensures { (cs ls : List (List ℕ)) → AreValues codings.entry cs → AreValues lengths.entry ls
-        → result_map_both (λ b. b.now) (λ e. e) result ≡ content cs ls rest.now }
+/// The content of this length, by the bytes that follow the head.
+pub fn content(size: Result<u64, RequestFault>, rest: &[u8]) -> Result<&[u8], RequestFault>
+    ensures { result_map_both (λ b. b.now) (λ e. e) result ≡ cut size rest.now }
 {
-    match codings {
-        Values::Nothing => by_lengths(lengths, rest),
-        _ => Err(RequestFault::BadLength),
+    match size {
+        Ok(n) => sized(n, rest),
+        Err(fault) => Err(fault),
     }
 }

@@ -5,10 +5,9 @@ ghost use Rattle.std.specs.Prelude.{codes, false, length, take, true};
 ghost use Rattle.httparse.specs.Grammar.{ReadsRequest, RequestHead};
 ghost use Rattle.matchit.specs.Router.{RouteOf};
 ghost use Rattle.matchit.specs.Seek.{first};
-ghost use Rattle.sudo_words.specs.declared.cmnd.Cmnd.{Cmnd as AnyCmnd};
 ghost use Rattle.sudo_policy.specs.declared.entry.Entry.{Entry};
 ghost use Rattle.messages.specs.declared.message.Message.{Message};
-ghost use Rattle.roster.specs.Fields.{RosterFields};
+ghost use Rattle.roster.specs.Fields.{Reading};
 ghost use Rattle.relay_http.specs.Asked.{Asked, Request, deliver, refused};
 ghost use Rattle.relay_http.specs.Fields.{Fields};
 ghost use Rattle.relay_http.specs.Replies.{Reply, IsReply};
@@ -70,6 +69,6 @@ pub fn first_bytes_decide()
 /// What is asked of a roster, a base and a set of messages has at most one right reply: so requests
 /// that ask for the same get the same.
 pub fn one_reply()
-    ensures { (f : RosterFields AnyCmnd) (base : List Entry) (set : List Message) (asked : Asked ℕ)
-        (a b : Reply) → IsReply f base set asked a → IsReply f base set asked b → a ≡ b }
+    ensures { (roster : Reading) (base : List Entry) (set : List Message) (asked : Asked ℕ)
+        (a b : Reply) → IsReply roster base set asked a → IsReply roster base set asked b → a ≡ b }
 {}

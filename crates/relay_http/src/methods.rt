@@ -4,12 +4,13 @@ ghost use Rattle.std.specs.Prelude.{◌≡◌};
 ghost use Rattle.relay_http.specs.Wanted.{allow, is_head};
 
 use crate::place::Methods;
+use http::Method;
 
 /// Whether the method is HEAD.
 pub fn is_head(method: &[u8]) -> bool
     ensures { result ≡ is_head method.now }
 {
-    method == b"HEAD".as_slice()
+    method == Method::HEAD.as_str().as_bytes()
 }
 
 /// Whether this is one of the methods.
@@ -17,7 +18,7 @@ pub fn allow(methods: Methods, method: &[u8]) -> bool
     ensures { result ≡ allow methods method.now }
 {
     match methods {
-        Methods::Post => method == b"POST".as_slice(),
-        Methods::GetOrHead => method == b"GET".as_slice() || is_head(method),
+        Methods::Post => method == Method::POST.as_str().as_bytes(),
+        Methods::GetOrHead => method == Method::GET.as_str().as_bytes() || is_head(method),
     }
 }

@@ -7,6 +7,8 @@ pub enum Place {
     Messages,
     /// Every message.
     AllMessages,
+    /// How many messages there are, under which roster and which base.
+    Count,
     /// The grants that are live at a moment.
     Grants,
     /// The verdicts whose request has not come.
@@ -30,6 +32,7 @@ impl Place {
         match self {
             Place::Messages => Methods::Post,
             Place::AllMessages
+            | Place::Count
             | Place::Grants
             | Place::Parked
             | Place::HostFile

@@ -4,7 +4,7 @@ ghost use Rattle.std.specs.Prelude.{◌≡◌, ◌++◌, IfOk, OnOk};
 ghost use Rattle.relay_http.specs.Reply.{fault_line, status_of, written};
 
 use crate::fault::RequestFault;
-use crate::page::{PAGE, put_head};
+use crate::page::{MOST_REPLY_HEAD, put_head};
 use crate::status::Status;
 use std::alloc::{AllocError, Global};
 use sudo_words::NoMemory;
@@ -25,7 +25,7 @@ pub fn written(
 ) -> Result<Vec<u8>, NoMemory>
     ensures { IfOk result (λ out. out.items ≡ written status body.now with_body) }
 {
-    let mut page = [0; PAGE];
+    let mut page = [0; MOST_REPLY_HEAD];
     let end = put_head(&mut page, status, body.len());
     let mut out = Vec::from_slice(alloc, &page[..end])?;
     if with_body {

@@ -86,6 +86,7 @@ fn router(alloc: Global) -> Result<Router<Place>, NoMemory>
         Place::HostFileAfter,
     )?;
     add(&mut router, "/v1/messages", Place::AllMessages)?;
+    add(&mut router, "/v1/count", Place::Count)?;
     Ok(router)
 }
 
@@ -96,7 +97,7 @@ fn parameter(place: Place) -> &'static str
     match place {
         Place::Messages => "relay",
         Place::Grants | Place::Report => "at",
-        Place::AllMessages | Place::Parked => "",
+        Place::AllMessages | Place::Count | Place::Parked => "",
         Place::HostFile | Place::HostFileAfter => "host",
     }
 }
@@ -109,6 +110,7 @@ fn moment_parameter(place: Place) -> &'static str
         Place::HostFileAfter => "at",
         Place::Messages
         | Place::AllMessages
+        | Place::Count
         | Place::Grants
         | Place::Parked
         | Place::HostFile

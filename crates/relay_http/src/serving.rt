@@ -1,25 +1,24 @@
 //! One exchange.
 
 ghost use Rattle.std.specs.Prelude.{◌≡◌, ◌≢◌, ◌⊎◌, ℕ, Err, IfSome, MatchResult, OnOk, codes};
-ghost use Rattle.std.specs.Prelude.{length};
 ghost use Rattle.httparse.specs.Grammar.{RequestHead};
 ghost use Rattle.desk_store.specs.Keeping.{HasFailed};
 ghost use Rattle.desk_store.specs.Serves.{Serves};
 ghost use Rattle.relay_http.specs.Asked.{Request};
 ghost use Rattle.relay_http.specs.Counting.{one_failure};
 ghost use Rattle.relay_http.specs.Exchange.{HasReplied, IsAcknowledged, IsExchange, WritesWant};
+ghost use Rattle.relay_http.specs.Lasting.{LastsWith};
 ghost use Rattle.relay_http.specs.Sent.{Sends};
 ghost use Rattle.relay_http.specs.Wanted.{Asks, HasHead};
 ghost use Rattle.relay_http.specs.declared.serving.ServeFault.TheVariants.{NoMemory, ReadFailed};
 ghost use Rattle.relay_http.specs.declared.serving.ServeFault.TheVariants.{WriteFailed};
 
-use crate::answering::answered;
 use crate::counted::Counted;
+use crate::exchange::Exchange;
+use crate::outgoing::Page;
 use crate::reading::read_request;
-use crate::request::wanted;
 use crate::routes::Routes;
-use crate::sending::{self, send_reply};
-use crate::workspace::Workspace;
+use crate::sending::{self, send_all};
 use desk::{Desk, Keeper};
 use std::alloc::Global;
 use std::error::Error;
@@ -55,109 +54,38 @@ impl fmt::Display for ServeFault {
 
 impl Error for ServeFault {}
 
-/// Has the desk answer what the bytes ask for, and writes the reply. Once a message is acknowledged
-/// no memory is taken.
+/// Has the desk answer what the bytes that have come ask for, and writes the reply. Once a message
+/// is acknowledged no memory is taken.
 fn reply_to<K: Keeper, W: Write>(
     alloc: Global,
     routes: &Routes,
+    exchange: &Exchange,
     desk: &mut Desk<K>,
     writer: &mut Counted<W>,
-    page: &mut [u8],
-    bytes: &[u8],
+    page: &mut Page,
 ) -> Result<(), sending::WriteFailed>
-    requires { length page.old ≡ 4_096 }
-    ensures len { length page.new ≡ length page.old }
-    ensures exchange { (request : Request ℕ) × Asks bytes.now request
-        × IsExchange desk.old.roster.says desk.old.base (K.is_up desk.new.keeper)
+    ensures exchange { (request : Request ℕ) × Asks exchange.now.bytes request
+        × IsExchange desk.old.roster desk.old.base (K.is_up desk.new.keeper)
         (K.holds desk.old.keeper) (K.holds desk.new.keeper) (K.is_same desk.old.keeper
         desk.new.keeper) (Serves K.Keeper desk.old.keeper desk.new.keeper) (λ reply.
         Sends (W.contents writer.old.inner) (W.contents writer.new.inner) result reply) request }
+    ensures lasts { (request : Request ℕ) × Asks exchange.now.bytes request × LastsWith K.Keeper
+        desk.old.roster.says desk.old.roster.text desk.old.keeper desk.new.keeper (λ reply. Sends
+        (W.contents writer.old.inner) (W.contents writer.new.inner) result reply) request }
     ensures counted { MatchResult result (λ _. writer.new.failures ≡ writer.old.failures)
         (λ _. writer.new.failures ≡ one_failure writer.old.failures) }
     ensures roster { desk.new.roster ≡ desk.old.roster }
     ensures base { desk.new.base ≡ desk.old.base }
 {
-    let wanted = wanted(routes, bytes);
-    let answer = answered(alloc, desk, wanted.ask);
-    send_reply(
-        writer,
-        page,
-        answer.status,
-        answer.body.as_bytes(),
-        wanted.with_body,
-    )
-}
-
-/// Does what `serve_one` does, in the workspace that one exchange leaves to the next.
-///
-/// The buffer, the page and the routes are those of the workspace. Where an earlier exchange did
-/// not leave them there, they are made before anything is read: if memory runs out for them, the
-/// result is `NoMemory`, and nothing was read. If it runs out later, the desk's reply says so. Once
-/// a message is acknowledged no memory is taken.
-pub fn serve_in<K: Keeper, R: Read, W: Write>(
-    alloc: Global,
-    desk: &mut Desk<K>,
-    workspace: &mut Workspace,
-    reader: &mut Counted<R>,
-    writer: &mut Counted<W>,
-) -> Result<(), ServeFault>
-    // The bytes that the reader has left ask for one thing. The desk's reply to it was written, or
-    // where a write failed a beginning of it.
-    ensures exchange { HasReplied result
-        → IfSome (R.remaining reader.old.inner) (λ all. (request : Request ℕ) → Asks all request
-        → IsExchange desk.old.roster.says desk.old.base (K.is_up desk.new.keeper)
-        (K.holds desk.old.keeper) (K.holds desk.new.keeper) (K.is_same desk.old.keeper
-        desk.new.keeper) (Serves K.Keeper desk.old.keeper desk.new.keeper) (λ bytes.
-        Sends (W.contents writer.old.inner) (W.contents writer.new.inner) result bytes) request) }
-    // A request that is not a POST changes nothing, and only the exchange of a POST to a relay's
-    // messages with the status 200 changes anything.
-    ensures queries { HasReplied result → K.is_up desk.new.keeper
-        → IfSome (R.remaining reader.old.inner) (λ all. (head : RequestHead) → HasHead all head
-        → head.method ≢ codes "POST" → K.is_same desk.old.keeper desk.new.keeper) }
-    ensures changes { HasReplied result → K.is_up desk.new.keeper
-        → IfSome (R.remaining reader.old.inner)
-        (λ all. K.is_same desk.old.keeper desk.new.keeper ⊎ IsAcknowledged all
-        (λ bytes. Sends (W.contents writer.old.inner) (W.contents writer.new.inner) result bytes)) }
-    ensures unanswered { (result ≡ Err ReadFailed) ⊎ (result ≡ Err NoMemory)
-        → (desk.new ≡ desk.old) × (writer.new ≡ writer.old) }
-    ensures unread { result ≡ Err NoMemory → reader.new ≡ reader.old }
-    ensures read_failed { result ≡ Err ReadFailed
-        → HasFailed reader.old.failures reader.new.failures }
-    ensures write_failed { result ≡ Err WriteFailed
-        → HasFailed writer.old.failures writer.new.failures }
-    // At Ok no read and no write failed, not even one that was tried again.
-    ensures unfailing { OnOk result ((reader.new.failures ≡ reader.old.failures)
-        × (writer.new.failures ≡ writer.old.failures)) }
-    ensures roster { desk.new.roster ≡ desk.old.roster }
-    ensures base { desk.new.base ≡ desk.old.base }
-    // The keeper is up then, unless a reply of K4 or K5 was written, or a beginning of it.
-    ensures served { Serves K.Keeper desk.old.keeper desk.new.keeper ⊥ (WritesWant
-        (λ bytes. Sends (W.contents writer.old.inner) (W.contents writer.new.inner) result bytes)) }
-{
-    let Ok(kept) = workspace.kept(alloc) else {
-        return Err(ServeFault::NoMemory);
-    };
-    let Ok(filled) = read_request(&kept.routes, reader, &mut kept.buf) else {
-        return Err(ServeFault::ReadFailed);
-    };
-    match reply_to(
-        alloc,
-        &kept.routes,
-        desk,
-        writer,
-        &mut kept.page,
-        &kept.buf[..filled],
-    ) {
-        Ok(()) => Ok(()),
-        Err(_) => Err(ServeFault::WriteFailed),
-    }
+    let mut reply = exchange.answer(alloc, routes, desk);
+    send_all(&mut reply.rest, writer, page)
 }
 
 /// Reads a request, has the desk answer it, and writes the reply.
 ///
-/// The buffer, the page and the routes are made before anything is read: if memory runs out for
-/// them, the result is `NoMemory`, and nothing was read. If it runs out later, the desk's reply
-/// says so. Once a message is acknowledged no memory is taken.
+/// The room for a request, the page and the routes are made before anything is read: if memory runs
+/// out for them, the result is `NoMemory`, and nothing was read. If it runs out later, the desk's
+/// reply says so. Once a message is acknowledged no memory is taken.
 pub fn serve_one<K: Keeper, R: Read, W: Write>(
     alloc: Global,
     desk: &mut Desk<K>,
@@ -168,7 +96,7 @@ pub fn serve_one<K: Keeper, R: Read, W: Write>(
     // where a write failed a beginning of it.
     ensures exchange { HasReplied result
         → IfSome (R.remaining reader.old.inner) (λ all. (request : Request ℕ) → Asks all request
-        → IsExchange desk.old.roster.says desk.old.base (K.is_up desk.new.keeper)
+        → IsExchange desk.old.roster desk.old.base (K.is_up desk.new.keeper)
         (K.holds desk.old.keeper) (K.holds desk.new.keeper) (K.is_same desk.old.keeper
         desk.new.keeper) (Serves K.Keeper desk.old.keeper desk.new.keeper) (λ bytes.
         Sends (W.contents writer.old.inner) (W.contents writer.new.inner) result bytes) request) }
@@ -181,6 +109,13 @@ pub fn serve_one<K: Keeper, R: Read, W: Write>(
         → IfSome (R.remaining reader.old.inner)
         (λ all. K.is_same desk.old.keeper desk.new.keeper ⊎ IsAcknowledged all
         (λ bytes. Sends (W.contents writer.old.inner) (W.contents writer.new.inner) result bytes)) }
+    // Over an honest disk: after a reply with the status 200 the keeper is up; and a crash leaves
+    // what it might have left before, or what a delivery commits, if the keeper was up.
+    ensures lasts { HasReplied result
+        → IfSome (R.remaining reader.old.inner) (λ all. (request : Request ℕ) → Asks all request
+        → LastsWith K.Keeper desk.old.roster.says desk.old.roster.text desk.old.keeper
+        desk.new.keeper (λ bytes. Sends (W.contents writer.old.inner) (W.contents writer.new.inner)
+        result bytes) request) }
     ensures unanswered { (result ≡ Err ReadFailed) ⊎ (result ≡ Err NoMemory)
         → (desk.new ≡ desk.old) × (writer.new ≡ writer.old) }
     ensures unread { result ≡ Err NoMemory → reader.new ≡ reader.old }
@@ -197,6 +132,20 @@ pub fn serve_one<K: Keeper, R: Read, W: Write>(
     ensures served { Serves K.Keeper desk.old.keeper desk.new.keeper ⊥ (WritesWant
         (λ bytes. Sends (W.contents writer.old.inner) (W.contents writer.new.inner) result bytes)) }
 {
-    let mut workspace = Workspace::new();
-    serve_in(alloc, desk, &mut workspace, reader, writer)
+    let Ok(routes) = Routes::new(alloc) else {
+        return Err(ServeFault::NoMemory);
+    };
+    let Ok(mut page) = Page::new(alloc) else {
+        return Err(ServeFault::NoMemory);
+    };
+    let Ok(mut exchange) = Exchange::with_room(alloc) else {
+        return Err(ServeFault::NoMemory);
+    };
+    let Ok(()) = read_request(&mut exchange, &routes, reader, &mut page) else {
+        return Err(ServeFault::ReadFailed);
+    };
+    match reply_to(alloc, &routes, &exchange, desk, writer, &mut page) {
+        Ok(()) => Ok(()),
+        Err(_) => Err(ServeFault::WriteFailed),
+    }
 }

@@ -1,9 +1,10 @@
 //! The statuses of replies.
 
 ghost use Rattle.std.specs.Prelude.{◌≡◌, ◌≤◌, length};
-ghost use Rattle.relay_http.specs.Reply.{allow_line, status_text};
+ghost use Rattle.relay_http.specs.Reply.{allow_line, phrase_of};
 
 use crate::place::Methods;
+use http::StatusCode;
 
 /// The status of a reply.
 #[derive(Clone, Copy, Debug, PartialEq, Eq)]
@@ -26,20 +27,40 @@ pub enum Status {
     ServiceUnavailable,
 }
 
-/// The code of a status and its phrase.
-pub(crate) fn status_text(status: Status) -> &'static [u8]
-    ensures text { result.now ≡ status_text status }
-    ensures short { length result.now ≤ 40 }
+impl Status {
+    ghost use Rattle.relay_http.specs.Reply.{code_of};
+
+    /// Its code.
+    pub fn code(self) -> StatusCode
+        ensures { result ≡ code_of self }
+    {
+        match self {
+            Status::Done => StatusCode::OK,
+            Status::BadRequest => StatusCode::BAD_REQUEST,
+            Status::Forbidden => StatusCode::FORBIDDEN,
+            Status::NotFound => StatusCode::NOT_FOUND,
+            Status::MethodNotAllowed(_) => StatusCode::METHOD_NOT_ALLOWED,
+            Status::LengthRequired => StatusCode::LENGTH_REQUIRED,
+            Status::ContentTooLarge => StatusCode::PAYLOAD_TOO_LARGE,
+            Status::ServiceUnavailable => StatusCode::SERVICE_UNAVAILABLE,
+        }
+    }
+}
+
+/// The phrase of a status: that of RFC 9110, in which 413 is no longer the one that `http` has.
+pub(crate) fn phrase(status: Status) -> &'static [u8]
+    ensures text { result.now ≡ phrase_of status }
+    ensures short { length result.now ≤ 30 }
 {
     match status {
-        Status::Done => b"200 OK",
-        Status::BadRequest => b"400 Bad Request",
-        Status::Forbidden => b"403 Forbidden",
-        Status::NotFound => b"404 Not Found",
-        Status::MethodNotAllowed(_) => b"405 Method Not Allowed",
-        Status::LengthRequired => b"411 Length Required",
-        Status::ContentTooLarge => b"413 Content Too Large",
-        Status::ServiceUnavailable => b"503 Service Unavailable",
+        Status::Done => b"OK",
+        Status::BadRequest => b"Bad Request",
+        Status::Forbidden => b"Forbidden",
+        Status::NotFound => b"Not Found",
+        Status::MethodNotAllowed(_) => b"Method Not Allowed",
+        Status::LengthRequired => b"Length Required",
+        Status::ContentTooLarge => b"Content Too Large",
+        Status::ServiceUnavailable => b"Service Unavailable",
     }
 }
 

@@ -2,7 +2,7 @@
 //! of replies.
 
 ghost use Rattle.std.specs.Prelude.{◌≡◌, ◌++◌, ◌∷◌, [], codes, false, true};
-ghost use Rattle.relay_http.specs.Asked.{all_messages, deliver, grants, host_file};
+ghost use Rattle.relay_http.specs.Asked.{all_messages, count, deliver, grants, host_file};
 ghost use Rattle.relay_http.specs.Asked.{host_file_after, parked, refused, report};
 ghost use Rattle.relay_http.specs.Reply.{fault_line, status_of, written};
 ghost use Rattle.relay_http.specs.Wanted.{Asks};
@@ -16,8 +16,8 @@ ghost use Rattle.relay_http.specs.declared.place.Methods.TheVariants.{GetOrHead,
 ghost use Rattle.relay_http.specs.declared.status.Status.TheVariants as status;
 
 /// Requests that are answered by the desk: a delivery, one with zeros before its length, all
-/// messages, the grants of a moment by HEAD, a host's file, the same after a moment, the report at
-/// a moment, and a query of HTTP/1.0 without Host.
+/// messages, how many there are, the grants of a moment by HEAD, a host's file, the same after a
+/// moment, the report at a moment, and a query of HTTP/1.0 without Host.
 pub fn worked_requests()
     ensures delivery { Asks (posted (codes "70"))
         (record { with_body = true; asked = deliver (codes "web") approval }) }
@@ -25,6 +25,8 @@ pub fn worked_requests()
         (record { with_body = true; asked = deliver (codes "web") approval }) }
     ensures all_messages { Asks (asked_with_host (codes "GET /v1/messages HTTP/1.1"))
         (record { with_body = true; asked = all_messages }) }
+    ensures count { Asks (asked_with_host (codes "GET /v1/count HTTP/1.1"))
+        (record { with_body = true; asked = count }) }
     ensures grants { Asks (asked_with_host (codes "HEAD /v1/grants/20260105093000Z HTTP/1.1"))
         (record { with_body = false; asked = grants 1_767_605_400 }) }
     ensures host_file { Asks (asked_with_host (codes "GET /v1/hosts/db9/sudoers HTTP/1.1"))
@@ -51,6 +53,10 @@ pub fn worked_refusals()
     ensures slash { Asks (asked_with_host (codes "GET /v1/parked/ HTTP/1.1"))
         (record { with_body = true; asked = refused NoRoute }) }
     ensures posts { Asks (asked_with_host (codes "POST /v1/parked HTTP/1.1"))
+        (record { with_body = true; asked = refused (BadMethod GetOrHead) }) }
+    ensures counts { Asks (asked_with_host (codes "GET /v1/counts HTTP/1.1"))
+        (record { with_body = true; asked = refused NoRoute }) }
+    ensures posts_count { Asks (asked_with_host (codes "POST /v1/count HTTP/1.1"))
         (record { with_body = true; asked = refused (BadMethod GetOrHead) }) }
     ensures gets { Asks (asked_with_host (codes "GET /v1/relays/web/messages HTTP/1.1"))
         (record { with_body = true; asked = refused (BadMethod Post) }) }

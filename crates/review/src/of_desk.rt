@@ -4,7 +4,7 @@ ghost use Rattle.std.specs.Prelude.{◌≡◌, List, IfOk, IfErr, string_bytes};
 ghost use Rattle.messages.specs.declared.message.Message.{Message as AnyMessage};
 ghost use Rattle.desk_store.specs.Sets.{Lists};
 ghost use Rattle.desk.specs.Refusals.{IsWant};
-ghost use Rattle.desk.specs.Serving.{ServesAnswer};
+ghost use Rattle.desk.specs.Serving.{OnlyAsks, ServesAnswer};
 ghost use Rattle.review.specs.Report.{IsReport};
 
 use crate::reporting::report_of;
@@ -26,6 +26,7 @@ pub fn report<K: Keeper>(desk: &mut Desk<K>, at: Moment) -> Result<String, Refus
     ensures roster { desk.new.roster ≡ desk.old.roster }
     ensures base { desk.new.base ≡ desk.old.base }
     ensures served { ServesAnswer K.Keeper desk.old.keeper desk.new.keeper result }
+    ensures asks { OnlyAsks K.Keeper desk.old.keeper desk.new.keeper result }
 {
     let Holdings { summaries, parked } = desk.holdings()?;
     let alloc = *summaries.allocator();

@@ -2,7 +2,10 @@
 
 ghost use Rattle.std.specs.Prelude.{◌≡◌};
 ghost use Rattle.review.specs.Barred as barred;
+ghost use Rattle.review.specs.private.Whys as whys;
 
+use grants::{Weight, weight_of};
+use messages::VerdictKind;
 use roster::{Ceiling, Roster};
 use sudo_words::{Moment, Name};
 
@@ -30,6 +33,18 @@ impl Reason {
     }
 }
 
+/// The reason of a weight; `None` of a verdict that counts.
+fn reason_of(weight: Weight) -> Option<Reason>
+    ensures { result ≡ whys.reason_of weight }
+{
+    match weight {
+        Weight::Counts => None,
+        Weight::Asker => Some(Reason::Asker),
+        Weight::Duty => Some(Reason::Duty),
+        Weight::Conflict => Some(Reason::Conflict),
+    }
+}
+
 /// Why the person may not approve at the moment what the asker asked for under the ceiling; `None`
 /// if the person may (NIST SP 800-53 AC-5).
 pub(crate) fn why_barred(
@@ -41,13 +56,5 @@ pub(crate) fn why_barred(
 ) -> Option<Reason>
     ensures { result ≡ barred.reason roster.now.says ceiling.now asker.now person.now at }
 {
-    if roster.eligible(person, asker, ceiling, at) {
-        None
-    } else if person == asker {
-        Some(Reason::Asker)
-    } else if !roster.holds(person, ceiling.approve(), at) {
-        Some(Reason::Duty)
-    } else {
-        Some(Reason::Conflict)
-    }
+    reason_of(weight_of(roster, ceiling, VerdictKind::Approve, person, asker, at))
 }

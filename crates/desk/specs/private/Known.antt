@@ -12,6 +12,11 @@ abbrev pub IsKnown : (Up : Type 0) → (Message → Type 0) → Option Gathered 
 IsKnown Up S None = Unit {0}
 IsKnown Up S (Some g) = Up → IsKnownOf S g
 
+-- Something is known only while the keeper is up, as long as its disk has been honest.
+abbrev pub IsKnownOfUp : (Clean Up : Type 0) → Option Gathered → Type 0
+IsKnownOfUp Clean Up None = Unit {0}
+IsKnownOfUp Clean Up (Some g) = Clean → Up
+
 -- At first something is known only of a desk that was made: what is gathered from no messages.
 abbrev pub IsKnownAtFirst : Origin → Option Gathered → Type 0
 IsKnownAtFirst origin None = Unit {0}

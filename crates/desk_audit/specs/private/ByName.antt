@@ -8,7 +8,7 @@ use Rattle.messages.specs.declared.message.Message.{Message}
 use Rattle.messages.specs.declared.request_name.RequestName.{RequestName}
 use Rattle.outcomes.specs.private.ByName.{at_name}
 use Rattle.desk_audit.specs.Told.{TellsMessages, name_in}
-use Rattle.desk_audit.specs.declared.gathering.About.{About}
+use Rattle.findings.specs.declared.entry.About.{About}
 
 -- the message's text comes after that of each message of the set
 abbrev pub IsBehind : List Message → Message → Type 0

@@ -1,11 +1,12 @@
 -- What a job comes to before its answer is written. For private clauses.
-use Rattle.std.specs.Prelude.{◌≡◌, ℕ, false, List, Option, Result}
+use Rattle.std.specs.Prelude.{◌≡◌, ◌⊎◌, ℕ, false, List, Option, Result}
 use Rattle.std.specs.Prelude.{Err, Ok, IfErr, IfOk, string_bytes}
 use Rattle.std.specs.Io.KnownBytes.{Appends}
 use Rattle.messages.specs.declared.message.Message.{Message}
 use Rattle.sudo_words.specs.declared.cmnd.Cmnd.{Cmnd}
 use Rattle.roster.specs.Fields.{RosterFields}
 use Rattle.roster.specs.Rules.{is_among}
+use Rattle.desk_store.specs.declared.keeper.Keeper.{Ghosts}
 use Rattle.desk.specs.declared.refusal.Refusal.TheVariants as desk
 use Rattle.desk_commands.specs.Answers.{IsAnswer, IsCause}
 use Rattle.desk_commands.specs.Files.{HoldsRoster, IsFaultOf, IsRosterFault}
@@ -45,6 +46,12 @@ ShowsWantIn (Err reason) = IsWanting reason
 abbrev pub WantsIn : Job → Result Answer Refusal → Type 0
 WantsIn job (Ok a) = TellsWant job (string_bytes a.text)
 WantsIn job (Err reason) = IsWanting reason
+
+-- If there is an answer and the disk has been honest, the keeper is up, unless the answer tells of
+-- a want.
+abbrev pub LivesAfter : {K : Type 0} → Ghosts K
+    → (after : K) → (Want : Type 0) → Result Answer Refusal → Type 0
+LivesAfter g after Want result = IfOk result (λ _. g.is_clean after → Want ⊎ g.is_up after)
 
 -- the files hold no roster and base for this: so they make no desk, whatever is kept
 abbrev pub EndsParts : (roster_file base_file : List ℕ) → Refusal → Type 0

@@ -46,6 +46,7 @@ pub record Clears (part : Part) (old new : Database) : Type 0 where
   pub others : KeepsBut (name_of part) old new
 
 pub record Cleared (part : Part) (old new : State) : Type 0 where
+  pub was_open : IsTrue old.is_open
   pub mode : IsTrue new.in_transaction
   pub clears : FindsPart old.now.schema part
       → IsUnreferred old.now.schema (tree_of old.now.schema (name_of part))

@@ -30,6 +30,7 @@ abbrev pub EmptiesAll : Database → Database → Type 0
 EmptiesAll = Empties (Desk ∷ Marks ∷ Parked ∷ Names ∷ [])
 
 pub record Emptied (old new : State) : Type 0 where
+  pub was_open : IsTrue old.is_open
   pub mode : IsTrue new.in_transaction
   pub empties : IsOld old.now.schema → IsMigratable old.now.schema → EmptiesAll old.now new.now
 
@@ -48,11 +49,13 @@ pub record Prepares (old new : Database) : Type 0 where
       → IsBeside old.schema t.tree → IsForeign new.schema t.tree
 
 pub record Prepared (old new : State) : Type 0 where
+  pub was_open : IsTrue old.is_open
   pub mode : IsTrue new.in_transaction
   pub prepares : IsOld old.now.schema → IsMigratable old.now.schema → Prepares old.now new.now
 
 -- The older desk became one of today, if these are its messages.
 pub record Moved (roster : List ℕ) (messages : List Message) (old new : State) : Type 0 where
+  pub was_open : IsTrue old.is_open
   pub mode : IsTrue new.in_transaction
   pub migrates : IsOldDesk old.now → IsMigratable old.now.schema
       → Lists (HoldsText old.now) messages → Migrates roster old.now new.now

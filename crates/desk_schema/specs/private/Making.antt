@@ -71,6 +71,7 @@ abbrev pub GrowsWhole : Database → Database → Type 0
 GrowsWhole = Grows (Parked ∷ Verdicts ∷ Names ∷ Messages ∷ Desk ∷ []) (Marks ∷ [])
 
 pub record GrownWhole (old new : State) : Type 0 where
+  pub was_open : IsTrue old.is_open
   pub mode : IsTrue new.in_transaction
   pub grows : IsReady old.now.schema → GrowsWhole old.now new.now
 
@@ -91,6 +92,7 @@ pub record Founds (roster : List ℕ) (old new : Database) : Type 0 where
   pub kept : KeepsRows old.schema.tables old.trees new.trees
 
 pub record Filled (roster : List ℕ) (old new : State) : Type 0 where
+  pub was_open : IsTrue old.is_open
   pub mode : IsTrue new.in_transaction
   pub founds : IsReady old.now.schema → Founds roster old.now new.now
   pub beside : IsReady old.now.schema → KeepsBeside old.now new.now

@@ -28,8 +28,8 @@ pub record Replaces {A E : Type 0} (roster : List ℕ)
   pub rests : Rests new
   pub was_up : IsUp new → IsUp old
   pub was_clean : HasCleanDisk new → HasCleanDisk old
-  pub up : IsUp old → HasCleanDisk new → OnOk result (IsUp new)
+  pub up : HasCleanDisk new → OnOk result (IsUp new)
   pub becomes : IsUp new → OnOk result (Becomes roster old.now new.now)
   pub beside : IsUp new → OnOk result (KeepsBeside old.now new.now)
   pub unchanged : IsUp new → OnErr result (new.now ≡ old.now)
-  pub survives : IsUp old → HasCleanDisk new → Survives old new (BecomesAt roster old.now)
+  pub survives : Survives old new (λ trees. IsUp old × BecomesAt roster old.now trees)

@@ -106,6 +106,7 @@ pub record Receives (text : List ℕ) (old new : Database) : Type 0 where
 
 -- The message was taken in; if it was there already, nothing changed.
 pub record Received (text : List ℕ) (old new : State) : Type 0 where
+  pub was_open : IsTrue old.is_open
   pub mode : IsTrue new.in_transaction
   pub receives : IsDatabase old.now → IsDeskDatabase old.now → Receives text old.now new.now
   pub repeats : IsDeskDatabase old.now → has (content_of old.now) text ≡ true → new.now ≡ old.now
@@ -155,6 +156,7 @@ pub record Records (roster : List ℕ) (old new : Database) : Type 0 where
   pub spares : Spares old new
 
 pub record Recorded (roster : List ℕ) (old new : State) : Type 0 where
+  pub was_open : IsTrue old.is_open
   pub mode : IsTrue new.in_transaction
   pub records : IsDeskDatabase old.now → Records roster old.now new.now
 
@@ -167,6 +169,7 @@ pub record Replaces (roster : List ℕ) (old new : Database) : Type 0 where
 
 -- the same, if these are the desk's messages
 pub record Replaced (roster : List ℕ) (messages : List Message) (old new : State) : Type 0 where
+  pub was_open : IsTrue old.is_open
   pub mode : IsTrue new.in_transaction
   pub replaces : IsDeskDatabase old.now
       → Lists (HoldsText old.now) messages → Replaces roster old.now new.now

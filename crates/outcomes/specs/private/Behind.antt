@@ -1,5 +1,6 @@
 -- The lines of a host that are left, as the summaries' requests give them in turn.
-use Rattle.std.specs.Prelude.{◌≡◌, ℕ, ◌≤◌, List, ◌++◌, filter, length, map, Option}
+use Rattle.std.specs.Prelude.{◌≡◌, ℕ, ◌≤◌, List, ◌++◌, filter, length, map}
+use Rattle.std.specs.Prelude.{Option, Some, None}
 use Rattle.std.specs.List.{AllByRecursion}
 use Rattle.sudo_words.specs.declared.cmnd.Cmnd.{Cmnd}
 use Rattle.sudo_policy.specs.declared.entry.Entry.TheVariants as entries
@@ -8,6 +9,7 @@ use Rattle.sudo_policy.specs.Printing.{canon}
 use Rattle.messages.specs.Fields.{RequestFields}
 use Rattle.messages.specs.declared.message.Message.{Message}
 use Rattle.roster.specs.Fields.{RosterFields}
+use Rattle.grants.specs.GrantLines.{AreWritten}
 use Rattle.grants.specs.GrantRules.{IsGrantRule, rules_for}
 use Rattle.grants.specs.Summaries.{Kept}
 use Rattle.grants.specs.declared.outcome.Status.{Status}
@@ -27,3 +29,11 @@ pub record AreBehind (f : RosterFields Cmnd) (messages : List Message) (host : L
   pub grants : AllByRecursion IsGrantRule rules
   pub few : length rules ≤ 8_192
   pub text_is : new ≡ old ++ canon (map entries.Rule rules)
+
+-- What was written for a name: the lines that are left of the request that its summary keeps, and
+-- nothing where it has no summary.
+abbrev pub AreNamesLines : RosterFields Cmnd → List Message → List ℕ → Option ℕ → Option Kept
+    → (old new : List ℕ) → ℕ → Type 0
+AreNamesLines f messages host after None old new count = (new ≡ old) × (count ≡ 0)
+AreNamesLines f messages host after (Some k) old new count =
+    AreWritten f messages k.request host after old new count

@@ -5,9 +5,20 @@ use Rattle.std.specs.List.{flat_map}
 use Rattle.std.specs.Str.{bytes_eq}
 use Rattle.messages.specs.Fields.{RequestFields}
 use Rattle.review.specs.declared.barred.Approver.{Approver}
+use Rattle.grants.specs.declared.weighing.Weight.{Weight}
+use Rattle.grants.specs.declared.weighing.Weight.TheVariants.{Counts}
+use Rattle.grants.specs.declared.weighing.Weight.TheVariants as weights
 use Rattle.review.specs.declared.reason.Reason.{Reason}
+use Rattle.review.specs.declared.reason.Reason.TheVariants.{Asker, Duty, Conflict}
 use Rattle.review.specs.Barred.{barred_for}
 use Rattle.review.specs.Columns.{lines_text}
+
+-- the reason of an approval's weight
+abbrev pub reason_of : Weight → Option Reason
+reason_of Counts = None
+reason_of weights.Asker = Some Asker
+reason_of weights.Duty = Some Duty
+reason_of weights.Conflict = Some Conflict
 
 -- why the first of a person's approvals does not count, unless it or one of the later ones counts
 abbrev pub both : (first later : Option Reason) → Option Reason

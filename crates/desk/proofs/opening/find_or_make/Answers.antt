@@ -1,8 +1,9 @@
-use Rattle.std.proofs.Common.{◌≡◌, ◌∙◌, sym, inl, inr, rules}
+use Rattle.std.proofs.Common.{◌≡◌, ◌∙◌, refl, sym, inl, inr, rules}
 use Rattle.std.specs.Prelude.{string_bytes}
 use Rattle.desk_store.proofs.OutcomeLemmas.{ok_no_err}
 use Rattle.desk_store.proofs.ServingLemmas.{not_err, served_after, served_at_ok}
 use Rattle.desk.proofs.CrashLemmas.{kept_by_opening, leaves_same, made_by_opening}
+use Rattle.desk.proofs.LeftLemmas.{adds_as, adds_none, is_desk, is_old_desk, none_then_adds, told_live}
 use Rattle.desk.proofs.OpeningLemmas.{told_desk, told_empty, told_no_desk, told_old}
 use Rattle.desk.proofs.RefusalLemmas.{handed_on, told_no_base, told_want}
 use Rattle.desk.proofs.opening.find_or_make.Goals as goal
@@ -143,3 +144,65 @@ returns-in-Desk-clause-opens g c = λ up.
     (g.K.Keeper.roster c.args.keeper.now) c.in_ok-look.field-0 c.in-Desk.recorded c.in-Desk.is (c.in_ok-look.ensures.found up) in
     let text : string_bytes c.in-Desk.recorded ≡ c.args.text.now = search rules in
     inr (told.0, told.1, told.2, sym told.3 ∙ text, laws.stays_set c.args.keeper.now c.look.new.self (c.look.ensures.same up) told.0)
+
+-- ---- whether the keeper is up, and what was committed
+
+pub returns-in_err-look-clause-err : goal.returns-in_err-look-clause-err
+returns-in_err-look-clause-err g c = told_want c.in_err-look.field-0.0 c.from_residual.result _ c.from_residual.ensures.1
+
+pub returns-in_err-look-clause-live : goal.returns-in_err-look-clause-live
+returns-in_err-look-clause-live g c clean = told_live c.in_err-look.field-0.0 c.from_residual.result _ _ c.from_residual.ensures.1
+
+pub returns-in_err-look-clause-leaves : goal.returns-in_err-look-clause-leaves
+returns-in_err-look-clause-leaves g c clean = adds_none _ _ _ (c.look.ensures.leaves clean)
+
+pub returns-in_err-make-in-Empty-clause-err : goal.returns-in_err-make-in-Empty-clause-err
+returns-in_err-make-in-Empty-clause-err g c =
+    told_want c.in_err-make-in-Empty.field-0.0 c.from_residual-in_err-make-in-Empty.result _ c.from_residual-in_err-make-in-Empty.ensures.1
+
+pub returns-in_err-make-in-Empty-clause-live : goal.returns-in_err-make-in-Empty-clause-live
+returns-in_err-make-in-Empty-clause-live g c clean =
+    told_live c.in_err-make-in-Empty.field-0.0 c.from_residual-in_err-make-in-Empty.result _ _ c.from_residual-in_err-make-in-Empty.ensures.1
+
+pub returns-in_ok-make-in-Empty-clause-live : goal.returns-in_ok-make-in-Empty-clause-live
+returns-in_ok-make-in-Empty-clause-live g c clean = c.in_ok-make-in-Empty.ensures.live clean
+
+pub returns-in_ok-make-in-Empty-clause-leaves : goal.returns-in_ok-make-in-Empty-clause-leaves
+returns-in_ok-make-in-Empty-clause-leaves g c clean =
+    let K = g.K.Keeper in
+    let k = c.args.keeper.now in
+    none_then_adds _ _ _ _ (c.look.ensures.leaves (c.make.ensures.served.was_clean clean)) (adds_as _ _ _ _ (λ left it.
+    let told = told_empty (K.is_empty k) (K.is_desk k) (K.is_old k) (K.roster k) c.in_ok-look.field-0 c.in-Empty.is (c.in_ok-look.ensures.found it.0) in
+    ((c.look.ensures.served.was_up it.0, told.0), it.1)) (c.make.ensures.leaves clean))
+
+pub returns-in_err-make-in-Empty-clause-leaves : goal.returns-in_err-make-in-Empty-clause-leaves
+returns-in_err-make-in-Empty-clause-leaves g c clean =
+    let K = g.K.Keeper in
+    let k = c.args.keeper.now in
+    none_then_adds _ _ _ _ (c.look.ensures.leaves (c.make.ensures.served.was_clean clean)) (adds_as _ _ _ _ (λ left it.
+    let told = told_empty (K.is_empty k) (K.is_desk k) (K.is_old k) (K.roster k) c.in_ok-look.field-0 c.in-Empty.is (c.in_ok-look.ensures.found it.0) in
+    ((c.look.ensures.served.was_up it.0, told.0), it.1)) (c.make.ensures.leaves clean))
+
+pub returns-in-Desk-clause-live : goal.returns-in-Desk-clause-live
+returns-in-Desk-clause-live g c clean = c.in_ok-look.ensures.live clean (is_desk c.in_ok-look.field-0 c.in-Desk.recorded c.in-Desk.is)
+
+pub returns-in-Desk-clause-leaves : goal.returns-in-Desk-clause-leaves
+returns-in-Desk-clause-leaves g c clean = adds_none _ _ _ (c.look.ensures.leaves clean)
+
+pub returns-in-Desk-2-clause-live : goal.returns-in-Desk-2-clause-live
+returns-in-Desk-2-clause-live g c clean = inr (inr (c.in_ok-look.ensures.live clean (is_desk c.in_ok-look.field-0 _ c.in-Desk-2.is)))
+
+pub returns-in-Desk-2-clause-leaves : goal.returns-in-Desk-2-clause-leaves
+returns-in-Desk-2-clause-leaves g c clean = adds_none _ _ _ (c.look.ensures.leaves clean)
+
+pub returns-in-OldDesk-clause-live : goal.returns-in-OldDesk-clause-live
+returns-in-OldDesk-clause-live g c clean = inr (inr (c.in_ok-look.ensures.live clean (is_old_desk c.in_ok-look.field-0 c.in-OldDesk.is)))
+
+pub returns-in-OldDesk-clause-leaves : goal.returns-in-OldDesk-clause-leaves
+returns-in-OldDesk-clause-leaves g c clean = adds_none _ _ _ (c.look.ensures.leaves clean)
+
+pub returns-in-NotADesk-clause-live : goal.returns-in-NotADesk-clause-live
+returns-in-NotADesk-clause-live g c clean = inr (inl (inr refl))
+
+pub returns-in-NotADesk-clause-leaves : goal.returns-in-NotADesk-clause-leaves
+returns-in-NotADesk-clause-leaves g c clean = adds_none _ _ _ (c.look.ensures.leaves clean)

@@ -1,8 +1,10 @@
-use Rattle.std.proofs.Common.{inl, inr}
+use Rattle.std.proofs.Common.{refl, inl, inr}
 use Rattle.desk_tables.specs.Sets.{SameSet}
+use Rattle.desk_store.proofs.SameLeft.{same_left}
 use Rattle.desk_store.proofs.OutcomeLemmas.{ok_no_err}
 use Rattle.desk_store.proofs.ServingLemmas.{not_err, served_after, served_at_ok}
 use Rattle.desk.proofs.CrashLemmas.{kept_by_rebuilding, made_by_rebuilding, replaced_by_rebuilding}
+use Rattle.desk.proofs.LeftLemmas.{adds_as, adds_none, none_then_adds}
 use Rattle.desk.proofs.OpeningLemmas.{told_desk, told_empty, told_no_desk, told_old}
 use Rattle.desk.proofs.RebuildingLemmas.{same_sets}
 use Rattle.desk.proofs.RefusalLemmas.{handed_on, told_no_base, told_want}
@@ -234,3 +236,79 @@ returns-in_err-replace-in-OldDesk-clause-err g c =
 pub returns-in_err-replace-in-OldDesk-clause-fits : goal.returns-in_err-replace-in-OldDesk-clause-fits
 returns-in_err-replace-in-OldDesk-clause-fits g c =
     told_no_base c.in_err-replace-in-OldDesk.field-0.0 c.from_residual-in_err-replace-in-OldDesk.result c.from_residual-in_err-replace-in-OldDesk.ensures.1
+
+-- ---- what was committed
+
+pub returns-in_err-look-clause-leaves : goal.returns-in_err-look-clause-leaves
+returns-in_err-look-clause-leaves g c clean = adds_none _ _ _ (c.look.ensures.leaves clean)
+
+pub returns-in-NotADesk-clause-leaves : goal.returns-in-NotADesk-clause-leaves
+returns-in-NotADesk-clause-leaves g c clean = adds_none _ _ _ (c.look.ensures.leaves clean)
+
+pub returns-in_ok-make-in-Empty-clause-leaves : goal.returns-in_ok-make-in-Empty-clause-leaves
+returns-in_ok-make-in-Empty-clause-leaves g c clean =
+    let K = g.K.Keeper in
+    let k = c.args.keeper.now in
+    none_then_adds _ _ _ _ (c.look.ensures.leaves (c.make.ensures.served.was_clean clean)) (adds_as _ _ _ _ (λ left it.
+    let told = told_empty (K.is_empty k) (K.is_desk k) (K.is_old k) (K.roster k) c.in_ok-look.field-0 c.in-Empty.is (c.in_ok-look.ensures.found it.0) in
+    inl ((c.look.ensures.served.was_up it.0, told.0), it.1)) (c.make.ensures.leaves clean))
+
+pub returns-in_err-make-in-Empty-clause-leaves : goal.returns-in_err-make-in-Empty-clause-leaves
+returns-in_err-make-in-Empty-clause-leaves g c clean =
+    let K = g.K.Keeper in
+    let k = c.args.keeper.now in
+    none_then_adds _ _ _ _ (c.look.ensures.leaves (c.make.ensures.served.was_clean clean)) (adds_as _ _ _ _ (λ left it.
+    let told = told_empty (K.is_empty k) (K.is_desk k) (K.is_old k) (K.roster k) c.in_ok-look.field-0 c.in-Empty.is (c.in_ok-look.ensures.found it.0) in
+    inl ((c.look.ensures.served.was_up it.0, told.0), it.1)) (c.make.ensures.leaves clean))
+
+pub returns-in_ok-replace-in-Desk-clause-leaves : goal.returns-in_ok-replace-in-Desk-clause-leaves
+returns-in_ok-replace-in-Desk-clause-leaves g c clean =
+    let K = g.K.Keeper in
+    let laws = g.met.K.Keeper in
+    let k = c.args.keeper.now in
+    let mid = c.look.new.self in
+    let text = c.args.text.now in
+    none_then_adds _ _ _ _ (c.look.ensures.leaves (c.replace.ensures.served.was_clean clean)) (adds_as _ _ _ _ (λ left it.
+    let told = told_desk (K.is_empty k) (K.is_desk k) (K.is_old k) (K.roster k) c.in_ok-look.field-0 c.in-Desk.recorded c.in-Desk.is
+    (c.in_ok-look.ensures.found it.0) in
+    let same : SameSet (K.holds k) (K.holds mid) = laws.stays_set k mid (c.look.ensures.same it.0) told.0 in
+    inr (c.look.ensures.served.was_up it.0, same_left text text (K.holds k) (K.holds mid) left refl same it.1)) (c.replace.ensures.leaves clean))
+
+pub returns-in_err-replace-in-Desk-clause-leaves : goal.returns-in_err-replace-in-Desk-clause-leaves
+returns-in_err-replace-in-Desk-clause-leaves g c clean =
+    let K = g.K.Keeper in
+    let laws = g.met.K.Keeper in
+    let k = c.args.keeper.now in
+    let mid = c.look.new.self in
+    let text = c.args.text.now in
+    none_then_adds _ _ _ _ (c.look.ensures.leaves (c.replace.ensures.served.was_clean clean)) (adds_as _ _ _ _ (λ left it.
+    let told = told_desk (K.is_empty k) (K.is_desk k) (K.is_old k) (K.roster k) c.in_ok-look.field-0 c.in-Desk.recorded c.in-Desk.is
+    (c.in_ok-look.ensures.found it.0) in
+    let same : SameSet (K.holds k) (K.holds mid) = laws.stays_set k mid (c.look.ensures.same it.0) told.0 in
+    inr (c.look.ensures.served.was_up it.0, same_left text text (K.holds k) (K.holds mid) left refl same it.1)) (c.replace.ensures.leaves clean))
+
+pub returns-in_ok-replace-in-OldDesk-clause-leaves : goal.returns-in_ok-replace-in-OldDesk-clause-leaves
+returns-in_ok-replace-in-OldDesk-clause-leaves g c clean =
+    let K = g.K.Keeper in
+    let laws = g.met.K.Keeper in
+    let k = c.args.keeper.now in
+    let mid = c.look.new.self in
+    let text = c.args.text.now in
+    none_then_adds _ _ _ _ (c.look.ensures.leaves (c.replace-in-OldDesk.ensures.served.was_clean clean)) (adds_as _ _ _ _ (λ left it.
+    let told = told_old (K.is_empty k) (K.is_desk k) (K.is_old k) (K.roster k) c.in_ok-look.field-0 c.in-OldDesk.is
+    (c.in_ok-look.ensures.found it.0) in
+    let same : SameSet (K.holds k) (K.holds mid) = (laws.stays_old k mid (c.look.ensures.same it.0) told.0).1 in
+    inr (c.look.ensures.served.was_up it.0, same_left text text (K.holds k) (K.holds mid) left refl same it.1)) (c.replace-in-OldDesk.ensures.leaves clean))
+
+pub returns-in_err-replace-in-OldDesk-clause-leaves : goal.returns-in_err-replace-in-OldDesk-clause-leaves
+returns-in_err-replace-in-OldDesk-clause-leaves g c clean =
+    let K = g.K.Keeper in
+    let laws = g.met.K.Keeper in
+    let k = c.args.keeper.now in
+    let mid = c.look.new.self in
+    let text = c.args.text.now in
+    none_then_adds _ _ _ _ (c.look.ensures.leaves (c.replace-in-OldDesk.ensures.served.was_clean clean)) (adds_as _ _ _ _ (λ left it.
+    let told = told_old (K.is_empty k) (K.is_desk k) (K.is_old k) (K.roster k) c.in_ok-look.field-0 c.in-OldDesk.is
+    (c.in_ok-look.ensures.found it.0) in
+    let same : SameSet (K.holds k) (K.holds mid) = (laws.stays_old k mid (c.look.ensures.same it.0) told.0).1 in
+    inr (c.look.ensures.served.was_up it.0, same_left text text (K.holds k) (K.holds mid) left refl same it.1)) (c.replace-in-OldDesk.ensures.leaves clean))

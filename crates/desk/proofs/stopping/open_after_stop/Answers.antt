@@ -3,12 +3,13 @@ use Rattle.messages.specs.declared.message.Message.{Message}
 use Rattle.grants.specs.Bases.{FitsBase}
 use Rattle.desk_tables.specs.Sets.{IsNothing, SameSet, With}
 use Rattle.desk.specs.Crash.{IsAcceptable}
+use Rattle.desk.specs.Delivery.{AcknowledgesAmong, Delivery}
 use Rattle.desk.specs.Opening.{Opens, Refuses}
 use Rattle.desk.specs.Refusals.{IsWant}
 use Rattle.desk.specs.Same.{AnswerAlike}
 use Rattle.desk.specs.declared.refusal.Refusal.TheVariants.{BaseTooLarge}
 use Rattle.desk.proofs.RestartLemmas.{of_opened, of_refused, same_answers, was_up_of}
-use Rattle.desk.proofs.StopLemmas.{base_alone, held_either, held_nothing, held_of_delivery, held_whole}
+use Rattle.desk.proofs.StopLemmas.{base_alone, held_either, held_nothing, held_of_deliveries, held_of_delivery, held_whole}
 use Rattle.desk.proofs.stopping.open_after_stop.Goals as goal
 
 pub returns-clause-held : goal.returns-clause-held
@@ -57,6 +58,23 @@ returns-clause-delivery g c = λ list delivery may.
     let left = c.requires (was up) in
     held_of_delivery (K.is_empty k) (K.is_desk k) (K.is_old k) (K.roster k) (K.holds k) text (K.holds d.keeper) (opens up) c.args.roster.says text
     (λ m. Contains list m) delivery left.0 (may left.0 left.1) left.2) c.open.ensures.opens (was_up_of _ _ _ _ _ c.open.result c.open.ensures.served)
+
+pub returns-clause-deliveries : goal.returns-clause-deliveries
+returns-clause-deliveries g c = λ list ds answers may.
+    let K = g.K.Keeper in
+    let k = c.args.found in
+    let text = c.args.roster.text in
+    of_opened c.open.result
+    (λ d. K.is_up d.keeper → Opens (K.is_empty k) (K.is_desk k) (K.is_old k) (K.roster k) text (K.holds k) (K.holds d.keeper))
+    (λ d. K.is_up d.keeper → K.is_up k)
+    (λ d. K.is_up d.keeper → SameSet (λ m. Contains list m ⊎ AcknowledgesAmong ds answers m) (K.holds d.keeper)
+    ⊎ ((e : Delivery) × Contains ds e × (m : Message) × IsAcceptable c.args.roster.says e m
+    × SameSet (With (λ n. Contains list n ⊎ AcknowledgesAmong ds answers n) m) (K.holds d.keeper)))
+    (λ r. K.is_up r.1 → K.is_up k)
+    (λ d opens was up.
+    let left = c.requires (was up) in
+    held_of_deliveries (K.is_empty k) (K.is_desk k) (K.is_old k) (K.roster k) (K.holds k) text (K.holds d.keeper) (opens up) c.args.roster.says text
+    (λ m. Contains list m) ds answers left.0 (may left.0 left.1) left.2) c.open.ensures.opens (was_up_of _ _ _ _ _ c.open.result c.open.ensures.served)
 
 pub returns-clause-making : goal.returns-clause-making
 returns-clause-making g c = λ may.

@@ -32,17 +32,17 @@ returns g c =
     let brought = c.in_ok-texts.ensures in
     let told = c.entries_of.ensures in
     record {
-      audit = λ set up is_desk lists.
+      audit = λ set up lists.
           let was_up = told.served.was_up up in
           let same = brought.unchanged was_up in
-          let was_desk = law.stays_desk new.keeper mid.keeper (law.same_back mid.keeper new.keeper (told.unchanged up)) is_desk in
+          let was_desk = brought.desk was_up in
           let first_desk = law.stays_desk mid.keeper old.keeper (law.same_back old.keeper mid.keeper same) was_desk in
           let still = lists_same (K.holds old.keeper) (K.holds mid.keeper) set (law.stays_set old.keeper mid.keeper same first_desk) lists in
           let messages = λ (m : Message) (among : Contains set m). law.holds_messages old.keeper m ((lists m).1 among) in
           let P : List (String Global) → Type 0 = λ texts. AreTexts set (map string_bytes texts) in
           let gathers = c.in_ok-all.ensures.gathers set messages (subst P (sym c.deref.ensures.value) (brought.texts set was_up lists)) in
           let F : Reading → Type 0 = λ r. IfOk c.entries_of.result (λ es. IsAudit r.says set es.items) in
-          subst F brought.roster (told.audit set up is_desk still gathers);
+          subst F brought.roster (told.audit set up was_desk still gathers);
       refused = λ set up lists. IfErr-weaker c.entries_of.result _ _ (λ e want. inl want) told.err;
       unchanged = λ up. law.same_on old.keeper mid.keeper new.keeper (brought.unchanged (told.served.was_up up)) (told.unchanged up);
       roster = told.roster ∙ brought.roster;

@@ -5,7 +5,7 @@ use Rattle.roster.specs.Fields.{Reading}
 use Rattle.desk_store.proofs.OutcomeLemmas.{ok_no_err}
 use Rattle.desk_store.proofs.ServingLemmas.{served_as, served_at_ok, served_by_none, served_then}
 use Rattle.outcomes.specs.Outcomes.{ComesTo}
-use Rattle.desk_audit.specs.declared.entry.Entry.{Entry}
+use Rattle.findings.specs.declared.entry.Entry.{Entry}
 use Rattle.desk_audit.proofs.AuditLemmas.{is_audit, keyed, keyed_is, lists_same, one_status_more, split_ends, split_once_more}
 use Rattle.desk_audit.proofs.entry.entries_of.Goals as goal
 
@@ -38,15 +38,13 @@ loop-name-preserved g c =
     record {
       split = split_once_more entries c.push.new.self.items entry _ c.loop-name.name-iterator c.next.new.self c.args.all.entries c.in_ok-push.ensures.items
           (keyed_is entry _ _ done.same.0 done.same.1) c.in-Some.ensures.steps kept.split;
-      told = λ set up is_desk lists.
+      told = λ set up first_desk lists.
           let was_up = done.served.was_up up in
-          let was_desk = law.stays_desk new.keeper mid.keeper (law.same_back mid.keeper new.keeper (done.unchanged up)) is_desk in
           let same = kept.same was_up in
-          let first_desk = law.stays_desk mid.keeper old.keeper (law.same_back old.keeper mid.keeper same) was_desk in
           let still = lists_same (K.holds old.keeper) (K.holds mid.keeper) set (law.stays_set old.keeper mid.keeper same first_desk) lists in
           let P : Entry → Type 0 = λ e. ComesTo old.roster.says set e.name e.status in
           let F : Reading → Type 0 = λ r. ComesTo r.says set entry.name entry.status in
-          one_status_more P entries c.push.new.self.items entry c.in_ok-push.ensures.items (kept.told set was_up was_desk lists)
+          one_status_more P entries c.push.new.self.items entry c.in_ok-push.ensures.items (kept.told set was_up first_desk lists)
           (subst F kept.roster (subst (λ (n : RequestName). ComesTo mid.roster.says set n entry.status) (sym done.same.0) (done.status set up still)));
       same = λ up. law.same_on old.keeper mid.keeper new.keeper (kept.same (done.served.was_up up)) (done.unchanged up);
       roster = done.roster ∙ kept.roster;

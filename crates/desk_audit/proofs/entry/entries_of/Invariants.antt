@@ -10,7 +10,7 @@ use Rattle.desk_audit.proofs.entry.entries_of.Given as goal
 abbrev pub invariant-loop-name : goal.invariant-loop-name
 invariant-loop-name g l = record {
   split : map keyed l.entries.items ++ l.name-iterator ≡ l.fn.all.entries;
-  told : (set : List Message) → g.K.Keeper.is_up l.desk.keeper → g.K.Keeper.is_desk l.desk.keeper → Lists (g.K.Keeper.holds l.fn.desk.keeper) set
+  told : (set : List Message) → g.K.Keeper.is_up l.desk.keeper → g.K.Keeper.is_desk l.fn.desk.keeper → Lists (g.K.Keeper.holds l.fn.desk.keeper) set
       → AllByRecursion (λ e. ComesTo l.fn.desk.roster.says set e.name e.status) l.entries.items;
   same : g.K.Keeper.is_up l.desk.keeper → g.K.Keeper.is_same l.fn.desk.keeper l.desk.keeper;
   roster : l.desk.roster ≡ l.fn.desk.roster;

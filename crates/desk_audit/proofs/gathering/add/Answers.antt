@@ -1,7 +1,7 @@
 use Rattle.std.proofs.Common.{[], ◌∷◌, ◌++◌, refl, subst, sym}
 use Rattle.messages.specs.declared.message.Message.{Message}
 use Rattle.desk_audit.specs.Told.{TellsMessages, name_in}
-use Rattle.desk_audit.specs.declared.gathering.About.{About}
+use Rattle.findings.specs.declared.entry.About.{About}
 use Rattle.desk_audit.specs.private.ByName.{IsBehind}
 use Rattle.desk_audit.proofs.ToldLemmas.{told_request, told_verdict}
 use Rattle.desk_audit.proofs.gathering.add.Goals as goal

@@ -6,6 +6,8 @@ use Rattle.desk_commands.specs.private.Outcomes.{IsLeft, IsOutcome, ShowsWantIn}
 use Rattle.desk_commands.proofs.OverLemmas.{delivered, undelivered}
 use Rattle.desk_args.specs.declared.task.Job.TheVariants.{Deliver}
 use Rattle.desk_commands.proofs.LeavingLemmas.{left_delivered}
+use Rattle.desk_commands.specs.private.Outcomes.{LivesAfter}
+use Rattle.desk_commands.proofs.LivingLemmas.{lives_then}
 use Rattle.desk_commands.proofs.delivering.deliver_over.Goals as goal
 
 pub returns-in-Ok-clause-outcome : goal.returns-in-Ok-clause-outcome
@@ -54,3 +56,11 @@ returns-in-Ok-clause-left g c places more err =
     (left_delivered K.is_up K.is_empty K.is_desk K.is_old K.roster K.holds K.failures c.args.keeper desk.keeper after c.args.roster.now c.args.base.now
     desk.roster.says desk.base c.in-Ok.ensures.found is_kept asked.ensures.served.was_up c.in-Ok.ensures.opens c.in-Ok.ensures.was more input
     (K.is_same c.args.keeper after) places c.args.relay.now asked.result err asked.ensures.left)
+
+pub returns-in-Ok-clause-live : goal.returns-in-Ok-clause-live
+returns-in-Ok-clause-live g c =
+    let K = g.K.Keeper in
+    let asked = c.deliver_to-answer in
+    subst (λ y. LivesAfter K y (ShowsWantIn asked.result) asked.result) (sym c.into_keeper.ensures.same)
+    (lives_then K c.in-Ok.desk.keeper asked.new.desk.keeper (ShowsWantIn asked.result) asked.result c.in-Ok.ensures.live
+    asked.ensures.served.was_clean asked.ensures.served.up)

@@ -8,6 +8,8 @@ use Rattle.desk_commands.specs.private.Outcomes.{IsLeft, IsOutcome}
 use Rattle.desk_commands.proofs.OverLemmas.{printed, unprinted}
 use Rattle.desk_args.specs.declared.task.Job.TheVariants.{Print}
 use Rattle.desk_commands.proofs.LeavingLemmas.{left_printed}
+use Rattle.desk_commands.specs.private.Outcomes.{LivesAfter}
+use Rattle.desk_commands.proofs.LivingLemmas.{lives_then}
 use Rattle.desk_commands.proofs.printing.print_over.Goals as goal
 
 pub returns-in-Ok-clause-outcome : goal.returns-in-Ok-clause-outcome
@@ -60,3 +62,11 @@ returns-in-Ok-clause-left g c more =
     desk.roster.says desk.base c.in-Ok.ensures.found is_kept asked.ensures.served.was_up c.in-Ok.ensures.opens c.in-Ok.ensures.was more input
     (K.is_same c.args.keeper after) c.args.places.now c.args.host.now c.args.after asked.result
     (g.E.Write.contents c.args.err.now) (g.E.Write.contents asked.new.err) asked.ensures.left asked.ensures.said)
+
+pub returns-in-Ok-clause-live : goal.returns-in-Ok-clause-live
+returns-in-Ok-clause-live g c =
+    let K = g.K.Keeper in
+    let asked = c.print_of-answer in
+    subst (λ y. LivesAfter K y (IsErrAnd asked.result IsWanting) asked.result) (sym c.into_keeper.ensures.same)
+    (lives_then K c.in-Ok.desk.keeper asked.new.desk.keeper (IsErrAnd asked.result IsWanting) asked.result c.in-Ok.ensures.live
+    asked.ensures.served.was_clean asked.ensures.served.up)

@@ -1,4 +1,4 @@
-use Rattle.std.proofs.Common.{◌≡◌, ◌∙◌, ◌∷◌, Ok, subst, sym}
+use Rattle.std.proofs.Common.{◌≡◌, ◌⊎◌, ◌∙◌, ◌∷◌, Ok, inr, subst, sym}
 use Rattle.desk_store.specs.Serving.{IsServed}
 use Rattle.desk_commands.specs.Kept.{kept}
 use Rattle.desk_commands.specs.private.Outcomes.{IsOutcome}
@@ -30,3 +30,8 @@ returns-in-Ok-rebuild_over-clause-served g c =
 pub returns-in-Err-clause-outcome : goal.returns-in-Err-clause-outcome
 returns-in-Err-clause-outcome g c places more input err =
     unrebuilt c.args.roster.now c.args.base.now _ more input err c.in-Err.refusal places c.in-Err.ensures.err
+
+pub returns-in-Ok-rebuild_over-clause-live : goal.returns-in-Ok-rebuild_over-clause-live
+returns-in-Ok-rebuild_over-clause-live g c =
+    let K = g.K.Keeper in
+    subst (λ y. K.is_clean y → ⊥ ⊎ K.is_up y) (sym c.into_keeper.ensures.same) (λ clean. inr (c.in-Ok-rebuild_over.ensures.live clean))

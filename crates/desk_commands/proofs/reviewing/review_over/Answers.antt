@@ -8,6 +8,8 @@ use Rattle.desk_commands.specs.private.Outcomes.{IsLeft, IsOutcome}
 use Rattle.desk_commands.proofs.OverLemmas.{reviewed, unreviewed}
 use Rattle.desk_args.specs.declared.task.Job.TheVariants.{Review}
 use Rattle.desk_commands.proofs.LeavingLemmas.{left_reviewed}
+use Rattle.desk_commands.specs.private.Outcomes.{LivesAfter}
+use Rattle.desk_commands.proofs.LivingLemmas.{lives_then}
 use Rattle.desk_commands.proofs.reviewing.review_over.Goals as goal
 
 pub returns-in-Ok-clause-outcome : goal.returns-in-Ok-clause-outcome
@@ -59,3 +61,11 @@ returns-in-Ok-clause-left g c more =
     desk.roster.says desk.base c.in-Ok.ensures.found is_kept asked.ensures.served.was_up c.in-Ok.ensures.opens c.in-Ok.ensures.was more input
     (K.is_same c.args.keeper after) c.args.places.now c.args.at asked.result (g.E.Write.contents c.args.err.now)
     (g.E.Write.contents asked.new.err) asked.ensures.left asked.ensures.said)
+
+pub returns-in-Ok-clause-live : goal.returns-in-Ok-clause-live
+returns-in-Ok-clause-live g c =
+    let K = g.K.Keeper in
+    let asked = c.review_of-answer in
+    subst (λ y. LivesAfter K y (IsErrAnd asked.result IsWanting) asked.result) (sym c.into_keeper.ensures.same)
+    (lives_then K c.in-Ok.desk.keeper asked.new.desk.keeper (IsErrAnd asked.result IsWanting) asked.result c.in-Ok.ensures.live
+    asked.ensures.served.was_clean asked.ensures.served.up)

@@ -6,6 +6,7 @@ use Rattle.desk_commands.proofs.AnswerLemmas.{of_job, quietly}
 use Rattle.desk_commands.proofs.LeavingLemmas.{if_err, left_of_job, same_job}
 use Rattle.desk_store.proofs.ServingLemmas.{served_as}
 use Rattle.desk_commands.proofs.WantLemmas.{wants_delivered, wants_refused}
+use Rattle.desk_commands.proofs.LivingLemmas.{lives_as}
 use Rattle.desk_commands.proofs.running.answered.Goals as goal
 
 pub returns-in-Check-clause-outcome : goal.returns-in-Check-clause-outcome
@@ -130,3 +131,33 @@ returns-in-Review-clause-served g c = served_as ⊥ _ (λ none. none) (wants_ref
 
 pub returns-in-Rebuild-clause-served : goal.returns-in-Rebuild-clause-served
 returns-in-Rebuild-clause-served g c = served_as ⊥ _ (λ none. none) (wants_refused c.args.job.now c.rebuild_desk.result.0) c.rebuild_desk.ensures.served
+
+-- ---- the keeper is up
+
+pub returns-in-Check-clause-live : goal.returns-in-Check-clause-live
+returns-in-Check-clause-live g c = λ asked. absurd (subst IsOnDesk c.in-Check.is asked)
+
+pub returns-in-Decide-clause-live : goal.returns-in-Decide-clause-live
+returns-in-Decide-clause-live g c = λ asked. absurd (subst IsOnDesk c.in-Decide.is asked)
+
+pub returns-in-Beyond-clause-live : goal.returns-in-Beyond-clause-live
+returns-in-Beyond-clause-live g c = λ asked. absurd (subst IsOnDesk c.in-Beyond.is asked)
+
+pub returns-in-Serve-clause-live : goal.returns-in-Serve-clause-live
+returns-in-Serve-clause-live g c = λ asked. absurd (subst IsOnDesk c.in-Serve.is asked)
+
+pub returns-in-Deliver-clause-live : goal.returns-in-Deliver-clause-live
+returns-in-Deliver-clause-live g c = λ _. lives_as g.K.Keeper c.deliver_lines.result.1 _ _ c.deliver_lines.result.0
+    (wants_delivered c.args.job.now c.in-Deliver.places _ c.deliver_lines.result.0 c.in-Deliver.is) c.deliver_lines.ensures.live
+
+pub returns-in-Print-clause-live : goal.returns-in-Print-clause-live
+returns-in-Print-clause-live g c = λ _. lives_as g.K.Keeper c.print_host.result.1 _ _ c.print_host.result.0
+    (wants_refused c.args.job.now c.print_host.result.0) c.print_host.ensures.live
+
+pub returns-in-Review-clause-live : goal.returns-in-Review-clause-live
+returns-in-Review-clause-live g c = λ _. lives_as g.K.Keeper c.review_desk.result.1 _ _ c.review_desk.result.0
+    (wants_refused c.args.job.now c.review_desk.result.0) c.review_desk.ensures.live
+
+pub returns-in-Rebuild-clause-live : goal.returns-in-Rebuild-clause-live
+returns-in-Rebuild-clause-live g c = λ _. lives_as g.K.Keeper c.rebuild_desk.result.1 _ _ c.rebuild_desk.result.0
+    (wants_refused c.args.job.now c.rebuild_desk.result.0) c.rebuild_desk.ensures.live

@@ -37,7 +37,7 @@ returns g c =
       rests = all.rests;
       was_up = all.was_up;
       was_clean = all.was_clean;
-      up = λ before. subst (λ h. HasCleanDisk (state g.S.Store h) → IsUp (state g.S.Store h)) same
+      up = subst (λ h. HasCleanDisk (state g.S.Store h) → IsUp (state g.S.Store h)) same
           (commit_up (Migrates roster old.now) (migrates_again roster old.now) old last end c.requires.rests step _ c.commit.ensures.survives mode does ok);
       kept = subst (λ h. IsUp (state g.S.Store h) → IsKept (state g.S.Store h).now) same (λ up. (whole up).kept);
       migrated =
@@ -46,12 +46,13 @@ returns g c =
       others = subst (λ h. IsUp (state g.S.Store h) → KeepsOthers old.now (state g.S.Store h).now) same (λ up. (whole up).others);
       refused = λ unfit. absurd (unfit may);
       unchanged = λ up. tt;
-      survives = λ up. subst (λ h. Survives old (state g.S.Store h) (MigratesAt roster old.now)) same (whole_survives (Migrates roster old.now)
-          (migrates_again roster old.now) old last end c.requires.rests step _ c.commit.ensures.survives mode does (λ db is. is) up);
+      survives = subst (λ h. Survives old (state g.S.Store h) (λ trees. IsUp old × MigratesAt roster old.now trees)) same
+          (whole_survives (Migrates roster old.now) (migrates_again roster old.now) old last end c.requires.rests step _ c.commit.ensures.survives mode does
+          (λ clean. (moved clean).was_open) (λ db is. is));
     }
 
 pub returns-in_err-commit-clause-survives : goal.returns-in_err-commit-clause-survives
-returns-in_err-commit-clause-survives g c up =
+returns-in_err-commit-clause-survives g c =
     let roster = c.args.roster.now in
     let old = state g.S.Store c.args.conn.now in
     let last = state g.S.Store c.move_within.new.tx.conn.now in
@@ -64,5 +65,5 @@ returns-in_err-commit-clause-survives g c up =
     let mode = λ (clean : HasCleanDisk last). (moved clean).mode in
     let does = λ (is_up : IsUp old) (clean : HasCleanDisk last). (moved clean).migrates (c.requires.desk is_up) may (c.requires.listed is_up) in
     let same : c.commit.new.self.0 ≡ c.conn-2-1.given.0 = search rules in
-    subst (λ h. Survives old (state g.S.Store h) (MigratesAt roster old.now)) same (whole_survives (Migrates roster old.now)
-    (migrates_again roster old.now) old last end c.requires.rests step _ c.commit.ensures.survives mode does (λ db is. is) up)
+    subst (λ h. Survives old (state g.S.Store h) (λ trees. IsUp old × MigratesAt roster old.now trees)) same (whole_survives (Migrates roster old.now)
+    (migrates_again roster old.now) old last end c.requires.rests step _ c.commit.ensures.survives mode does (λ clean. (moved clean).was_open) (λ db is. is))

@@ -5,7 +5,7 @@ use Rattle.desk_schema.specs.Shapes.{FindsPart}
 use Rattle.messages.specs.declared.message.Message.{Message}
 use Rattle.desk_opening.specs.private.Compare as compare
 use Rattle.desk_opening.proofs.ReadLemmas.{still, then_reads}
-use Rattle.desk_opening.proofs.ThreeReads.{three_leave_up, three_read, three_show}
+use Rattle.desk_opening.proofs.ThreeReads.{three_read, three_show}
 use Rattle.desk_opening.proofs.kept.keeps_rows.Goals as goal
 
 pub rows_of-requires-clause-found : goal.rows_of-requires-clause-found
@@ -22,26 +22,25 @@ keeps_part-requires-2-clause-rests g c = c.in_ok-verdicts.ensures.reads.rests
 
 pub keeps_part-requires-2-clause-found : goal.keeps_part-requires-2-clause-found
 keeps_part-requires-2-clause-found g c =
-    let both = then_reads c.rows_of.ensures.reads c.in_ok-rows.ensures.up c.keeps_part.ensures.reads in
+    let both = then_reads c.rows_of.ensures.reads c.keeps_part.ensures.reads in
     still (λ (d : Database). FindsPart d.schema part.Parked) both (λ up. (c.requires.common up).parked)
 
 pub returns-in_err-names-clause-reads : goal.returns-in_err-names-clause-reads
 returns-in_err-names-clause-reads g c = c.rows_of.ensures.reads
 
 pub returns-in_err-verdicts-clause-reads : goal.returns-in_err-verdicts-clause-reads
-returns-in_err-verdicts-clause-reads g c = then_reads c.rows_of.ensures.reads c.in_ok-rows.ensures.up c.keeps_part.ensures.reads
+returns-in_err-verdicts-clause-reads g c = then_reads c.rows_of.ensures.reads c.keeps_part.ensures.reads
 
 pub returns-in_err-parked-clause-reads : goal.returns-in_err-parked-clause-reads
 returns-in_err-parked-clause-reads g c =
-    three_read c.rows_of.ensures.reads c.in_ok-rows.ensures.up c.keeps_part.ensures.reads c.in_ok-verdicts.ensures.up c.keeps_part-2.ensures.reads
+    three_read c.rows_of.ensures.reads c.keeps_part.ensures.reads c.keeps_part-2.ensures.reads
 
 pub returns-clause-reads : goal.returns-clause-reads
 returns-clause-reads g c =
-    three_read c.rows_of.ensures.reads c.in_ok-rows.ensures.up c.keeps_part.ensures.reads c.in_ok-verdicts.ensures.up c.keeps_part-2.ensures.reads
+    three_read c.rows_of.ensures.reads c.keeps_part.ensures.reads c.keeps_part-2.ensures.reads
 
 pub returns-clause-up : goal.returns-clause-up
 returns-clause-up g c =
-    three_leave_up c.rows_of.ensures.reads c.in_ok-rows.ensures.up c.keeps_part.ensures.reads c.in_ok-verdicts.ensures.up c.keeps_part-2.ensures.reads
     c.in_ok-parked.ensures.up
 
 pub returns-clause-kept : goal.returns-clause-kept
@@ -54,8 +53,7 @@ returns-clause-kept g c up =
       n,
       v.0,
       p.0,
-      three_show c.rows_of.ensures.reads c.in_ok-rows.ensures.up c.keeps_part.ensures.reads
-          c.in_ok-verdicts.ensures.up c.keeps_part-2.ensures.reads shown v.1 p.1 up,
+      three_show c.rows_of.ensures.reads c.keeps_part.ensures.reads c.keeps_part-2.ensures.reads shown v.1 p.1 up,
       c.all_three.ensures ∙ (λ i. c.in_ok-names.ensures i && (v.2 i && p.2 i))
           ∙ ap (λ (ms : List Message). compare.are_kept ms n v.0 p.0) c.in_ok-known.ensures.all,
     )

@@ -10,7 +10,7 @@ pub returns-clause-reads : goal.returns-clause-reads
 returns-clause-reads g c = c.rows_of.ensures.reads
 
 pub returns-clause-up : goal.returns-clause-up
-returns-clause-up g c up clean = up_ok c.messages_shown.result (c.in_ok-rows.ensures.up up clean)
+returns-clause-up g c clean = up_ok c.messages_shown.result (c.in_ok-rows.ensures.up clean)
 
 pub returns-clause-listed : goal.returns-clause-listed
 returns-clause-listed g c up =

@@ -16,7 +16,7 @@ pub returns-in_err-rows-clause-reads : goal.returns-in_err-rows-clause-reads
 returns-in_err-rows-clause-reads g c = c.rows_beside.ensures.reads
 
 pub returns-clause-up : goal.returns-clause-up
-returns-clause-up g c up clean = up_ok c.shown_in.result (c.in_ok-rows.ensures.up up clean)
+returns-clause-up g c clean = up_ok c.shown_in.result (c.in_ok-rows.ensures.up clean)
 
 pub returns-clause-whole : goal.returns-clause-whole
 returns-clause-whole g c up kept =

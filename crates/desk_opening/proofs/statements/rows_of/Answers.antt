@@ -8,7 +8,7 @@ returns-clause-reads g c =
     c.requires.found c.query_all.result c.query_all.ensures.survives c.requires.rests c.query_all.ensures.ok c.query_all.ensures.err
 
 pub returns-clause-up : goal.returns-clause-up
-returns-clause-up g c before clean =
+returns-clause-up g c clean =
     answered_up _ (state g.S.Store c.args.conn.now) (state g.S.Store c.query_all.new.self) clean c.query_all.result (c.query_all.ensures.ok clean)
 
 pub returns-clause-shows : goal.returns-clause-shows

@@ -19,13 +19,13 @@ pub returns-in_err-desk-clause-reads : goal.returns-in_err-desk-clause-reads
 returns-in_err-desk-clause-reads g c = c.rows_of.ensures.reads
 
 pub returns-in_err-messages-clause-reads : goal.returns-in_err-messages-clause-reads
-returns-in_err-messages-clause-reads g c = then_reads c.rows_of.ensures.reads c.in_ok-desk.ensures.up c.rows_of-2.ensures.reads
+returns-in_err-messages-clause-reads g c = then_reads c.rows_of.ensures.reads c.rows_of-2.ensures.reads
 
 pub returns-clause-reads : goal.returns-clause-reads
-returns-clause-reads g c = then_reads c.rows_of.ensures.reads c.in_ok-desk.ensures.up c.rows_of-2.ensures.reads
+returns-clause-reads g c = then_reads c.rows_of.ensures.reads c.rows_of-2.ensures.reads
 
 pub returns-clause-up : goal.returns-clause-up
-returns-clause-up g c up clean = c.in_ok-messages.ensures.up (c.in_ok-desk.ensures.up up (c.rows_of-2.ensures.reads.was_clean clean)) clean
+returns-clause-up g c clean = c.in_ok-messages.ensures.up clean
 
 pub returns-clause-shows : goal.returns-clause-shows
 returns-clause-shows g c up =

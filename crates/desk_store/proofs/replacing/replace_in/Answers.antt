@@ -27,7 +27,7 @@ returns-in_err-found g c = read_only c.args.roster.now (state g.S.Store c.args.c
 pub returns-in-Desk : goal.returns-in-Desk
 returns-in-Desk g c =
     then_replaces c.args.roster.now (state g.S.Store c.args.conn.now) (state g.S.Store c.look.new.conn) c.look.ensures.reads
-    (state g.S.Store c.replace_today.new.conn) c.replace_today.result c.in_ok-found.ensures.up c.replace_today.ensures
+    (state g.S.Store c.replace_today.new.conn) c.replace_today.result c.replace_today.ensures
 
 pub replace_older-requires-clause-rests : goal.replace_older-requires-clause-rests
 replace_older-requires-clause-rests g c = c.look.ensures.reads.rests
@@ -44,7 +44,7 @@ replace_older-requires-clause-listed g c up =
 pub returns-in-Old : goal.returns-in-Old
 returns-in-Old g c =
     then_replaces c.args.roster.now (state g.S.Store c.args.conn.now) (state g.S.Store c.look.new.conn) c.look.ensures.reads
-    (state g.S.Store c.replace_older.new.conn) c.replace_older.result c.in_ok-found.ensures.up c.replace_older.ensures
+    (state g.S.Store c.replace_older.new.conn) c.replace_older.result c.replace_older.ensures
 
 pub returns-in-Empty : goal.returns-in-Empty
 returns-in-Empty g c = read_refused c.args.roster.now (state g.S.Store c.args.conn.now) (state g.S.Store c.look.new.conn) c.look.ensures.reads _

@@ -33,5 +33,5 @@ returns g c =
       beside = λ up. older_beside c.args.roster.now old new c.migrate.result (c.requires.desk (c.migrate.ensures.was_up up))
           (c.migrate.ensures.kept up) (c.migrate.ensures.grown up) (c.migrate.ensures.others up);
       unchanged = c.migrate.ensures.unchanged;
-      survives = λ up clean. older_survives c.args.roster.now old new c.migrate.result (c.migrate.ensures.survives up);
+      survives = older_survives c.args.roster.now old new c.migrate.result c.migrate.ensures.survives;
     }

@@ -36,6 +36,5 @@ returns g c =
           (c.replace.ensures.desk up) (c.replace.ensures.replaced up) (c.replace.ensures.others up);
       beside = λ up. today_beside c.args.roster.now old new c.replace.result c.requires.desk c.replace.ensures.was_up up (c.replace.ensures.others up);
       unchanged = c.replace.ensures.unchanged;
-      survives =
-          λ up clean. today_survives c.args.roster.now old new c.replace.result c.requires.desk c.replace.ensures.was_up up (c.replace.ensures.survives up);
+      survives = today_survives c.args.roster.now old new c.replace.result c.requires.desk c.replace.ensures.was_up c.replace.ensures.survives;
     }

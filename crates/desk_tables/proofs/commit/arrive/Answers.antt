@@ -27,7 +27,7 @@ returns g c =
       rests = all.rests;
       was_up = all.was_up;
       was_clean = all.was_clean;
-      up = λ before. subst (λ h. HasCleanDisk (state g.S.Store h) → IsUp (state g.S.Store h)) same
+      up = subst (λ h. HasCleanDisk (state g.S.Store h) → IsUp (state g.S.Store h)) same
           (commit_up text old last end c.requires.rests step _ c.commit.ensures.survives received c.requires.desk c.obeys.ensures ok);
       desk = subst (λ h. IsUp (state g.S.Store h) → IsDeskDatabase (state g.S.Store h).now) same
           (commit_desk text old last end c.requires.rests step _ c.commit.ensures.survives received c.requires.desk c.obeys.ensures ok);
@@ -38,12 +38,12 @@ returns g c =
       others = subst (λ h. IsUp (state g.S.Store h) → Spares old.now (state g.S.Store h).now) same
           (commit_spared text old last end c.requires.rests step _ c.commit.ensures.survives received c.requires.desk c.obeys.ensures ok);
       unchanged = λ up. tt;
-      survives = λ up. subst (λ h. Survives old (state g.S.Store h) (ArrivesAt text old.now)) same
-          (arrive_survives text old last end c.requires.rests step _ c.commit.ensures.survives received c.requires.desk c.obeys.ensures (λ db is. is) up);
+      survives = subst (λ h. Survives old (state g.S.Store h) (λ trees. IsUp old × ArrivesAt text old.now trees)) same
+          (arrive_survives text old last end c.requires.rests step _ c.commit.ensures.survives received c.requires.desk c.obeys.ensures (λ db is. is));
     }
 
 pub returns-in_err-commit-clause-survives : goal.returns-in_err-commit-clause-survives
-returns-in_err-commit-clause-survives g c up =
+returns-in_err-commit-clause-survives g c =
     let text = c.args.body.now in
     let old = state g.S.Store c.args.conn.now in
     let last = state g.S.Store c.receive.new.tx.conn.now in
@@ -52,5 +52,5 @@ returns-in_err-commit-clause-survives g c up =
     let step = rw begun at c.receive.ensures.step in
     let received = λ (clean : HasCleanDisk last). (rw begun at c.in_ok-receive.ensures.received) clean refl in
     let same : c.commit.new.self.0 ≡ c.conn-2-1.given.0 = search rules in
-    subst (λ h. Survives old (state g.S.Store h) (ArrivesAt text old.now)) same
-    (arrive_survives text old last end c.requires.rests step _ c.commit.ensures.survives received c.requires.desk c.obeys.ensures (λ db is. is) up)
+    subst (λ h. Survives old (state g.S.Store h) (λ trees. IsUp old × ArrivesAt text old.now trees)) same
+    (arrive_survives text old last end c.requires.rests step _ c.commit.ensures.survives received c.requires.desk c.obeys.ensures (λ db is. is))

@@ -29,7 +29,7 @@ returns g c =
       rests = all.rests;
       was_up = all.was_up;
       was_clean = all.was_clean;
-      up = λ before. subst (λ h. HasCleanDisk (state g.S.Store h) → IsUp (state g.S.Store h)) same
+      up = subst (λ h. HasCleanDisk (state g.S.Store h) → IsUp (state g.S.Store h)) same
           (commit_up roster old last end c.requires.rests step _ c.commit.ensures.survives c.args.messages.now received c.requires.desk c.requires.listed ok);
       desk = subst (λ h. IsUp (state g.S.Store h) → IsDeskDatabase (state g.S.Store h).now) same
           (commit_desk roster old last end c.requires.rests step _ c.commit.ensures.survives c.args.messages.now received c.requires.desk c.requires.listed ok);
@@ -39,12 +39,12 @@ returns g c =
       others = subst (λ h. IsUp (state g.S.Store h) → Spares old.now (state g.S.Store h).now) same (commit_spared roster old last
           end c.requires.rests step _ c.commit.ensures.survives c.args.messages.now received c.requires.desk c.requires.listed ok);
       unchanged = λ up. tt;
-      survives = λ up. subst (λ h. Survives old (state g.S.Store h) (ChangesAt roster old.now)) same (replace_survives roster old last end
-          c.requires.rests step _ c.commit.ensures.survives c.args.messages.now received c.requires.desk c.requires.listed (λ db is. is) up);
+      survives = subst (λ h. Survives old (state g.S.Store h) (λ trees. IsUp old × ChangesAt roster old.now trees)) same (replace_survives roster old last end
+          c.requires.rests step _ c.commit.ensures.survives c.args.messages.now received c.requires.desk c.requires.listed (λ db is. is));
     }
 
 pub returns-in_err-commit-clause-survives : goal.returns-in_err-commit-clause-survives
-returns-in_err-commit-clause-survives g c up =
+returns-in_err-commit-clause-survives g c =
     let roster = c.args.roster.now in
     let old = state g.S.Store c.args.conn.now in
     let last = state g.S.Store c.replace_within.new.tx.conn.now in
@@ -53,5 +53,5 @@ returns-in_err-commit-clause-survives g c up =
     let step = rw begun at c.replace_within.ensures.step in
     let received = λ (clean : HasCleanDisk last). (rw begun at c.in_ok-replace_within.ensures.replaced) clean refl in
     let same : c.commit.new.self.0 ≡ c.conn-2-1.given.0 = search rules in
-    subst (λ h. Survives old (state g.S.Store h) (ChangesAt roster old.now)) same (replace_survives roster old last end
-    c.requires.rests step _ c.commit.ensures.survives c.args.messages.now received c.requires.desk c.requires.listed (λ db is. is) up)
+    subst (λ h. Survives old (state g.S.Store h) (λ trees. IsUp old × ChangesAt roster old.now trees)) same (replace_survives roster old last end
+    c.requires.rests step _ c.commit.ensures.survives c.args.messages.now received c.requires.desk c.requires.listed (λ db is. is))

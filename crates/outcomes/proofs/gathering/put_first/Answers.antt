@@ -1,4 +1,4 @@
-use Rattle.std.proofs.Common.{◌≡◌, ◌∙◌, List, ◌∷◌, None, map, sym, ap, subst}
+use Rattle.std.proofs.Common.{◌≡◌, ℕ, ◌∙◌, List, ◌∷◌, None, map, sym, ap, subst}
 use Rattle.std.specs.List.{Contains}
 use Rattle.std.proofs.lemmas.Result.{err_from_is_err_and}
 use Rattle.messages.specs.Fields.{VerdictFields}
@@ -10,6 +10,7 @@ use Rattle.outcomes.specs.private.ByName.{at_name, verdicts_at}
 use Rattle.outcomes.proofs.ByNameLemmas.{request_first}
 use Rattle.outcomes.proofs.GatherLemmas.{gathers_same, of_verdict}
 use Rattle.outcomes.proofs.NameMaps.{SetsAt, others_from, sets_from}
+use Rattle.outcomes.proofs.ByHostLemmas.{listed_first, listed_more, listed_same}
 use Rattle.outcomes.proofs.gathering.put_first.Goals as goal
 
 pub first_of-requires : goal.first_of-requires
@@ -19,24 +20,24 @@ first_of-requires c = λ v among.
     let meant = ((by.waiting.each c.args.name v).0 there).0 ∙ c.requires.named in
     (ap (λ (n : RequestName). n.by) meant, ap (λ (n : RequestName). n.no) meant)
 
-pub returns-in_err-summary : goal.returns-in_err-summary
-returns-in_err-summary c =
+pub returns-in_err-summary-clause-known : goal.returns-in_err-summary-clause-known
+returns-in_err-summary-clause-known c =
     let p = err_from_is_err_and c.from_residual.result c.from_residual.ensures.1 in rw p.1 (λ set by. by)
 
-pub returns-in_err-settled : goal.returns-in_err-settled
-returns-in_err-settled c =
+pub returns-in_err-settled-clause-known : goal.returns-in_err-settled-clause-known
+returns-in_err-settled-clause-known c =
     let p = err_from_is_err_and c.from_residual-in_err-settled.result c.from_residual-in_err-settled.ensures.1 in rw p.1 (λ set by. by)
 
-pub returns-in_err-insert : goal.returns-in_err-insert
-returns-in_err-insert c =
+pub returns-in_err-insert-clause-known : goal.returns-in_err-insert-clause-known
+returns-in_err-insert-clause-known c =
     let p = err_from_is_err_and c.from_residual-in_err-insert.result c.from_residual-in_err-insert.ensures.1 in
     rw p.1 (λ set by. record {
       summaries = gathers_same set c.args.summaries.now c.insert.new.self c.in_err-insert.ensures.err c.insert.ensures.ordered by.summaries;
       waiting = by.waiting;
     })
 
-pub returns : goal.returns
-returns c = λ set by.
+pub returns-clause-known : goal.returns-clause-known
+returns-clause-known c = λ set by.
     let q = c.args.request.now in
     let old = c.args.summaries.now in
     let new = c.insert.new.self in
@@ -55,3 +56,28 @@ returns c = λ set by.
     let others = others_from waiting taken c.in_ok-settled.settled None c.remove-part_of_it.ensures.updates in
     request_first set q old new waiting taken k bare sets c.in_ok-insert.ensures.ordered c.in_ok-summary.ensures.same_request
     stands c.remove-part_of_it.ensures.ordered gone (λ other differ. others other (λ same. differ (sym settled_is ∙ same))) by
+
+-- ---- the index
+
+pub returns-in_err-list_hosts-clause-listed : goal.returns-in_err-list_hosts-clause-listed
+returns-in_err-list_hosts-clause-listed c =
+    listed_more c.args.hosts.now c.list_hosts.new.hosts c.args.summaries.now c.list_hosts.ensures.stays
+
+pub returns-in_err-settled-clause-listed : goal.returns-in_err-settled-clause-listed
+returns-in_err-settled-clause-listed c =
+    listed_more c.args.hosts.now c.list_hosts.new.hosts c.args.summaries.now c.list_hosts.ensures.stays
+
+pub returns-in_err-insert-clause-listed : goal.returns-in_err-insert-clause-listed
+returns-in_err-insert-clause-listed c = λ listed.
+    let more = listed_more c.args.hosts.now c.list_hosts.new.hosts c.args.summaries.now c.list_hosts.ensures.stays listed in
+    listed_same c.list_hosts.new.hosts c.args.summaries.now c.insert.new.self c.in_err-insert.ensures.err more
+
+pub returns-clause-listed : goal.returns-clause-listed
+returns-clause-listed c =
+    let old = c.args.summaries.now in
+    let new = c.insert.new.self in
+    let k = c.in_ok-summary.summary in
+    let sets = sets_from old new c.args.name k c.in_ok-insert.ensures.updates in
+    listed_first c.args.hosts.now c.list_hosts.new.hosts old new c.args.name k c.args.request.now sets c.in_ok-summary.ensures.same_request
+    (λ host lists. c.in_ok-list_hosts.ensures.here host (subst (λ (hs : List (List ℕ)). Contains hs host) (sym c.hosts.ensures.value) lists))
+    c.list_hosts.ensures.stays

@@ -5,6 +5,8 @@ use Rattle.outcomes.specs.private.ByName.{AreByName, IsByName, at_name}
 use Rattle.outcomes.proofs.ByNameLemmas.{Summaries, request_again}
 use Rattle.outcomes.proofs.GatherLemmas.{named_at}
 use Rattle.outcomes.proofs.NameMaps.{SetsAt, sets_from}
+use Rattle.outcomes.specs.private.ByHost.{AreListed}
+use Rattle.outcomes.proofs.ByHostLemmas.{listed_again}
 use Rattle.outcomes.proofs.gathering.put_request.Goals as goal
 use Rattle.outcomes.proofs.gathering.put_request.Goals.{In-Some}
 
@@ -17,8 +19,8 @@ ask_again-requires c =
     let same = sym (named_at c.requires.0 c.args.summaries.now c.requires.1.summaries (name_of c.args.request.now) c.in-Some.summary.now (found c)) in
     (ap (λ (n : RequestName). n.by) same, ap (λ (n : RequestName). n.no) same)
 
-pub returns-in-Some : goal.returns-in-Some
-returns-in-Some c = λ set by.
+pub returns-in-Some-clause-known : goal.returns-in-Some-clause-known
+returns-in-Some-clause-known c = λ set by.
     let q = c.args.request.now in
     let old = c.args.summaries.now in
     let before = c.in-Some.summary.now in
@@ -38,6 +40,22 @@ pub put_first-requires-clause-first : goal.put_first-requires-clause-first
 put_first-requires-clause-first c =
     subst (λ (m : Summaries). at_name m c.in_ok-name.name ≡ None) (sym c.get_mut.follows.holds-at-none) (sym c.in-None.ensures.value)
 
-pub returns-in-None : goal.returns-in-None
-returns-in-None c = λ set by.
-    c.put_first.ensures set (subst (λ (m : Summaries). AreByName set m c.args.waiting.now) (sym c.get_mut.follows.holds-at-none) by)
+pub returns-in-None-clause-known : goal.returns-in-None-clause-known
+returns-in-None-clause-known c = λ set by.
+    c.put_first.ensures.known set (subst (λ (m : Summaries). AreByName set m c.args.waiting.now) (sym c.get_mut.follows.holds-at-none) by)
+
+-- ---- the index
+
+pub returns-in-Some-clause-listed : goal.returns-in-Some-clause-listed
+returns-in-Some-clause-listed c =
+    let old = c.args.summaries.now in
+    let after = c.ask_again.new.s in
+    let new = c.get_mut.follows.lender after in
+    let holds = c.get_mut.follows.holds after in
+    let sets = sets_from old new c.in_ok-name.name after (holds.3 (search rules)) in
+    listed_again c.args.hosts.now old new c.in_ok-name.name c.in-Some.summary.now after
+    (sym c.in-Some.ensures.value) sets c.ask_again.ensures.same_request
+
+pub returns-in-None-clause-listed : goal.returns-in-None-clause-listed
+returns-in-None-clause-listed c = λ listed.
+    c.put_first.ensures.listed (subst (λ (m : Summaries). AreListed c.args.hosts.now m) (sym c.get_mut.follows.holds-at-none) listed)

@@ -1,18 +1,20 @@
-use Rattle.std.proofs.Common.{◌≡◌, Some, None, sym, subst}
+use Rattle.std.proofs.Common.{◌≡◌, ℕ, List, Some, None, sym, subst}
+use Rattle.std.specs.List.{Contains}
 use Rattle.messages.specs.Names.{name_of}
 use Rattle.messages.specs.declared.request_name.RequestName.{RequestName}
 use Rattle.outcomes.specs.private.ByName.{at_name}
 use Rattle.outcomes.proofs.NameMaps.{SetsAt, sets_from}
 use Rattle.outcomes.proofs.RowLemmas.{alone_first, rows_again, rows_first}
+use Rattle.outcomes.proofs.ByHostLemmas.{listed_first, listed_more, listed_same}
 use Rattle.outcomes.proofs.gathering.put_row.Goals as goal
-use Rattle.outcomes.proofs.gathering.put_row.Goals.{Joined-branch-4}
+use Rattle.outcomes.proofs.gathering.put_row.Goals.{Joined-branch-5}
 
 pub returns-in-Some-clause-rows : goal.returns-in-Some-clause-rows
 returns-in-Some-clause-rows c = λ set rows bare is g.
     let there = subst (λ (n : RequestName). at_name c.args.summaries.now n ≡ Some c.in-Some.field-0.now) c.in_ok-name.ensures (sym c.in-Some.ensures.value) in
     rows_again set rows c.args.row.now c.args.summaries.now c.in-Some.field-0.now there g
 
-sets : (c : Joined-branch-4) → SetsAt c.args.summaries.now c.insert.new.self (name_of c.args.row.now.request) c.in_ok-summary-in-None.summary
+sets : (c : Joined-branch-5) → SetsAt c.args.summaries.now c.insert.new.self (name_of c.args.row.now.request) c.in_ok-summary-in-None.summary
 sets c =
     let k = c.in_ok-summary-in-None.summary in
     subst (λ (n : RequestName). SetsAt c.args.summaries.now c.insert.new.self n k) c.in_ok-name.ensures
@@ -28,3 +30,25 @@ pub returns-in_ok-insert-in-None-clause-rows : goal.returns-in_ok-insert-in-None
 returns-in_ok-insert-in-None-clause-rows c =
     λ set rows bare is g. rows_first set rows c.args.row.now c.args.summaries.now c.insert.new.self c.in_ok-summary-in-None.summary
     (sets c) c.in_ok-insert-in-None.ensures.ordered c.in_ok-summary-in-None.ensures.same_request (c.in_ok-summary-in-None.ensures.stands set bare is) g
+
+-- ---- the index
+
+pub returns-in_err-list_hosts-in-None-clause-listed : goal.returns-in_err-list_hosts-in-None-clause-listed
+returns-in_err-list_hosts-in-None-clause-listed c =
+    listed_more c.args.hosts.now c.list_hosts.new.hosts c.args.summaries.now c.list_hosts.ensures.stays
+
+pub returns-in_err-insert-in-None-clause-listed : goal.returns-in_err-insert-in-None-clause-listed
+returns-in_err-insert-in-None-clause-listed c = λ listed.
+    let more = listed_more c.args.hosts.now c.list_hosts.new.hosts c.args.summaries.now c.list_hosts.ensures.stays listed in
+    listed_same c.list_hosts.new.hosts c.args.summaries.now c.insert.new.self c.in_err-insert-in-None.ensures.err more
+
+pub returns-in_ok-insert-in-None-clause-listed : goal.returns-in_ok-insert-in-None-clause-listed
+returns-in_ok-insert-in-None-clause-listed c =
+    let old = c.args.summaries.now in
+    let new = c.insert.new.self in
+    let k = c.in_ok-summary-in-None.summary in
+    let sets = sets_from old new c.in_ok-name.name k c.in_ok-insert-in-None.ensures.updates in
+    listed_first c.args.hosts.now c.list_hosts.new.hosts old new c.in_ok-name.name k c.args.row.now.request sets
+    c.in_ok-summary-in-None.ensures.same_request
+    (λ host lists. c.in_ok-list_hosts-in-None.ensures.here host (subst (λ (hs : List (List ℕ)). Contains hs host) (sym c.hosts.ensures.value) lists))
+    c.list_hosts.ensures.stays

@@ -7,6 +7,8 @@ use Rattle.outcomes.specs.private.ByName.{AreByName, at_name}
 use Rattle.outcomes.proofs.ByNameLemmas.{Summaries, verdict_heard, verdict_waits}
 use Rattle.outcomes.proofs.GatherLemmas.{named_at}
 use Rattle.outcomes.proofs.NameMaps.{SetsAt, sets_from}
+use Rattle.outcomes.specs.private.ByHost.{AreListed}
+use Rattle.outcomes.proofs.ByHostLemmas.{listed_again}
 use Rattle.outcomes.proofs.gathering.put_verdict.Goals as goal
 use Rattle.outcomes.proofs.gathering.put_verdict.Goals.{In-Some}
 
@@ -19,8 +21,8 @@ apply-requires c =
     let same = sym (named_at c.requires.0 c.args.summaries.now c.requires.1.summaries (name_meant c.args.verdict.now) c.in-Some.summary.now (found c)) in
     (ap (λ (n : RequestName). n.by) same, ap (λ (n : RequestName). n.no) same)
 
-pub returns-in-Some : goal.returns-in-Some
-returns-in-Some c = λ set by.
+pub returns-in-Some-clause-known : goal.returns-in-Some-clause-known
+returns-in-Some-clause-known c = λ set by.
     let v = c.args.verdict.now in
     let old = c.args.summaries.now in
     let before = c.in-Some.summary.now in
@@ -33,8 +35,8 @@ returns-in-Some c = λ set by.
     verdict_heard set v c.apply.result old new c.args.waiting.now before after there
     sets holds.4 c.apply.ensures.same_request c.apply.ensures.ok c.apply.ensures.err by
 
-pub returns-in-None : goal.returns-in-None
-returns-in-None c = λ set by.
+pub returns-in-None-clause-known : goal.returns-in-None-clause-known
+returns-in-None-clause-known c = λ set by.
     let v = c.args.verdict.now in
     let old = c.args.waiting.now in
     let new = c.wait.new.waiting in
@@ -45,3 +47,19 @@ returns-in-None c = λ set by.
     (λ other differ. c.wait.ensures.others other (λ same. differ (sym name_is ∙ same))) (rw (← name_is) c.wait.ensures.err) by in
     subst (λ (m : Summaries). MatchResult c.wait.result (λ _. AreByName (set ++ Verdict v ∷ []) m new) (λ _. AreByName set m new))
     (sym c.get_mut.follows.holds-at-none) waits
+
+-- ---- the index
+
+pub returns-in-Some-clause-listed : goal.returns-in-Some-clause-listed
+returns-in-Some-clause-listed c = λ hosts.
+    let old = c.args.summaries.now in
+    let after = c.apply.new.s in
+    let new = c.get_mut.follows.lender after in
+    let holds = c.get_mut.follows.holds after in
+    let sets = sets_from old new c.in_ok-name.name after (holds.3 (search rules)) in
+    listed_again hosts old new c.in_ok-name.name c.in-Some.summary.now after
+    (sym c.in-Some.ensures.value) sets c.apply.ensures.same_request
+
+pub returns-in-None-clause-listed : goal.returns-in-None-clause-listed
+returns-in-None-clause-listed c = λ hosts listed.
+    subst (λ (m : Summaries). AreListed hosts m) (sym c.get_mut.follows.holds-at-none) listed

@@ -1,6 +1,6 @@
 use Rattle.std.proofs.Common.{◌≡◌, ◌⊎◌, ℕ, List, true, sym, subst}
 use Rattle.sudo_words.specs.Word.{is_host_name}
-use Rattle.relay_http.proofs.AnswerLemmas.{file_right, left_whole, text_served}
+use Rattle.relay_http.proofs.AnswerLemmas.{file_right, left_whole, text_lasts, text_served}
 use Rattle.relay_http.specs.Asked.{host_file}
 use Rattle.relay_http.specs.Prepared.{to_question}
 use Rattle.relay_http.specs.Replies.{IsReply, IsWanting}
@@ -8,16 +8,24 @@ use Rattle.relay_http.proofs.answering.host_file.Goals as goal
 
 pub returns-in-Ok-clause-answered : goal.returns-in-Ok-clause-answered
 returns-in-Ok-clause-answered g c =
-    let f = c.args.desk.now.roster.says in
+    let roster = c.args.desk.now.roster in
+    let f = roster.says in
     let base = c.args.desk.now.base in
     let done = c.host_file.ensures in
     let found = c.in-Ok.ensures.found in
     let name : is_host_name c.in-Ok.host ≡ true = subst (λ (h : List ℕ). is_host_name h ≡ true) (sym found.0) found.1 in
     record {
       right =
-          λ set up lists. subst (λ (h : List ℕ). IsReply f base set (host_file h) (to_question c.host_file.result) ⊎ IsWanting (to_question c.host_file.result))
+          λ set up lists. subst
+          (λ (h : List ℕ). IsReply roster base set (host_file h) (to_question c.host_file.result) ⊎ IsWanting (to_question c.host_file.result))
           found.0 (file_right (λ lines. lines) f base set c.in-Ok.host c.host_file.result name (left_whole f base set c.in-Ok.host c.host_file.result
           (done.file set up lists)) (λ ls. done.few set ls up lists) (λ ls. done.many set ls up lists) done.unknown done.err);
       leaves = done.unchanged;
       served = text_served c.host_file.result done.served;
     }
+
+pub returns-in-Ok-clause-lasts : goal.returns-in-Ok-clause-lasts
+returns-in-Ok-clause-lasts g c =
+    let d = c.args.desk.now in
+    text_lasts g.K.Keeper d.roster.says d.roster.text d.keeper c.host_file.new.self.keeper (host_file c.args.host.now)
+    c.host_file.result c.host_file.ensures.asks c.host_file.ensures.asks.leaves

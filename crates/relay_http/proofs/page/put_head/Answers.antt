@@ -16,10 +16,10 @@ onto next old piece shown front e is same = e ∙ ap (λ (x : List ℕ). x ++ pi
 pub returns-clause-head : goal.returns-clause-head
 returns-clause-head c =
     let o1 = c.put-at.ensures.put in
-    let o2 = onto _ _ _ _ _ c.put-at-2.ensures.put o1 c.status_text.ensures.text in
-    let o3 = onto _ _ _ _ _ c.put-at-3.ensures.put o2 refl in
-    let o4 = onto _ _ _ _ _ c.put-at-4.ensures.put o3 c.allow_line.ensures.text in
-    let o5 = onto _ _ _ _ _ c.put-at-5.ensures.put o4 refl in
+    let o2 = onto _ _ _ _ _ c.put_status-at.ensures.put o1 refl in
+    let o3 = onto _ _ _ _ _ c.put-at-2.ensures.put o2 refl in
+    let o4 = onto _ _ _ _ _ c.put-at-3.ensures.put o3 c.allow_line.ensures.text in
+    let o5 = onto _ _ _ _ _ c.put-at-4.ensures.put o4 refl in
     let o6 = onto _ _ _ _ _ c.put_decimal-at.ensures.put o5 refl in
     let o7 = onto _ _ _ _ _ c.put.ensures.put o6 refl in
     o7 ∙ joined (codes "HTTP/1.1 ") (status_text c.args.status) (line_end ++ (codes "Content-Type: text/plain" ++ line_end)) (allow_line c.args.status)

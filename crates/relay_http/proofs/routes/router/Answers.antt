@@ -4,8 +4,9 @@ use Rattle.matchit.specs.Router.{RouteOf}
 use Rattle.matchit.specs.Rows.{RowsOf}
 use Rattle.relay_http.specs.Routes.{IsFree, with_route, routes}
 use Rattle.relay_http.specs.declared.place.Place.{Place}
-use Rattle.relay_http.specs.declared.place.Place.TheVariants.{Messages, AllMessages, Grants, Parked, HostFile, HostFileAfter, Report}
-use Rattle.relay_http.proofs.RouteLemmas.{free_messages, free_grants, free_parked, free_host_file, free_report, free_host_file_after, free_all_messages}
+use Rattle.relay_http.specs.declared.place.Place.TheVariants.{Messages, AllMessages, Count, Grants, Parked, HostFile, HostFileAfter, Report}
+use Rattle.relay_http.proofs.RouteLemmas.{free_messages, free_grants, free_parked, free_host_file, free_report}
+use Rattle.relay_http.proofs.RouteLemmas.{free_host_file_after, free_all_messages, free_count}
 use Rattle.relay_http.proofs.routes.router.Goals as goal
 
 pub add-requires : goal.add-requires
@@ -61,14 +62,27 @@ add-requires-7 c =
     ∙ ap (with_route (codes "/v1/grants/{at}") Grants) (c.in_ok-add.ensures
     ∙ ap (with_route (codes "/v1/relays/{relay}/messages") Messages) c.new-router.ensures))))))) free_all_messages
 
-pub returns : goal.returns
-unfolding routes
-returns c =
-    c.in_ok-add-7.ensures
+pub add-requires-8 : goal.add-requires-8
+add-requires-8 c =
+    subst (λ (r : RowsOf (RouteOf Place)). IsFree (parse_route (codes "/v1/count")) r)
+    (sym (c.in_ok-add-7.ensures
     ∙ ap (with_route (codes "/v1/messages") AllMessages) (c.in_ok-add-6.ensures
     ∙ ap (with_route (codes "/v1/hosts/{host}/sudoers/{at}") HostFileAfter) (c.in_ok-add-5.ensures
     ∙ ap (with_route (codes "/v1/reviews/{at}") Report) (c.in_ok-add-4.ensures
     ∙ ap (with_route (codes "/v1/hosts/{host}/sudoers") HostFile) (c.in_ok-add-3.ensures
     ∙ ap (with_route (codes "/v1/parked") Parked) (c.in_ok-add-2.ensures
     ∙ ap (with_route (codes "/v1/grants/{at}") Grants) (c.in_ok-add.ensures
-    ∙ ap (with_route (codes "/v1/relays/{relay}/messages") Messages) c.new-router.ensures))))))
+    ∙ ap (with_route (codes "/v1/relays/{relay}/messages") Messages) c.new-router.ensures)))))))) free_count
+
+pub returns : goal.returns
+unfolding routes
+returns c =
+    c.in_ok-add-8.ensures
+    ∙ ap (with_route (codes "/v1/count") Count) (c.in_ok-add-7.ensures
+    ∙ ap (with_route (codes "/v1/messages") AllMessages) (c.in_ok-add-6.ensures
+    ∙ ap (with_route (codes "/v1/hosts/{host}/sudoers/{at}") HostFileAfter) (c.in_ok-add-5.ensures
+    ∙ ap (with_route (codes "/v1/reviews/{at}") Report) (c.in_ok-add-4.ensures
+    ∙ ap (with_route (codes "/v1/hosts/{host}/sudoers") HostFile) (c.in_ok-add-3.ensures
+    ∙ ap (with_route (codes "/v1/parked") Parked) (c.in_ok-add-2.ensures
+    ∙ ap (with_route (codes "/v1/grants/{at}") Grants) (c.in_ok-add.ensures
+    ∙ ap (with_route (codes "/v1/relays/{relay}/messages") Messages) c.new-router.ensures)))))))

@@ -44,6 +44,16 @@ unfolding is_token_byte print_request trim_ows scan param_step seek part routes
 returns-clause-posts c =
     worked (spelled (codes "POST") (codes "/v1/parked") 1 ((codes "Host", codes "desk") ∷ [])) [] _ _ refl refl refl refl (refl, refl)
 
+pub returns-clause-counts : goal.returns-clause-counts
+unfolding is_token_byte print_request trim_ows scan param_step seek part routes
+returns-clause-counts c =
+    worked (spelled (codes "GET") (codes "/v1/counts") 1 ((codes "Host", codes "desk") ∷ [])) [] _ _ refl refl refl refl (refl, refl)
+
+pub returns-clause-posts_count : goal.returns-clause-posts_count
+unfolding is_token_byte print_request trim_ows scan param_step seek part routes
+returns-clause-posts_count c =
+    worked (spelled (codes "POST") (codes "/v1/count") 1 ((codes "Host", codes "desk") ∷ [])) [] _ _ refl refl refl refl (refl, refl)
+
 pub returns-clause-gets : goal.returns-clause-gets
 unfolding is_token_byte print_request trim_ows scan param_step seek part routes
 returns-clause-gets c =

@@ -18,6 +18,7 @@ returns c = record {
       worked (spelled (codes "POST") (codes "/v1/relays/web/messages") 1 ((codes "Host", codes "desk") ∷ (codes "Content-Length", codes "0070") ∷ [])) approval
       _ _ refl refl refl refl (refl, refl);
   all_messages = worked (spelled (codes "GET") (codes "/v1/messages") 1 ((codes "Host", codes "desk") ∷ [])) [] _ _ refl refl refl refl (refl, refl);
+  count = worked (spelled (codes "GET") (codes "/v1/count") 1 ((codes "Host", codes "desk") ∷ [])) [] _ _ refl refl refl refl (refl, refl);
   grants =
       worked (spelled (codes "HEAD") (codes "/v1/grants/20260105093000Z") 1 ((codes "Host", codes "desk") ∷ [])) []
       _ _ refl refl refl refl (refl, inl (1_767_605_400, stamped_at_half_past_nine, refl));

@@ -2,10 +2,15 @@ use Rattle.std.proofs.Common.{◌≡◌, ◌∙◌, Ok, true, rules, subst, sym}
 use Rattle.std.proofs.lemmas.Result.{err_from_is_err_and}
 use Rattle.messages.specs.declared.message.Message.{Message}
 use Rattle.roster.specs.Rules.{is_among}
+use Rattle.desk_tables.specs.Sets.{With}
+use Rattle.desk_store.specs.Left.{AddsOnly}
+use Rattle.desk_store.proofs.SameLeft.{same_left}
+use Rattle.desk.specs.Crash.{IsAddedByDelivery}
 use Rattle.desk.specs.Delivery.{Delivery, IsBodyOf, IsDeliveryAnswer}
 use Rattle.desk.specs.private.Known.{IsKnown}
 use Rattle.desk.proofs.DeliveryLemmas.{acknowledged, held_at_ok, refused, same_body}
 use Rattle.desk.proofs.KnownLemmas.{known_more}
+use Rattle.desk.proofs.LeftLemmas.{adds_as, known_of_up}
 use Rattle.desk.proofs.desk.Desk.deliver.Goals as goal
 
 pub returns-in_err-message-clause-answer : goal.returns-in_err-message-clause-answer
@@ -55,4 +60,49 @@ invariant_of-self-2 g c =
       λ up. c.add-added.ensures.durable up,
       known_more (K.is_up old) (K.is_up new) (K.holds old) (K.holds new) c.in_ok-message.message c.take.result c.with_message-known.result known
           c.add-added.ensures.served.was_up c.in_ok-added.ensures.added c.with_message-known.ensures.more c.with_message-known.ensures.nothing,
+      known_of_up (K.is_clean new) (K.is_up new) c.with_message-known.result c.in_ok-added.ensures.live,
     )
+
+pub returns-in_err-added-clause-leaves : goal.returns-in_err-added-clause-leaves
+returns-in_err-added-clause-leaves g c = λ clean.
+    let K = g.K.Keeper in
+    let old = c.self.inside.keeper in
+    let f = c.self.inside.roster.says in
+    let text = c.self.inside.roster.text in
+    let d : Delivery = record { relay = c.args.relay.now; body = c.args.body.now } in
+    let known : is_among f.relays d.relay ≡ true = search rules in
+    let found = c.in_ok-message.ensures.found in
+    let m = c.in_ok-message.message in
+    let with' = With (K.holds old) m in
+    let adds : AddsOnly (K.may_leave old) (K.may_leave c.add-added.new.self) (IsAddedByDelivery (K.is_up old) f text (K.holds old) d) =
+    adds_as _ _ _ _ (λ left it. (
+      m,
+      record { relay = known; body = found.0; admitted = found.1 },
+      (
+        it.0,
+        same_left text (K.roster old) with' with' left (c.self.invariant.2 it.0) (λ n. (λ h. h, λ h. h)) it.1,
+      ),
+    )) (c.add-added.ensures.leaves clean) in
+    rw (← c.self.view_is) adds
+
+pub returns-clause-leaves : goal.returns-clause-leaves
+returns-clause-leaves g c = λ clean.
+    let K = g.K.Keeper in
+    let old = c.self.inside.keeper in
+    let f = c.self.inside.roster.says in
+    let text = c.self.inside.roster.text in
+    let d : Delivery = record { relay = c.args.relay.now; body = c.args.body.now } in
+    let known : is_among f.relays d.relay ≡ true = search rules in
+    let found = c.in_ok-message.ensures.found in
+    let m = c.in_ok-message.message in
+    let with' = With (K.holds old) m in
+    let adds : AddsOnly (K.may_leave old) (K.may_leave c.add-added.new.self) (IsAddedByDelivery (K.is_up old) f text (K.holds old) d) =
+    adds_as _ _ _ _ (λ left it. (
+      m,
+      record { relay = known; body = found.0; admitted = found.1 },
+      (
+        it.0,
+        same_left text (K.roster old) with' with' left (c.self.invariant.2 it.0) (λ n. (λ h. h, λ h. h)) it.1,
+      ),
+    )) (c.add-added.ensures.leaves clean) in
+    rw (← c.self.view_is) adds

@@ -1,11 +1,14 @@
 use Rattle.std.proofs.Common.{rules, ◌≡◌, ◌∙◌, Err, ap, subst, sym}
 use Rattle.grants.specs.Bases.{FitsBase}
 use Rattle.desk_store.proofs.ServingLemmas.{no_want, served_as}
+use Rattle.desk_store.specs.Left.{AddsOnly}
+use Rattle.desk.specs.Crash.{IsMadeByOpening}
 use Rattle.desk.specs.declared.refusal.Refusal.TheVariants.{Storage}
 use Rattle.desk.specs.Refusals.{IsWant}
 use Rattle.desk.specs.Opening.{Opens}
 use Rattle.desk.proofs.CrashLemmas.{of_roster}
 use Rattle.desk.proofs.KnownLemmas.{at_first}
+use Rattle.desk.proofs.LeftLemmas.{known_of_up}
 use Rattle.desk.proofs.OpeningLemmas.{refused_over}
 use Rattle.desk.proofs.desk.Desk.open.Goals as goal
 
@@ -17,8 +20,14 @@ invariant_of-result g c =
     let new = c.find_or_make.new.keeper in
     let fits : FitsBase c.args.base = search rules in
     let text : c.text.result.now ≡ c.args.roster.text = search rules in
-    let known = at_first (K.is_up new) (K.holds new) c.in-Ok.origin c.known_at_first.result c.known_at_first.ensures c.in-Ok.ensures.made in
-    (subst FitsBase (sym c.new.ensures) fits, c.in-Ok.ensures.desk, λ up. c.in-Ok.ensures.roster up ∙ text, c.in-Ok.ensures.durable, known)
+    let known = at_first (K.is_up new) (K.holds new) c.in-Ok.origin c.known_at_first.result c.known_at_first.ensures c.in-Ok.ensures.made in (
+      subst FitsBase (sym c.new.ensures) fits,
+      c.in-Ok.ensures.desk,
+      λ up. c.in-Ok.ensures.roster up ∙ text,
+      c.in-Ok.ensures.durable,
+      known,
+      known_of_up (K.is_clean new) (K.is_up new) c.known_at_first.result c.in-Ok.ensures.live,
+    )
 
 pub returns-in-Ok-clause-opens : goal.returns-in-Ok-clause-opens
 returns-in-Ok-clause-opens g c up =
@@ -52,3 +61,21 @@ returns-in-Err-clause-refused g c up =
     let text : c.text.result.now ≡ c.args.roster.text = search rules in
     refused_over (FitsBase c.args.base) (K.is_empty old) (K.is_desk old) (K.is_old old)
     (K.roster old) c.text.result.now c.args.roster.text c.in-Err.refusal fits text c.in-Err.ensures.fits (c.in-Err.ensures.refused up)
+
+-- ---- what was committed
+
+pub returns-in-Ok-clause-leaves : goal.returns-in-Ok-clause-leaves
+returns-in-Ok-clause-leaves g c clean =
+    let K = g.K.Keeper in
+    let old = c.args.keeper in
+    let new = c.find_or_make.new.keeper in
+    let text : c.text.result.now ≡ c.args.roster.text = search rules in
+    subst (λ t. AddsOnly (K.may_leave old) (K.may_leave new) (IsMadeByOpening (K.is_up old) (K.is_empty old) t)) text (c.in-Ok.ensures.leaves clean)
+
+pub returns-in-Err-clause-leaves : goal.returns-in-Err-clause-leaves
+returns-in-Err-clause-leaves g c clean =
+    let K = g.K.Keeper in
+    let old = c.args.keeper in
+    let new = c.find_or_make.new.keeper in
+    let text : c.text.result.now ≡ c.args.roster.text = search rules in
+    subst (λ t. AddsOnly (K.may_leave old) (K.may_leave new) (IsMadeByOpening (K.is_up old) (K.is_empty old) t)) text (c.in-Err.ensures.leaves clean)

@@ -1,6 +1,8 @@
 use Rattle.std.proofs.Common.{rules, ◌≡◌, ◌∙◌, Err, ap, subst, sym}
 use Rattle.grants.specs.Bases.{FitsBase}
 use Rattle.desk_store.proofs.ServingLemmas.{no_want, served_as}
+use Rattle.desk_store.specs.Left.{AddsOnly}
+use Rattle.desk.specs.Crash.{IsAddedByRebuilding}
 use Rattle.desk.specs.declared.refusal.Refusal.TheVariants.{Storage}
 use Rattle.desk.specs.Refusals.{IsWant}
 use Rattle.desk.proofs.CrashLemmas.{of_roster}
@@ -13,7 +15,7 @@ pub invariant_of-result : goal.invariant_of-result
 invariant_of-result g c =
     let fits : FitsBase c.args.base = search rules in
     let text : c.text.result.now ≡ c.args.roster.text = search rules in
-    (subst FitsBase (sym c.new.ensures) fits, c.in-Ok.ensures.desk, λ up. c.in-Ok.ensures.roster up ∙ text, c.in-Ok.ensures.durable, tt)
+    (subst FitsBase (sym c.new.ensures) fits, c.in-Ok.ensures.desk, λ up. c.in-Ok.ensures.roster up ∙ text, c.in-Ok.ensures.durable, tt, tt)
 
 pub returns-in-Ok-clause-lasting : goal.returns-in-Ok-clause-lasting
 returns-in-Ok-clause-lasting g c up clean =
@@ -46,3 +48,23 @@ returns-in-Err-clause-refused g c up =
 
 pub returns-in-Err-clause-err : goal.returns-in-Err-clause-err
 returns-in-Err-clause-err g c = told_why c.in-Err.refusal c.in-Err.ensures.err
+
+-- ---- what was committed
+
+pub returns-in-Ok-clause-leaves : goal.returns-in-Ok-clause-leaves
+returns-in-Ok-clause-leaves g c clean =
+    let K = g.K.Keeper in
+    let old = c.args.keeper in
+    let new = c.make_or_replace.new.keeper in
+    let text : c.text.result.now ≡ c.args.roster.text = search rules in
+    subst (λ t. AddsOnly (K.may_leave old) (K.may_leave new) (IsAddedByRebuilding (K.is_up old) (K.is_empty old) t (K.holds old)))
+    text (c.in-Ok.ensures.leaves clean)
+
+pub returns-in-Err-clause-leaves : goal.returns-in-Err-clause-leaves
+returns-in-Err-clause-leaves g c clean =
+    let K = g.K.Keeper in
+    let old = c.args.keeper in
+    let new = c.make_or_replace.new.keeper in
+    let text : c.text.result.now ≡ c.args.roster.text = search rules in
+    subst (λ t. AddsOnly (K.may_leave old) (K.may_leave new) (IsAddedByRebuilding (K.is_up old) (K.is_empty old) t (K.holds old)))
+    text (c.in-Err.ensures.leaves clean)

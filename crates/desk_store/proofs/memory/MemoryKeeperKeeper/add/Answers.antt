@@ -1,10 +1,10 @@
-use Rattle.std.proofs.Common.{subst}
-use Rattle.std.specs.Prelude.{[], IsSome, OnOk, option_map, string_bytes, unwrap_or}
+use Rattle.std.proofs.Common.{◌⊎◌, subst}
+use Rattle.std.specs.Prelude.{⊤, [], IsSome, OnOk, option_map, string_bytes, unwrap_or}
 use Rattle.desk_store.specs.Memory.{MemoryContent, Holds}
 use Rattle.desk_tables.specs.Sets.{IsWith, With}
-use Rattle.desk_store.specs.Left.{IsDeskOf, IsWithOrWithout, LeavesOnly}
+use Rattle.desk_store.specs.Left.{IsCommitted, IsDeskOf, IsWithOrWithout, LeavesOnly}
 use Rattle.desk_store.specs.Crash.{LeavesContent}
-use Rattle.desk_store.proofs.MemoryLeft.{put_lasts, put_leaves}
+use Rattle.desk_store.proofs.MemoryLeft.{put_adds_only, put_lasts, put_leaves}
 use Rattle.desk_store.proofs.MemoryLemmas.{put_adds_at_ok}
 use Rattle.desk_store.proofs.memory.MemoryKeeperKeeper.add.Goals as goal
 
@@ -30,3 +30,11 @@ returns-clause-lasting c = λ up clean.
     → OnOk c.put.result (LeavesOnly (LeavesContent new) (IsDeskOf (unwrap_or old.roster []) (With (Holds old) c.args.message.now))) in
     subst P c.self.view_is (λ some.
     put_lasts roster c.self.inside.messages c.args.message.now c.put.new.self c.requires.message some c.put.result c.put.ensures.put) (c.requires.desk up)
+
+pub returns-clause-leaves : goal.returns-clause-leaves
+returns-clause-leaves c = λ clean left may.
+    let roster = option_map string_bytes c.self.inside.roster in
+    let P : MemoryContent → Type 0 =
+    λ old. IsSome old.roster → LeavesContent old left ⊎ IsCommitted ⊤ (unwrap_or old.roster []) (With (Holds old) c.args.message.now) left in
+    subst P c.self.view_is (λ some. put_adds_only roster c.self.inside.messages c.args.message.now c.put.new.self
+    c.requires.message some c.put.result c.put.ensures.put c.put.ensures.unchanged left may) (c.requires.desk tt)

@@ -1,4 +1,4 @@
-use Rattle.std.proofs.Common.{subst}
+use Rattle.std.proofs.Common.{inr, subst}
 use Rattle.std.specs.Prelude.{[], IsSome, List, ℕ, option_map, string_bytes, unwrap_or}
 use Rattle.desk_store.specs.Memory.{MemoryContent, Holds}
 use Rattle.desk_store.specs.Left.{IsDeskOf, IsReplacedOrNot}
@@ -22,3 +22,15 @@ returns-clause-lasting c = λ up clean left may.
     let Q : List ℕ → Type 0 = λ t. IsDeskOf t (Holds old) left in
     subst P c.self.view_is
     (subst Q c.in_ok-recorded.ensures.ok (replaced_lasts roster (string_bytes c.in_ok-recorded.recorded) c.self.inside.messages left may))
+
+pub returns-clause-leaves : goal.returns-clause-leaves
+returns-clause-leaves c = λ clean left may.
+    let roster = option_map string_bytes c.self.inside.roster in
+    let old : MemoryContent = record { roster = roster; messages = c.self.inside.messages } in
+    let P : MemoryContent → Type 0 = λ k. IsDeskOf c.args.text.now (Holds k) left in
+    let Q : List ℕ → Type 0 = λ t. IsDeskOf t (Holds old) left in
+    inr (
+      tt,
+      subst P c.self.view_is
+          (subst Q c.in_ok-recorded.ensures.ok (replaced_lasts roster (string_bytes c.in_ok-recorded.recorded) c.self.inside.messages left may)),
+    )

@@ -3,9 +3,10 @@ use Rattle.sqlite.specs.Effect.{Database}
 use Rattle.sqlite.specs.Held.{state}
 use Rattle.sqlite.specs.State.{Survives}
 use Rattle.desk_tables.specs.Stored.{Content, content_of}
+use Rattle.desk_tables.specs.SqliteStates.{IsUp}
 use Rattle.desk_tables.specs.private.Survival.{ArrivesAt}
 use Rattle.desk_store.proofs.ArrivalLemmas.{arrival_keeps, content_wired, held_wired}
-use Rattle.desk_store.proofs.FoundLemmas.{arrival_lasts, up_left, with_message, with_or_without}
+use Rattle.desk_store.proofs.FoundLemmas.{arrival_lasts, one_more, up_left, with_message, with_or_without}
 use Rattle.desk_schema.proofs.BesideLemmas.{same_beside, spared_beside}
 use Rattle.desk_store.proofs.OutcomeLemmas.{ok_no_err}
 use Rattle.desk_store.proofs.sqlite_keeper.SqliteKeeperKeeper.add.Goals as goal
@@ -76,10 +77,10 @@ pub returns-in-Ok-clause-served : goal.returns-in-Ok-clause-served
 returns-in-Ok-clause-served g c = record {
   was_up = λ up. c.arrive-arrived.ensures.was_up up;
   was_clean = λ clean. c.arrive-arrived.ensures.was_clean clean;
-  shuts = λ up clean. inl (c.in-Ok.ensures.up up clean);
+  shuts = λ up clean. inl (c.in-Ok.ensures.up clean);
   counts = le_refl _;
   cause = λ is. ok_no_err _ _ is;
-  up = λ up clean. inr (c.in-Ok.ensures.up up clean);
+  up = λ up clean. inr (c.in-Ok.ensures.up clean);
   others = λ up. spared_beside _ _ (c.requires.desk (c.arrive-arrived.ensures.was_up up)).desk.tidy.desk (c.in-Ok.ensures.others up);
 }
 
@@ -87,11 +88,12 @@ pub returns-in-Ok-clause-crash : goal.returns-in-Ok-clause-crash
 returns-in-Ok-clause-crash g c up clean left may =
     with_or_without (state g.S.Store c.args.self.now.conn) (state g.S.Store c.arrive-arrived.new.conn) c.settles.ensures up clean left may c.args.message.now
     c.requires.message (c.requires.desk up) (subst (λ t. Survives (state g.S.Store c.args.self.now.conn) (state g.S.Store c.arrive-arrived.new.conn)
-    (ArrivesAt t (state g.S.Store c.args.self.now.conn).now)) c.requires.text (c.arrive-arrived.ensures.survives up))
+    (λ trees. IsUp (state g.S.Store c.args.self.now.conn) × ArrivesAt t (state g.S.Store c.args.self.now.conn).now trees)) c.requires.text
+    c.arrive-arrived.ensures.survives)
 
 pub returns-in-Ok-clause-lasting : goal.returns-in-Ok-clause-lasting
 returns-in-Ok-clause-lasting g c up clean left may =
-    let still = c.in-Ok.ensures.up up clean in
+    let still = c.in-Ok.ensures.up clean in
     arrival_lasts (state g.S.Store c.arrive-arrived.new.conn) c.settles-2.ensures still left may (state g.S.Store c.args.self.now.conn).now c.args.message.now
     c.requires.message (arrival_keeps (state g.S.Store c.args.self.now.conn) (state g.S.Store c.arrive-arrived.new.conn) c.arrive-arrived.result
     c.requires.desk c.arrive-arrived.ensures.was_up c.arrive-arrived.ensures.desk c.arrive-arrived.ensures.others c.arrive-arrived.ensures.unchanged still)
@@ -134,7 +136,8 @@ pub returns-in-Err-clause-crash : goal.returns-in-Err-clause-crash
 returns-in-Err-clause-crash g c up clean left may =
     with_or_without (state g.S.Store c.args.self.now.conn) (state g.S.Store c.arrive-arrived.new.conn) c.settles.ensures up clean left may c.args.message.now
     c.requires.message (c.requires.desk up) (subst (λ t. Survives (state g.S.Store c.args.self.now.conn) (state g.S.Store c.arrive-arrived.new.conn)
-    (ArrivesAt t (state g.S.Store c.args.self.now.conn).now)) c.requires.text (c.arrive-arrived.ensures.survives up))
+    (λ trees. IsUp (state g.S.Store c.args.self.now.conn) × ArrivesAt t (state g.S.Store c.args.self.now.conn).now trees)) c.requires.text
+    c.arrive-arrived.ensures.survives)
 
 pub returns-in-Err-clause-lasting : goal.returns-in-Err-clause-lasting
 returns-in-Err-clause-lasting g c up clean = tt
@@ -143,3 +146,31 @@ pub returns-in-Err-clause-durable : goal.returns-in-Err-clause-durable
 returns-in-Err-clause-durable g c up left may = (up_left (state g.S.Store c.arrive-arrived.new.conn) c.settles-2.ensures up left may).desk
     (arrival_keeps (state g.S.Store c.args.self.now.conn) (state g.S.Store c.arrive-arrived.new.conn) c.arrive-arrived.result c.requires.desk
     c.arrive-arrived.ensures.was_up c.arrive-arrived.ensures.desk c.arrive-arrived.ensures.others c.arrive-arrived.ensures.unchanged up)
+
+pub returns-then-not-is_autocommit-clause-live : goal.returns-then-not-is_autocommit-clause-live
+returns-then-not-is_autocommit-clause-live g c clean = tt
+
+pub returns-then-not-is_autocommit-clause-leaves : goal.returns-then-not-is_autocommit-clause-leaves
+returns-then-not-is_autocommit-clause-leaves g c clean left may = inl may
+
+pub returns-in-Ok-clause-live : goal.returns-in-Ok-clause-live
+returns-in-Ok-clause-live g c clean = c.in-Ok.ensures.up clean
+
+pub returns-in-Ok-clause-leaves : goal.returns-in-Ok-clause-leaves
+returns-in-Ok-clause-leaves g c clean left may =
+    one_more (state g.S.Store c.args.self.now.conn) (state g.S.Store c.arrive-arrived.new.conn) clean left may
+    c.args.message.now c.requires.message c.requires.desk
+    (subst (λ t. Survives (state g.S.Store c.args.self.now.conn) (state g.S.Store c.arrive-arrived.new.conn)
+    (λ trees. IsUp (state g.S.Store c.args.self.now.conn) × ArrivesAt t (state g.S.Store c.args.self.now.conn).now trees)) c.requires.text
+    c.arrive-arrived.ensures.survives)
+
+pub returns-in-Err-clause-live : goal.returns-in-Err-clause-live
+returns-in-Err-clause-live g c clean = tt
+
+pub returns-in-Err-clause-leaves : goal.returns-in-Err-clause-leaves
+returns-in-Err-clause-leaves g c clean left may =
+    one_more (state g.S.Store c.args.self.now.conn) (state g.S.Store c.arrive-arrived.new.conn) clean left may
+    c.args.message.now c.requires.message c.requires.desk
+    (subst (λ t. Survives (state g.S.Store c.args.self.now.conn) (state g.S.Store c.arrive-arrived.new.conn)
+    (λ trees. IsUp (state g.S.Store c.args.self.now.conn) × ArrivesAt t (state g.S.Store c.args.self.now.conn).now trees)) c.requires.text
+    c.arrive-arrived.ensures.survives)

@@ -1,9 +1,9 @@
 use Rattle.std.proofs.Common.{inl, inr, le_refl, refl}
 use Rattle.sqlite.specs.Held.{state}
-use Rattle.desk_store.proofs.FoundLemmas.{as_kept}
+use Rattle.desk_store.proofs.FoundLemmas.{as_kept, none_more}
 use Rattle.desk_schema.proofs.BesideLemmas.{same_beside}
 use Rattle.desk_store.proofs.OutcomeLemmas.{ok_no_err}
-use Rattle.desk_store.proofs.TellLemmas.{told}
+use Rattle.desk_store.proofs.TellLemmas.{live_of, told}
 use Rattle.desk_store.proofs.sqlite_keeper.SqliteKeeperKeeper.look.Goals as goal
 
 pub returns-in-Ok-clause-found : goal.returns-in-Ok-clause-found
@@ -25,7 +25,7 @@ returns-in-Ok-clause-served g c = record {
 
 pub returns-in-Ok-clause-crash : goal.returns-in-Ok-clause-crash
 returns-in-Ok-clause-crash g c up clean left may = as_kept (state g.S.Store c.args.self.now.conn)
-    (state g.S.Store c.look.new.conn) c.settles.ensures up clean left may (c.look.ensures.reads.survives up clean)
+    (state g.S.Store c.look.new.conn) c.settles.ensures up clean left may c.look.ensures.reads.survives
 
 pub returns-in-Err-clause-found : goal.returns-in-Err-clause-found
 returns-in-Err-clause-found g c up = tt
@@ -46,4 +46,18 @@ returns-in-Err-clause-served g c = record {
 
 pub returns-in-Err-clause-crash : goal.returns-in-Err-clause-crash
 returns-in-Err-clause-crash g c up clean left may = as_kept (state g.S.Store c.args.self.now.conn)
-    (state g.S.Store c.look.new.conn) c.settles.ensures up clean left may (c.look.ensures.reads.survives up clean)
+    (state g.S.Store c.look.new.conn) c.settles.ensures up clean left may c.look.ensures.reads.survives
+
+pub returns-in-Ok-clause-live : goal.returns-in-Ok-clause-live
+returns-in-Ok-clause-live g c clean = live_of c.in-Ok.found c.shown.result c.shown.ensures (c.in-Ok.ensures.live clean)
+
+pub returns-in-Ok-clause-leaves : goal.returns-in-Ok-clause-leaves
+returns-in-Ok-clause-leaves g c clean left may =
+    none_more (state g.S.Store c.args.self.now.conn) (state g.S.Store c.look.new.conn) clean left may c.look.ensures.reads.survives
+
+pub returns-in-Err-clause-live : goal.returns-in-Err-clause-live
+returns-in-Err-clause-live g c clean = tt
+
+pub returns-in-Err-clause-leaves : goal.returns-in-Err-clause-leaves
+returns-in-Err-clause-leaves g c clean left may =
+    none_more (state g.S.Store c.args.self.now.conn) (state g.S.Store c.look.new.conn) clean left may c.look.ensures.reads.survives

@@ -5,20 +5,22 @@ use Rattle.outcomes.proofs.gathering.Gathered.hear.Goals as goal
 
 pub invariant_of-self : goal.invariant_of-self
 invariant_of-self c =
-    let some = c.self.invariant in
-    still_by_name c.put_verdict.result some.0
-    (some.0 ++ Verdict c.args.verdict.now ∷ []) c.put_verdict.new.summaries c.put_verdict.new.waiting (c.put_verdict.ensures some.0 some.1)
+    let some = c.self.invariant.0 in (
+      still_by_name c.put_verdict.result some.0 (some.0 ++ Verdict c.args.verdict.now ∷ [])
+          c.put_verdict.new.summaries c.put_verdict.new.waiting (c.put_verdict.ensures.known some.0 some.1),
+      c.put_verdict.ensures.listed c.self.inside.hosts c.self.invariant.1,
+    )
 
 pub returns-clause-ok : goal.returns-clause-ok
 returns-clause-ok c = λ set are.
     let inside = c.self.inside in
-    let by = opened set inside.summaries inside.waiting c.args.self.now c.self.view_is c.self.invariant are in
+    let by = opened set inside.summaries inside.waiting c.args.self.now c.self.view_is c.self.invariant.0 are in
     after_ok c.put_verdict.result set
-    (set ++ Verdict c.args.verdict.now ∷ []) c.put_verdict.new.summaries c.put_verdict.new.waiting (c.put_verdict.ensures set by)
+    (set ++ Verdict c.args.verdict.now ∷ []) c.put_verdict.new.summaries c.put_verdict.new.waiting (c.put_verdict.ensures.known set by)
 
 pub returns-clause-err : goal.returns-clause-err
 returns-clause-err c = λ set are.
     let inside = c.self.inside in
-    let by = opened set inside.summaries inside.waiting c.args.self.now c.self.view_is c.self.invariant are in
+    let by = opened set inside.summaries inside.waiting c.args.self.now c.self.view_is c.self.invariant.0 are in
     after_err c.put_verdict.result set
-    (set ++ Verdict c.args.verdict.now ∷ []) c.put_verdict.new.summaries c.put_verdict.new.waiting (c.put_verdict.ensures set by)
+    (set ++ Verdict c.args.verdict.now ∷ []) c.put_verdict.new.summaries c.put_verdict.new.waiting (c.put_verdict.ensures.known set by)

@@ -4,8 +4,10 @@ use Rattle.outcomes.proofs.gathering.Gathered.of_names.Goals as goal
 
 pub invariant_of-result : goal.invariant_of-result
 invariant_of-result c =
-    let some = c.in_ok-summaries.ensures.alone in
-    (some.0, alone_by_name some.0 c.in_ok-summaries.summaries c.new.result some.1 some.2 c.new.ensures.ordered c.new.ensures.empty)
+    let some = c.in_ok-summaries.ensures.alone in (
+      (some.0, alone_by_name some.0 c.in_ok-summaries.summaries c.new.result some.1 some.2 c.new.ensures.ordered c.new.ensures.empty),
+      c.in_ok-summaries.ensures.listed,
+    )
 
 pub returns : goal.returns
 returns c = λ set show.

@@ -8,25 +8,27 @@ use Rattle.outcomes.proofs.gathering.Gathered.take.Goals as goal
 
 pub invariant_of-self : goal.invariant_of-self
 invariant_of-self c =
-    let some = c.self.invariant in
-    still_by_name c.put_request.result some.0
-    (some.0 ++ Request c.in-Request.request ∷ []) c.put_request.new.summaries c.put_request.new.waiting (c.put_request.ensures some.0 some.1)
+    let some = c.self.invariant.0 in (
+      still_by_name c.put_request.result some.0 (some.0 ++ Request c.in-Request.request ∷ [])
+          c.put_request.new.summaries c.put_request.new.waiting (c.put_request.ensures.known some.0 some.1),
+      c.put_request.ensures.listed c.self.invariant.1,
+    )
 
 pub returns-in-Request-clause-ok : goal.returns-in-Request-clause-ok
 returns-in-Request-clause-ok c = λ set are.
     let inside = c.self.inside in
-    let by = opened set inside.summaries inside.waiting c.args.self.now c.self.view_is c.self.invariant are in
+    let by = opened set inside.summaries inside.waiting c.args.self.now c.self.view_is c.self.invariant.0 are in
     let s = c.put_request.new.summaries in
     let w = c.put_request.new.waiting in
     subst (λ (m : Message). OnOk c.put_request.result (AreGathered (set ++ m ∷ []) (known s w))) (sym c.in-Request.is)
-    (after_ok c.put_request.result set (set ++ Request c.in-Request.request ∷ []) s w (c.put_request.ensures set by))
+    (after_ok c.put_request.result set (set ++ Request c.in-Request.request ∷ []) s w (c.put_request.ensures.known set by))
 
 pub returns-in-Request-clause-err : goal.returns-in-Request-clause-err
 returns-in-Request-clause-err c = λ set are.
     let inside = c.self.inside in
-    let by = opened set inside.summaries inside.waiting c.args.self.now c.self.view_is c.self.invariant are in
+    let by = opened set inside.summaries inside.waiting c.args.self.now c.self.view_is c.self.invariant.0 are in
     after_err c.put_request.result set
-    (set ++ Request c.in-Request.request ∷ []) c.put_request.new.summaries c.put_request.new.waiting (c.put_request.ensures set by)
+    (set ++ Request c.in-Request.request ∷ []) c.put_request.new.summaries c.put_request.new.waiting (c.put_request.ensures.known set by)
 
 pub returns-in-Verdict-clause-ok : goal.returns-in-Verdict-clause-ok
 returns-in-Verdict-clause-ok c = λ set are.

@@ -1,0 +1,10 @@
+-- what became of each verdict, and what else is said of a name
+pub mod Effects
+pub mod Judging
+-- what the words ask, and what is asked about
+pub mod Asking
+pub mod Picks
+-- when grants are in force, by host, and the whole as a JSON document
+pub mod Windows
+pub mod Document
+pub mod private

@@ -1,0 +1,368 @@
+-- How far a request has come, as more bytes come.
+use Rattle.std.proofs.Common.{◌≡◌, ◌≤◌, ◌<◌, ◌+◌, ◌-◌, ℕ, Bool, true, false, List, [], ◌∷◌, ◌++◌, Option, Some, None, Result, Ok, Err}
+use Rattle.std.proofs.Common.{refl, sym, ap, ◌∙◌, subst, inl, inr, arith, take, drop, length, map, append_assoc, length-append, length-drop, nat_lt, not}
+use Rattle.std.proofs.Common.{take-append-drop}
+use Rattle.std.proofs.Common.{codes, cond}
+use Rattle.std.proofs.lemmas.List.{append-nil, take-append-le, drop-append-le, take_all}
+use Rattle.std.proofs.lemmas.Bool.Decides.{nat_tests}
+use Rattle.std.specs.Prelude.{◌≢◌}
+use Rattle.std.specs.Str.Parse.{digits_value}
+use Rattle.httparse.specs.Grammar.{RequestHead, ReadsRequest, MayBecomeRequest, HasNoRequest, print_request}
+use Rattle.httparse.specs.Spans.{IsWithin, name_and_value, span_bytes}
+use Rattle.httparse.specs.declared.spans.Span.{Span}
+use Rattle.httparse.proofs.GrammarLemmas.{ReadsRequest-append}
+use Rattle.matchit.specs.Router.{RouteOf}
+use Rattle.matchit.specs.Seek.{first}
+use Rattle.relay_http.specs.Asked.{Asked, Request, deliver, all_messages, count, grants, parked, host_file, host_file_after, report, refused}
+use Rattle.relay_http.specs.Content.{content, content_of, by_lengths, is_length, most_content, sized}
+use Rattle.relay_http.specs.Fields.{Fields, values, is_bad_host}
+use Rattle.relay_http.specs.Needs.{HasNoHead, IsSettled, LacksContent}
+use Rattle.relay_http.specs.Routes.{routes, part}
+use Rattle.relay_http.specs.Scan.{scanned}
+use Rattle.relay_http.specs.Settled.{is_short, is_short_body, lacks_content}
+use Rattle.relay_http.specs.Stages.{IsFound, IsHeadAt, NeverHasHead, cut, size, size_by, size_of}
+use Rattle.relay_http.specs.Target.{is_plain}
+use Rattle.relay_http.specs.Wanted.{Asks, AsksByHead, Dates, DatesRequest, HasHead, allow, asked_by, asks_by, at_place, delivered}
+use Rattle.relay_http.specs.Wanted.{front, is_head, methods_of, on_route, sought}
+use Rattle.relay_http.specs.declared.fault.RequestFault.{RequestFault}
+use Rattle.relay_http.specs.declared.fault.RequestFault.TheVariants.{BadHead, BadTarget, NoRoute, BadMethod, LengthRequired, BadLength}
+use Rattle.relay_http.specs.declared.fault.RequestFault.TheVariants.{TooLong, ShortBody, BadMoment}
+use Rattle.relay_http.specs.declared.head.Head.{Head}
+use Rattle.relay_http.specs.declared.line.Line.{Line}
+use Rattle.relay_http.specs.declared.line.Line.TheVariants.{Blank, Ended}
+use Rattle.relay_http.specs.declared.place.Place.{Place}
+use Rattle.relay_http.specs.declared.place.Place.TheVariants.{Messages, AllMessages, Count, Grants, Parked, HostFile, HostFileAfter, Report}
+use Rattle.relay_http.proofs.ScanLemmas.{ended_behind, ended_is_head, scanned-append}
+use Rattle.relay_http.proofs.SettleLemmas.{has_more, head_fits, headless_more, whole_more}
+use Rattle.relay_http.proofs.WantedLemmas.{one_request, take_rest}
+
+-- ---- content by its length
+
+sized_by : (vs : List (List ℕ)) (rest : List ℕ) → by_lengths vs rest ≡ cut (size_by vs) rest
+sized_by [] rest = refl
+sized_by (v ∷ []) rest = by (is_length v)
+  where
+    by : (b : Bool) → cond b (sized (digits_value 10 v) rest) (Err BadLength) ≡ cut (cond b (Ok (digits_value 10 v)) (Err BadLength)) rest
+    by true = refl
+    by false = refl
+sized_by (v ∷ w ∷ vs) rest = refl
+
+content_cut : (cs vs : List (List ℕ)) (rest : List ℕ) → content cs vs rest ≡ cut (size cs vs) rest
+content_cut [] vs rest = sized_by vs rest
+content_cut (c ∷ cs) vs rest = refl
+
+pub content_is : (fields : Fields) (rest : List ℕ) → content_of fields rest ≡ cut (size_of fields) rest
+content_is fields rest = content_cut (values (codes "transfer-encoding") fields) (values (codes "content-length") fields) rest
+
+-- ---- bytes that follow a head
+
+span_more : (bytes more : List ℕ) (s : Span) (n : ℕ) → IsWithin n s → n ≤ length bytes → span_bytes (bytes ++ more) s ≡ span_bytes bytes s
+span_more bytes more s n within fits =
+    let starts : s.start ≤ length bytes = omega (arith, within.0, within.1, fits) in
+    let ends : s.end - s.start ≤ length (drop s.start bytes) = omega (arith, within.0, within.1, fits, length-drop s.start bytes) in
+    ap (λ (l : List ℕ). take (s.end - s.start) l) (drop-append-le s.start bytes more starts) ∙ take-append-le (s.end - s.start) (drop s.start bytes) more ends
+
+-- a span of a beginning covers the same in all
+pub span_front : (bytes found : List ℕ) (s : Span) (n : ℕ) → found ≡ front bytes → IsWithin n s → n ≤ length found → span_bytes bytes s ≡ span_bytes found s
+unfolding front
+span_front bytes found s n is within fits =
+    let all : bytes ≡ found ++ drop 8192 bytes = sym (take-append-drop 8192 bytes) ∙ ap (λ (l : List ℕ). l ++ drop 8192 bytes) (sym is) in
+    ap (λ (l : List ℕ). span_bytes l s) all ∙ span_more found (drop 8192 bytes) s n within fits
+
+pub head_at_more : (bytes more : List ℕ) (head : Head) (h : RequestHead) → IsHeadAt bytes head h → IsHeadAt (bytes ++ more) head h
+head_at_more bytes more head h at = record {
+  has = has_more bytes more h at.has;
+  len = at.len;
+  len_fits = omega (arith, at.len_fits, length-append bytes more);
+  method_fits = at.method_fits;
+  target_fits = at.target_fits;
+  method = span_more bytes more head.method head.len at.method_fits at.len_fits ∙ at.method;
+  target = span_more bytes more head.target head.len at.target_fits at.len_fits ∙ at.target;
+  host = at.host;
+  size = at.size;
+}
+
+pub found_more : (bytes more : List ℕ) (head : Head) → IsFound bytes head → IsFound (bytes ++ more) head
+found_more bytes more head x = (x.0, head_at_more bytes more head x.0 x.1)
+
+pub never_more : (bytes more : List ℕ) → NeverHasHead bytes → NeverHasHead (bytes ++ more)
+never_more bytes more never = λ later. subst HasNoHead (sym (append_assoc bytes more later)) (never (more ++ later))
+
+-- ---- what is settled
+
+pub settled_by : (bytes : List ℕ) (request : Request ℕ) → AsksByHead bytes request → is_short request ≡ false → IsSettled bytes
+settled_by bytes request x whole = (request, λ more. whole_more bytes more request x whole)
+
+pub never_settles : (bytes : List ℕ) → NeverHasHead bytes → IsSettled bytes
+never_settles bytes never = (record { with_body = true; asked = refused BadHead }, λ more. inr (never more, refl))
+
+pub settled_more : (bytes more : List ℕ) → IsSettled bytes → IsSettled (bytes ++ more)
+settled_more bytes more x =
+    (x.0, λ later. subst (λ (l : List ℕ). Asks l x.0) (sym (append_assoc bytes more later)) (x.1 (more ++ later)))
+
+-- what is settled is what the bytes ask
+pub settled_asks : (bytes more : List ℕ) (request : Request ℕ) → IsSettled bytes → Asks bytes request → Asks (bytes ++ more) request
+settled_asks bytes more request x asks =
+    let now : Asks bytes x.0 = subst (λ (l : List ℕ). Asks l x.0) (append-nil bytes) (x.1 []) in
+    subst (λ (r : Request ℕ). Asks (bytes ++ more) r) (one_request bytes x.0 request now asks) (x.1 more)
+
+-- ---- who is asked for content
+
+-- A request that is cut short: what it asks, whatever the content is, is a delivery of so many bytes.
+abbrev pub Posts : (List ℕ → Asked (List ℕ)) → Fields → (rest : List ℕ) → Type 0
+Posts asked fields rest =
+    (relay : List ℕ) × (n : ℕ) × (length rest < n) × (size_of fields ≡ Ok n) × (n ≤ 16384)
+    × ((other : List ℕ) → asked other ≡ delivered relay (sized n other))
+
+size_by_not_short : (vs : List (List ℕ)) → size_by vs ≡ Err ShortBody → ⊥
+size_by_not_short [] e = cc
+size_by_not_short (v ∷ []) e = by (is_length v) e
+  where
+    by : (b : Bool) → cond b (Ok (digits_value 10 v)) (Err BadLength) ≡ Err ShortBody → ⊥
+    by true e = cc
+    by false e = cc
+size_by_not_short (v ∷ w ∷ vs) e = cc
+
+size_not_short : (cs vs : List (List ℕ)) → size cs vs ≡ Err ShortBody → ⊥
+size_not_short [] vs e = size_by_not_short vs e
+size_not_short (c ∷ cs) vs e = cc
+
+cut_short : (s : Result ℕ RequestFault) (relay rest : List ℕ) → (s ≡ Err ShortBody → ⊥)
+    → ◌≡◌ {A = Asked (List ℕ)} (delivered relay (cut s rest)) (refused ShortBody)
+    → (n : ℕ) × (s ≡ Ok n) × (length rest < n) × (n ≤ 16384)
+cut_short (Err fault) relay rest other e = absurd (other (let same : fault ≡ ShortBody = cc in ap Err same))
+cut_short (Ok n) relay rest other e = by (nat_lt most_content n) refl (nat_lt (length rest) n) refl e
+  where
+    by : (a : Bool) → nat_lt most_content n ≡ a → (b : Bool) → nat_lt (length rest) n ≡ b
+        → ◌≡◌ {A = Asked (List ℕ)} (delivered relay (cond a (Err TooLong) (cond b (Err ShortBody) (Ok (take n rest))))) (refused ShortBody)
+        → (m : ℕ) × (◌≡◌ {A = Result ℕ RequestFault} (Ok n) (Ok m)) × (length rest < m) × (m ≤ 16384)
+    by true f b g e = absurd cc
+    by false f false g e = absurd cc
+    by false f true g e = (n, refl, grind (arith, nat_tests), grind (arith, nat_tests))
+
+sought_short : (place : Place) (named : List ℕ → List ℕ) (fields : Fields) (rest : List ℕ) → sought place named fields rest ≡ refused ShortBody
+    → Posts (λ other. sought place named fields other) fields rest
+sought_short Messages named fields rest e =
+    let relay = named (codes "relay") in
+    let here : ◌≡◌ {A = Asked (List ℕ)} (delivered relay (cut (size_of fields) rest)) (refused ShortBody) =
+    ap (λ (r : Result (List ℕ) RequestFault). delivered relay r) (sym (content_is fields rest)) ∙ e in
+    let c = cut_short (size_of fields) relay rest
+    (size_not_short (values (codes "transfer-encoding") fields) (values (codes "content-length") fields)) here in (
+      relay,
+      c.0,
+      c.2,
+      c.1,
+      c.3,
+      λ other. ap (λ (r : Result (List ℕ) RequestFault). delivered relay r)
+          (content_is fields other ∙ ap (λ (s : Result ℕ RequestFault). cut s other) c.1),
+    )
+sought_short AllMessages named fields rest e = absurd cc
+sought_short Count named fields rest e = absurd cc
+sought_short Grants named fields rest e = absurd cc
+sought_short Parked named fields rest e = absurd cc
+sought_short HostFile named fields rest e = absurd cc
+sought_short HostFileAfter named fields rest e = absurd cc
+sought_short Report named fields rest e = absurd cc
+
+place_short : (place : Place) (method : List ℕ) (named : List ℕ → List ℕ) (fields : Fields) (rest : List ℕ)
+    → at_place place method named fields rest ≡ refused ShortBody → Posts (λ other. at_place place method named fields other) fields rest
+place_short place method named fields rest e = by (allow (methods_of place) method) e
+  where
+    by : (b : Bool) → cond b (sought place named fields rest) (refused (BadMethod (methods_of place))) ≡ refused ShortBody
+        → Posts (λ other. cond b (sought place named fields other) (refused (BadMethod (methods_of place)))) fields rest
+    by true f = sought_short place named fields rest f
+    by false f = absurd cc
+
+route_short : (route : Option (RouteOf Place)) (method target : List ℕ) (fields : Fields) (rest : List ℕ)
+    → on_route route method target fields rest ≡ refused ShortBody → Posts (λ other. on_route route method target fields other) fields rest
+route_short None method target fields rest e = absurd cc
+route_short (Some route) method target fields rest e = place_short route.value method (λ name. part name route target) fields rest e
+
+asked_short : (method target : List ℕ) (minor : ℕ) (fields : Fields) (rest : List ℕ) → asked_by method target minor fields rest ≡ refused ShortBody
+    → Posts (λ other. asked_by method target minor fields other) fields rest
+asked_short method target minor fields rest e = by (is_bad_host minor (values (codes "host") fields)) (not (is_plain target)) e
+  where
+    by : (a b : Bool) → cond a (refused BadHead) (cond b (refused BadTarget) (on_route (first routes target) method target fields rest)) ≡ refused ShortBody
+        → Posts (λ other. cond a (refused BadHead) (cond b (refused BadTarget) (on_route (first routes target) method target fields other))) fields rest
+    by true b f = absurd cc
+    by false true f = absurd cc
+    by false false f = route_short (first routes target) method target fields rest f
+
+-- ---- how many bytes of the content are missing
+
+short_is : (fault : RequestFault) → is_short_body fault ≡ true → fault ≡ ShortBody
+short_is ShortBody e = refl
+short_is BadHead e = absurd cc
+short_is BadTarget e = absurd cc
+short_is NoRoute e = absurd cc
+short_is (BadMethod methods) e = absurd cc
+short_is LengthRequired e = absurd cc
+short_is BadLength e = absurd cc
+short_is TooLong e = absurd cc
+short_is BadMoment e = absurd cc
+
+lacks_is : (asked : Asked ℕ) → lacks_content asked ≡ true → asked ≡ refused ShortBody
+lacks_is (deliver relay body) e = absurd cc
+lacks_is all_messages e = absurd cc
+lacks_is count e = absurd cc
+lacks_is (grants at) e = absurd cc
+lacks_is parked e = absurd cc
+lacks_is (host_file host) e = absurd cc
+lacks_is (host_file_after host at) e = absurd cc
+lacks_is (report at) e = absurd cc
+lacks_is (refused fault) e = ap (λ (f : RequestFault). refused f) (short_is fault e)
+
+dated_short : (asked : Asked (List ℕ)) → Dates asked (refused ShortBody) → asked ≡ refused ShortBody
+dated_short (deliver relay body) e = absurd cc
+dated_short all_messages e = absurd cc
+dated_short count e = absurd cc
+dated_short (grants at) (inl x) = absurd (let wrong : ◌≡◌ {A = Asked ℕ} (refused ShortBody) (grants x.0) = x.2 in cc)
+dated_short (grants at) (inr x) = absurd (let wrong = x.1 in cc)
+dated_short parked e = absurd cc
+dated_short (host_file host) e = absurd cc
+dated_short (host_file_after host at) (inl x) = absurd (let wrong : ◌≡◌ {A = Asked ℕ} (refused ShortBody) (host_file_after host x.0) = x.2 in cc)
+dated_short (host_file_after host at) (inr x) = absurd (let wrong = x.1 in cc)
+dated_short (report at) (inl x) = absurd (let wrong : ◌≡◌ {A = Asked ℕ} (refused ShortBody) (report x.0) = x.2 in cc)
+dated_short (report at) (inr x) = absurd (let wrong = x.1 in cc)
+dated_short (refused fault) e = let same : fault ≡ ShortBody = cc in ap (λ (f : RequestFault). refused f) same
+
+sized_short : (n : ℕ) (rest : List ℕ) → n ≤ 16384 → length rest < n → sized n rest ≡ Err ShortBody
+sized_short n rest small short = by (nat_lt most_content n) refl (nat_lt (length rest) n) refl
+  where
+    by : (a : Bool) → nat_lt most_content n ≡ a → (b : Bool) → nat_lt (length rest) n ≡ b
+        → cond a (Err TooLong) (cond b (Err ShortBody) (Ok (take n rest))) ≡ Err ShortBody
+    by true f b g = absurd (grind (arith, nat_tests))
+    by false f true g = refl
+    by false f false g = absurd (grind (arith, nat_tests))
+
+sized_whole : (n : ℕ) (rest : List ℕ) → n ≤ 16384 → n ≤ length rest → sized n rest ≡ Ok (take n rest)
+sized_whole n rest small whole = by (nat_lt most_content n) refl (nat_lt (length rest) n) refl
+  where
+    by : (a : Bool) → nat_lt most_content n ≡ a → (b : Bool) → nat_lt (length rest) n ≡ b
+        → cond a (Err TooLong) (cond b (Err ShortBody) (Ok (take n rest))) ≡ Ok (take n rest)
+    by true f b g = absurd (grind (arith, nat_tests))
+    by false f true g = absurd (grind (arith, nat_tests))
+    by false f false g = refl
+
+-- what the bytes with this head ask, where it does not hang on a moment
+asks_so : (bytes : List ℕ) (h : RequestHead) (asked : Asked ℕ) → HasHead bytes h → Dates (asks_by h bytes).asked asked
+    → AsksByHead bytes (record { with_body = not (is_head h.method); asked = asked })
+asks_so bytes h asked has dates = (h, has, (refl, dates))
+
+-- one that is cut short has a length
+pub short_size : (bytes : List ℕ) (h : RequestHead) (request : Request ℕ) → DatesRequest (asks_by h bytes) request → is_short request ≡ true
+    → (n : ℕ) × (size_of (map name_and_value h.fields) ≡ Ok n)
+short_size bytes h request dates short =
+    let here : (asks_by h bytes).asked ≡ refused ShortBody =
+    dated_short (asks_by h bytes).asked (subst (λ (a : Asked ℕ). Dates (asks_by h bytes).asked a) (lacks_is request.asked short) dates.1) in
+    let posts = asked_short h.method h.target h.minor (map name_and_value h.fields) (drop (length (print_request h)) bytes) here in
+    (posts.1, posts.3)
+
+pub lacks_by : (bytes : List ℕ) (h : RequestHead) (request : Request ℕ) (n : ℕ) → HasHead bytes h → DatesRequest (asks_by h bytes) request
+    → is_short request ≡ true → size_of (map name_and_value h.fields) ≡ Ok n → LacksContent bytes (n - (length bytes - length (print_request h)))
+lacks_by bytes h request n has dates short sized_n =
+    let len = length (print_request h) in
+    let fields = map name_and_value h.fields in
+    let fits = head_fits bytes h has.0.0 has.0.1 in
+    let here : (asks_by h bytes).asked ≡ refused ShortBody =
+    dated_short (asks_by h bytes).asked (subst (λ (a : Asked ℕ). Dates (asks_by h bytes).asked a) (lacks_is request.asked short) dates.1) in
+    let posts : Posts (λ other. asked_by h.method h.target h.minor fields other) fields (drop len bytes) =
+    asked_short h.method h.target h.minor fields (drop len bytes) here in
+    let same : posts.1 ≡ n = let both : ◌≡◌ {A = Result ℕ RequestFault} (Ok posts.1) (Ok n) = sym posts.3 ∙ sized_n in cc in
+    let is_len : length (drop len bytes) ≡ length bytes - len = length-drop len bytes in
+    let below : length bytes - len < n = omega (arith, posts.2, same, is_len) in
+    let small : n ≤ 16384 = omega (arith, posts.4, same) in
+    let later : (more : List ℕ) → length (drop len (bytes ++ more)) ≡ (length bytes - len) + length more = λ more.
+    omega (arith, length-drop len (bytes ++ more), length-append bytes more, fits.0) in
+    let asks : (more : List ℕ) → (asks_by h (bytes ++ more)).asked ≡ delivered posts.0 (sized n (drop len (bytes ++ more))) = λ more.
+    posts.5 (drop len (bytes ++ more)) ∙ ap (λ (m : ℕ). delivered posts.0 (sized m (drop len (bytes ++ more)))) same in
+    record {
+      some = omega (arith, below);
+      fits = omega (arith, fits.0, fits.1, below, small);
+      short = λ more lt request2 asks2.
+          let cut_off : (asks_by h (bytes ++ more)).asked ≡ refused ShortBody = asks more ∙ ap (λ (r : Result (List ℕ) RequestFault). delivered posts.0 r)
+          (sized_short n (drop len (bytes ++ more)) small (omega (arith, later more, lt))) in
+          let x : AsksByHead (bytes ++ more) (record { with_body = not (is_head h.method); asked = refused ShortBody }) =
+          asks_so (bytes ++ more) h (refused ShortBody) (has_more bytes more h has)
+          (subst (λ (a : Asked (List ℕ)). Dates a (refused ShortBody)) (sym cut_off) refl) in
+          ap (λ (r : Request ℕ). r.asked) (one_request (bytes ++ more) request2 _ asks2 (inl x));
+      enough = λ more le.
+          let body = take n (drop len (bytes ++ more)) in
+          let whole : (asks_by h (bytes ++ more)).asked ≡ deliver posts.0 body = asks more ∙ ap (λ (r : Result (List ℕ) RequestFault). delivered posts.0 r)
+          (sized_whole n (drop len (bytes ++ more)) small (omega (arith, later more, le))) in
+          let x : AsksByHead (bytes ++ more) (record { with_body = not (is_head h.method); asked = deliver posts.0 body }) =
+          asks_so (bytes ++ more) h (deliver posts.0 body) (has_more bytes more h has)
+          (subst (λ (a : Asked (List ℕ)). Dates a (deliver posts.0 body)) (sym whole) refl) in
+          settled_by (bytes ++ more) _ x refl;
+    }
+
+pub lacks_more : (bytes more : List ℕ) (n : ℕ) → LacksContent bytes n → length more < n → LacksContent (bytes ++ more) (n - length more)
+lacks_more bytes more n x lt = record {
+  some = omega (arith, lt);
+  fits = omega (arith, x.fits, length-append bytes more, lt);
+  short = λ later short request asks.
+      x.short (more ++ later) (omega (arith, length-append more later, short, lt)) request
+      (subst (λ (l : List ℕ). Asks l request) (append_assoc bytes more later) asks);
+  enough = λ later enough. subst IsSettled (sym (append_assoc bytes more later))
+      (x.enough (more ++ later) (omega (arith, length-append more later, enough, lt)));
+}
+
+-- ---- before the head is there
+
+all_behind : (bytes : List ℕ) (h : RequestHead) (rest : List ℕ) → ReadsRequest (front bytes) h rest → (all : List ℕ) × ReadsRequest bytes h all
+unfolding front
+all_behind bytes h rest reads = (
+  rest ++ drop 8192 bytes,
+  subst (λ (l : List ℕ). ReadsRequest l h (rest ++ drop 8192 bytes)) (take-append-drop 8192 bytes)
+      (ReadsRequest-append (take 8192 bytes) h rest (drop 8192 bytes) reads),
+)
+
+pub no_head_yet : (bytes : List ℕ) (line : Line) → line ≡ scanned Blank bytes → line ≢ Ended → HasNoHead bytes
+no_head_yet bytes line is unended h has =
+    let x = all_behind bytes h has.0.0 has.0.1 in
+    unended (is ∙ ended_behind bytes h x.0 x.1)
+
+pub still_open : (bytes : List ℕ) (line : Line) → length bytes < 8192 → HasNoRequest (front bytes) → MayBecomeRequest (front bytes) → line ≡ scanned Blank bytes
+    → line ≢ Ended
+unfolding front
+still_open bytes line small none may is e =
+    let all : take 8192 bytes ≡ bytes = take_all 8192 bytes (omega (arith, small)) in
+    let x = ended_is_head bytes (subst MayBecomeRequest all may) (sym is ∙ e) in
+    none x.0 [] (subst (λ (l : List ℕ). ReadsRequest l x.0 []) (sym all) x.1)
+
+-- the scan of what came next is that of all
+pub scan_on : (line next : Line) (bytes : List ℕ) (from : ℕ) → line ≡ scanned Blank (take from bytes)
+    → next ≡ scanned line (take (length bytes - from) (drop from bytes)) → next ≡ scanned Blank bytes
+scan_on line next bytes from before here =
+    here ∙ ap (λ (l : List ℕ). scanned line l) (take_rest bytes from) ∙ ap (λ (l : Line). scanned l (drop from bytes)) before
+    ∙ sym (scanned-append Blank (take from bytes) (drop from bytes)) ∙ ap (λ (l : List ℕ). scanned Blank l) (take-append-drop from bytes)
+
+-- ---- the stages after more bytes
+
+pub stage_found : (bytes : List ℕ) (head : Head) (from : ℕ) → IsFound (take from bytes) head × IsSettled (take from bytes)
+    → IsFound bytes head × IsSettled bytes
+stage_found bytes head from x =
+    subst (λ (l : List ℕ). IsFound l head × IsSettled l) (take-append-drop from bytes)
+    (found_more (take from bytes) (drop from bytes) head x.0, settled_more (take from bytes) (drop from bytes) x.1)
+
+pub stage_broken : (bytes : List ℕ) (from : ℕ) → NeverHasHead (take from bytes) → NeverHasHead bytes
+stage_broken bytes from x = subst NeverHasHead (take-append-drop from bytes) (never_more (take from bytes) (drop from bytes) x)
+
+pub stage_whole : (bytes : List ℕ) (head : Head) (from n : ℕ) → n ≤ length bytes - from
+    → IsFound (take from bytes) head × LacksContent (take from bytes) n → IsFound bytes head × IsSettled bytes
+stage_whole bytes head from n le x =
+    subst (λ (l : List ℕ). IsFound l head × IsSettled l) (take-append-drop from bytes)
+    (found_more (take from bytes) (drop from bytes) head x.0, x.1.enough (drop from bytes) (omega (arith, le, length-drop from bytes)))
+
+pub stage_lacks : (bytes : List ℕ) (head : Head) (from n : ℕ) → length bytes - from < n
+    → IsFound (take from bytes) head × LacksContent (take from bytes) n → IsFound bytes head × LacksContent bytes (n - (length bytes - from))
+stage_lacks bytes head from n lt x =
+    subst (λ (l : List ℕ). IsFound l head × LacksContent l (n - (length bytes - from))) (take-append-drop from bytes) (
+      found_more (take from bytes) (drop from bytes) head x.0,
+      subst (λ (m : ℕ). LacksContent (take from bytes ++ drop from bytes) (n - m)) (length-drop from bytes)
+          (lacks_more (take from bytes) (drop from bytes) n x.1 (omega (arith, lt, length-drop from bytes))),
+    )
+
+-- no head is there, and no more bytes count for one
+pub no_head_any_more : (bytes : List ℕ) → 8192 ≤ length bytes → HasNoRequest (front bytes) → NeverHasHead bytes
+no_head_any_more bytes full none more h has = headless_more bytes more full (λ k has2. none k has2.0.0 has2.0.1) h has

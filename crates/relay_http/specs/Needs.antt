@@ -1,0 +1,60 @@
+-- What the bytes that have come of a request still need, until it is known what it asks for.
+use Rattle.std.specs.Prelude.{◌≡◌, ◌≤◌, ◌<◌, ◌+◌, ◌++◌, ℕ, List, Option, Result, Ok, Err, length}
+use Rattle.std.specs.Io.KnownBytes.{Consumes}
+use Rattle.httparse.specs.Grammar.{RequestHead}
+use Rattle.relay_http.specs.Asked.{Request, refused}
+use Rattle.relay_http.specs.Wanted.{Asks, HasHead, most_head_bytes}
+use Rattle.relay_http.specs.Counting.{one_failure}
+use Rattle.relay_http.specs.declared.exchange.Need.{Need}
+use Rattle.relay_http.specs.declared.exchange.Need.TheVariants as need
+use Rattle.relay_http.specs.declared.exchange.ReadFault.{ReadFault}
+use Rattle.relay_http.specs.declared.exchange.ReadFault.TheVariants as fault
+use Rattle.relay_http.specs.declared.fault.RequestFault.TheVariants.{ShortBody}
+
+-- The bytes ask for one thing, whatever bytes follow.
+abbrev pub IsSettled : List ℕ → Type 0
+IsSettled bytes = (request : Request ℕ) × ((more : List ℕ) → Asks (bytes ++ more) request)
+
+-- no head is there
+abbrev pub HasNoHead : List ℕ → Type 0
+HasNoHead bytes = (h : RequestHead) → ¬ (HasHead bytes h)
+
+-- The longest head and the longest content.
+abbrev pub most_read : ℕ
+most_read = 24_576
+
+-- Exactly n bytes of the content are missing, one or more: with fewer bytes than these the request
+-- is refused as one that is cut short, and with as many no bytes that follow change what it asks.
+pub record LacksContent (bytes : List ℕ) (n : ℕ) : Type 0 where
+  pub some : 0 < n
+  pub fits : length bytes + n ≤ most_read
+  pub short : (more : List ℕ) → length more < n → (request : Request ℕ)
+      → Asks (bytes ++ more) request → request.asked ≡ refused ShortBody
+  pub enough : (more : List ℕ) → n ≤ length more → IsSettled (bytes ++ more)
+
+-- What the bytes need: the rest of a head, where none is there and one may still be; so many bytes
+-- of the content; or nothing.
+abbrev pub IsNeed : List ℕ → Need → Type 0
+IsNeed bytes need.Head = HasNoHead bytes × (length bytes < most_head_bytes)
+IsNeed bytes (need.Content n) = LacksContent bytes n
+IsNeed bytes need.Nothing = IsSettled bytes
+
+-- room for these, and for one more read
+abbrev pub most_room : ℕ
+most_room = 28_672
+
+-- a read brought n bytes, and they were taken
+abbrev pub HasRead : (left_before left_now : Option (List ℕ)) → (before now : List ℕ) → ℕ → Type 0
+HasRead left_before left_now before now n = (bytes : List ℕ)
+    × Consumes left_before left_now bytes × (now ≡ before ++ bytes) × (length bytes ≡ n)
+
+-- the count of failures after a read: want of memory for what came is none of the reader's
+abbrev pub after_reading : Result ℕ ReadFault → ℕ → ℕ
+after_reading (Ok n) count = count
+after_reading (Err (fault.Failed kind)) count = one_failure count
+after_reading (Err fault.NoMemory) count = count
+
+-- what an exchange has taken of a request, and how many bytes it has room for in all
+pub record Taken : Type 0 where
+  pub bytes : List ℕ
+  pub room : ℕ

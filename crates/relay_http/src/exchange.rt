@@ -1,0 +1,258 @@
+//! A request that comes in pieces.
+
+ghost use Rattle.std.specs.Prelude.{◌≡◌, ◌≤◌, ◌<◌, ◌+◌, ◌++◌, [], IfOk, OnErr};
+ghost use Rattle.std.specs.Prelude.{◌==◌, Err, false, length, take, true};
+ghost use Rattle.std.specs.Io.KnownBytes.{IsAtEnd};
+ghost use Rattle.relay_http.specs.Asked.{request_of};
+ghost use Rattle.relay_http.specs.Needs.{HasRead, IsNeed, IsSettled, after_reading};
+ghost use Rattle.relay_http.specs.Needs.{most_read, most_room};
+ghost use Rattle.relay_http.specs.declared.exchange.ReadFault.TheVariants as fault;
+ghost use Rattle.relay_http.specs.Scan.{scanned};
+ghost use Rattle.relay_http.specs.Stages.{IsFound, IsStage};
+ghost use Rattle.relay_http.specs.Wanted.{Asks};
+ghost use Rattle.relay_http.specs.declared.line.Line.TheVariants.{Blank};
+
+use crate::asked::Wanted;
+use crate::counted::Counted;
+use crate::head::{Head, Looked, MOST_HEAD_BYTES, look};
+use crate::line::{Line, scan};
+use crate::outgoing::Page;
+use crate::request::{NO_HEAD, is_cut_short, wanted_by};
+use crate::routes::Routes;
+use std::alloc::Global;
+use std::io::{ErrorKind, Read};
+use std::marker::Model;
+use sudo_words::NoMemory;
+
+/// Room for the longest head and the longest content, which are 24,576 bytes, and one more read.
+const MOST_ROOM: usize = 28_672;
+
+/// What has to come before it is known what a request asks for.
+#[derive(Clone, Copy, Debug, PartialEq, Eq)]
+pub enum Need {
+    /// Nothing: no bytes that follow change it.
+    Nothing,
+    /// The rest of the head.
+    Head,
+    /// So many more bytes of the content.
+    Content(usize),
+}
+
+/// Why no more bytes of a request came.
+#[derive(Clone, Copy, Debug, PartialEq, Eq)]
+pub enum ReadFault {
+    /// The read failed.
+    Failed(ErrorKind),
+    /// Bytes came, and there was no memory for them.
+    NoMemory,
+}
+
+/// How far a request has come.
+#[derive(Clone, Copy)]
+pub(crate) enum Stage {
+    /// No head is there yet; the scan for its end has come so far.
+    Begins(Line),
+    /// The head is there, and so many bytes of the content are missing.
+    Lacks(Head, usize),
+    /// The head is there, and the content where it is asked for.
+    Found(Head),
+    /// No head can come any more.
+    Broken,
+}
+
+/// What has come of a request. Its head is parsed once it is there, and then not again; each byte
+/// before its end is looked at by one scan, however the bytes come.
+#[derive(Drop)]
+pub struct Exchange {
+    come: Vec<u8>,
+    stage: Stage,
+}
+
+impl Model for Exchange {
+    ghost use Rattle.std.specs.Prelude.{vec_capacity};
+    ghost use Rattle.relay_http.specs.Needs.{Taken};
+    ghost use Rattle.relay_http.specs.Stages.{IsStage};
+
+    ghost Value = { Taken };
+
+    ghost view = { λ e. record { bytes = e.come.items; room = vec_capacity e.come } };
+
+    ghost invariant = { λ e. IsStage e.come.items e.stage };
+}
+
+/// How far a request has come whose head was found.
+fn found(routes: &Routes, head: Head, bytes: &[u8]) -> Stage
+    requires { IsFound bytes.now head }
+    ensures { IsStage bytes.now result }
+{
+    if !is_cut_short(routes, &head, bytes) {
+        return Stage::Found(head);
+    }
+    match head.size {
+        Ok(n) => Stage::Lacks(head, (n as usize).saturating_sub(bytes.len() - head.len)),
+        Err(_) => Stage::Found(head),
+    }
+}
+
+/// How far these bytes have come, where the scan has come so far.
+fn looked(routes: &Routes, line: Line, bytes: &[u8]) -> Stage
+    requires { line ≡ scanned Blank bytes.now }
+    ensures { IsStage bytes.now result }
+{
+    match look(bytes) {
+        Looked::Found(head) => found(routes, head, bytes),
+        Looked::Partial => {
+            if bytes.len() >= MOST_HEAD_BYTES {
+                return Stage::Broken;
+            }
+            Stage::Begins(line)
+        }
+        Looked::Never => Stage::Broken,
+    }
+}
+
+/// How far the bytes have come after more of them came, from this place on. They are looked at
+/// again once the request line is there, once the head is, and once no more bytes can be a head.
+fn scanned_on(routes: &Routes, line: Line, bytes: &[u8], from: usize) -> Stage
+    requires from { from ≤ length bytes.now }
+    requires line { line ≡ scanned Blank (take from bytes.now) }
+    ensures { IsStage bytes.now result }
+{
+    let next = scan(line, &bytes[from..]);
+    if from > 0 && bytes.len() < MOST_HEAD_BYTES && !line.is_due(next) {
+        return Stage::Begins(next);
+    }
+    looked(routes, next, bytes)
+}
+
+/// How far a request has come after more bytes came, from this place on.
+fn after(routes: &Routes, stage: Stage, bytes: &[u8], from: usize) -> Stage
+    requires from { from ≤ length bytes.now }
+    requires stage { IsStage (take from bytes.now) stage }
+    ensures { IsStage bytes.now result }
+{
+    match stage {
+        Stage::Begins(line) => scanned_on(routes, line, bytes, from),
+        Stage::Lacks(head, n) => {
+            if bytes.len() - from >= n {
+                return Stage::Found(head);
+            }
+            Stage::Lacks(head, n - (bytes.len() - from))
+        }
+        Stage::Found(head) => Stage::Found(head),
+        Stage::Broken => Stage::Broken,
+    }
+}
+
+impl Exchange {
+    /// Nothing has come yet, and no memory is taken.
+    pub fn new(alloc: Global) -> Exchange
+        ensures { result.bytes ≡ [] }
+    {
+        Exchange {
+            come: Vec::new(alloc),
+            stage: Stage::Begins(Line::Blank),
+        }
+    }
+
+    /// Nothing has come yet, and there is room for all that counts and one more read.
+    pub fn with_room(alloc: Global) -> Result<Exchange, NoMemory>
+        ensures empty { IfOk result (λ e. e.bytes ≡ []) }
+        ensures room { IfOk result (λ e. most_room ≤ e.room) }
+    {
+        Ok(Exchange {
+            come: Vec::with_capacity(alloc, MOST_ROOM)?,
+            stage: Stage::Begins(Line::Blank),
+        })
+    }
+
+    /// Takes the bytes that came next, and answers what all that have come still need. Where memory
+    /// runs out, nothing is taken; it does not run out where there is room.
+    pub fn take(&mut self, routes: &Routes, bytes: &[u8]) -> Result<Need, NoMemory>
+        ensures taken { IfOk result (λ _. self.new.bytes ≡ self.old.bytes ++ bytes.now) }
+        ensures need { IfOk result (λ need. IsNeed self.new.bytes need) }
+        ensures kept { OnErr result (self.new.bytes ≡ self.old.bytes) }
+        ensures room { self.old.room ≤ self.new.room }
+        ensures full { OnErr result (self.old.room < length self.old.bytes + length bytes.now) }
+    {
+        let from = self.come.len();
+        self.come.extend_from_slice(bytes)?;
+        self.stage = after(routes, self.stage, self.come.as_slice(), from);
+        Ok(self.need())
+    }
+
+    /// What the bytes that have come still need.
+    pub fn need(&self) -> Need
+        ensures { IsNeed self.now.bytes result }
+    {
+        match self.stage {
+            Stage::Begins(_) => Need::Head,
+            Stage::Lacks(_, n) => Need::Content(n),
+            Stage::Found(_) => Need::Nothing,
+            Stage::Broken => Need::Nothing,
+        }
+    }
+
+    /// Whether no bytes that follow change what those that have come ask for. So it is once 24,576
+    /// have come.
+    pub fn is_settled(&self) -> bool
+        ensures settled { result ≡ true → IsSettled self.now.bytes }
+        ensures open { result ≡ false → length self.now.bytes < most_read }
+    {
+        matches!(self.need(), Need::Nothing)
+    }
+
+    /// Reads once, and takes the bytes that came. It answers how many, and 0 at the end of the
+    /// stream. Where the read fails, or there is no memory for what came, nothing is taken.
+    pub fn read_on<R: Read>(
+        &mut self,
+        routes: &Routes,
+        reader: &mut Counted<R>,
+        page: &mut Page,
+    ) -> Result<usize, ReadFault>
+        ensures read { IfOk result (λ n. HasRead (R.remaining reader.old.inner)
+            (R.remaining reader.new.inner) self.old.bytes self.new.bytes n) }
+        ensures end { IfOk result (λ n. n ≡ 0 → IsAtEnd (R.remaining reader.new.inner)) }
+        ensures within { IfOk result (λ n. n ≤ 4_096) }
+        ensures kept { OnErr result (self.new.bytes ≡ self.old.bytes) }
+        ensures room { self.old.room ≤ self.new.room }
+        ensures full { result ≡ Err fault.NoMemory
+            → self.old.room < length self.old.bytes + 4_096 }
+        ensures counted { reader.new.failures ≡ after_reading result reader.old.failures }
+    {
+        let count = match reader.read(&mut page.bytes) {
+            Ok(count) => count,
+            Err(error) => return Err(ReadFault::Failed(error.kind())),
+        };
+        match self.take(routes, &page.bytes[..count]) {
+            Ok(_) => Ok(count),
+            Err(NoMemory) => Err(ReadFault::NoMemory),
+        }
+    }
+
+    /// How many bytes have come.
+    pub fn len(&self) -> usize
+        ensures { result ≡ length self.now.bytes }
+    {
+        self.come.len()
+    }
+
+    /// Whether nothing has come yet.
+    pub fn is_empty(&self) -> bool
+        ensures { result ≡ (length self.now.bytes == 0) }
+    {
+        self.come.is_empty()
+    }
+
+    /// What the bytes that have come ask for, if no more come. It takes no memory.
+    pub fn wanted(&self, routes: &Routes) -> Wanted<'_>
+        ensures { Asks self.now.bytes (request_of result) }
+    {
+        match self.stage {
+            Stage::Lacks(head, _) => wanted_by(routes, &head, self.come.as_slice()),
+            Stage::Found(head) => wanted_by(routes, &head, self.come.as_slice()),
+            Stage::Begins(_) => NO_HEAD,
+            Stage::Broken => NO_HEAD,
+        }
+    }
+}

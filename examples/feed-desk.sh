@@ -1,0 +1,46 @@
+#!/bin/sh
+# Feeds a second desk: posts to the desk of this machine each message that the first desk holds and
+# this one lacks. It takes nothing away, stops nothing, and may be run as often as you like; the
+# order does not matter. In a folder with auditor-feed.pem, auditor-feed.key and ca.pem:
+#
+#   feed-desk.sh https://desk.example chat
+#
+# `chat` is a relay of the roster, and ADDR in /etc/desk/serve.conf, or in the environment, says
+# where the desk of this machine listens. It says what was posted, and why something was not; the
+# status is 0 if this desk then holds all that the first one held.
+set -eu
+umask 077
+[ $# = 2 ] || {
+    echo "usage: $0 DESK RELAY" >&2
+    exit 2
+}
+first=$1 relay=$2 posted=0 refused=0
+addr=${ADDR:-$(sed -n 's/^ADDR=//p' /etc/desk/serve.conf)}
+case $addr in
+    unix:*) set -- --unix-socket "${addr#unix:}" http://desk ;;
+    *) set -- "http://$addr" ;;
+esac
+
+# The last word is the desk of this machine, and those before it say how to reach it.
+here() {
+    route=$1
+    shift
+    curl -sS --max-time 50 "$@$route"
+}
+
+curl -sSf --max-time 50 --cert auditor-feed.pem --key auditor-feed.key --cacert ca.pem \
+    "$first/v1/messages" > feed.first
+here /v1/messages -f "$@" > feed.here
+LC_ALL=C comm -23 feed.first feed.here > feed.lacking
+while IFS= read -r message; do
+    printf '%s' "$message" > feed.message
+    said=$(here "/v1/relays/$relay/messages" --data-binary @feed.message "$@") || said='no answer'
+    if [ "$said" = ack ]; then
+        posted=$((posted + 1))
+    else
+        refused=$((refused + 1))
+        echo "feed-desk: $said: $message" >&2
+    fi
+done < feed.lacking
+[ "$posted$refused" = 00 ] || echo "feed-desk: $posted posted, $refused refused"
+[ "$refused" = 0 ]

@@ -1,0 +1,246 @@
+"""Tells people what happened: runs a site's program once for each event, with the event as JSON.
+
+An event is recorded in the outbox's database before the program runs, and marked when it ended
+well. So none is lost; one whose program was running when the relay was killed is run again, under
+the same id, by which a receiver drops the repeat.
+"""
+
+import fcntl
+import json
+import logging
+import os
+import secrets
+import signal
+import subprocess
+import threading
+import time
+from collections.abc import Callable, Iterator
+from contextlib import suppress
+from dataclasses import dataclass
+
+from relays.desk import Silent
+from relays.events import Event, Finder
+from relays.moments import stamp
+from relays.outbox import Kept, Outbox
+from relays.roster import BadRoster
+
+log = logging.getLogger("desk-relay")
+# Seconds: how long a program that failed for an event is not run for it, and when no more.
+FIRST_WAIT, LONGEST_WAIT, GIVEN_UP_AFTER = 10, 600, 86400
+MOST_AT_ONCE = 20  # events between two looks at what happened
+SCHEMA = """
+CREATE TABLE IF NOT EXISTS notices (
+    id TEXT PRIMARY KEY,
+    message INTEGER NOT NULL,
+    kind TEXT NOT NULL,
+    body TEXT NOT NULL,
+    state TEXT NOT NULL CHECK (state IN ('due', 'done', 'given up', 'needless')),
+    tries INTEGER NOT NULL DEFAULT 0,
+    began REAL NOT NULL,
+    next REAL NOT NULL DEFAULT 0,
+    UNIQUE (message, kind)
+) STRICT;
+CREATE INDEX IF NOT EXISTS due_notices ON notices (state) WHERE state = 'due';
+CREATE TABLE IF NOT EXISTS told_from (
+    one INTEGER PRIMARY KEY CHECK (one = 1), message INTEGER NOT NULL
+) STRICT;
+"""
+# Messages that the desk answered, that came since this relay tells, and of which nothing is told.
+UNTOLD = """id > (SELECT message FROM told_from) AND state <> 'kept'
+ AND NOT EXISTS (SELECT 1 FROM notices WHERE notices.message = messages.id)"""
+# Requests since then whose window is over and that were neither granted nor settled otherwise.
+PAST = """id > (SELECT message FROM told_from) AND state = 'acked' AND kind = 'request'
+ AND body ->> '$.until' < ? AND NOT EXISTS (SELECT 1 FROM notices
+ WHERE notices.message = messages.id AND notices.kind IN ('void', 'granted'))"""
+
+
+class Busy(OSError):
+    """Another process tells already."""
+
+
+@dataclass(frozen=True)
+class Due:
+    id: str
+    kind: str
+    body: str
+    tries: int
+    began: float
+
+
+class Notices:
+    """The events of an outbox, each once."""
+
+    def __init__(self, outbox: Outbox) -> None:
+        self.outbox, self.base = outbox, outbox.base
+        with outbox.writing():
+            for statement in SCHEMA.split(";"):
+                self.base.execute(statement)
+            # (nobody is told of what was kept before there was anything to tell by)
+            self.base.execute(
+                "INSERT OR IGNORE INTO told_from SELECT 1, coalesce(max(id), 0) FROM messages"
+            )
+
+    def untold(self) -> list[Kept]:
+        return self.outbox.find(UNTOLD)
+
+    def past(self, now: str) -> list[Kept]:
+        return self.outbox.find(PAST, now)
+
+    def is_new(self, kept: Kept) -> bool:
+        """Whether a request came since this relay tells."""
+        row = self.base.execute("SELECT message FROM told_from").fetchone()
+        return kept.id > int(row[0])
+
+    def has(self, kept: Kept, kind: str) -> bool:
+        found = self.base.execute(
+            "SELECT 1 FROM notices WHERE message = ? AND kind = ?", (kept.id, kind)
+        )
+        return found.fetchone() is not None
+
+    def record(self, events: list[Event], state: str = "due") -> None:
+        """Keeps events that are new; all of them, or none."""
+        with self.outbox.writing():
+            for event in events:
+                id = secrets.token_hex(16)
+                self.base.execute(
+                    "INSERT INTO notices (id, message, kind, body, state, began)"
+                    " VALUES (?, ?, ?, ?, ?, ?) ON CONFLICT DO NOTHING",
+                    (id, event.message, event.kind, json.dumps({"id": id} | event.data), state,
+                     time.time()),
+                )  # fmt: skip
+
+    def due(self) -> list[Due]:
+        rows = self.base.execute(
+            "SELECT id, kind, body, tries, began FROM notices"
+            " WHERE state = 'due' AND next <= ? ORDER BY rowid LIMIT ?",
+            (time.time(), MOST_AT_ONCE),
+        )
+        return [Due(*row) for row in rows]
+
+    def done(self, due: Due) -> None:
+        self.mark(due, "done", 0)
+
+    def failed(self, due: Due) -> str:
+        """Puts an event off whose program failed, or gives it up; says which."""
+        wait = min(LONGEST_WAIT, FIRST_WAIT * 2**due.tries)
+        is_over = time.time() - due.began > GIVEN_UP_AFTER
+        self.mark(due, "given up" if is_over else "due", wait)
+        return "given up" if is_over else f"tried again in {wait} seconds"
+
+    def mark(self, due: Due, state: str, wait: float) -> None:
+        with self.outbox.writing():
+            self.base.execute(
+                "UPDATE notices SET state = ?, tries = tries + 1, next = ? WHERE id = ?",
+                (state, time.time() + wait, due.id),
+            )
+
+
+def find(notices: Notices, finder: Finder) -> Iterator[Event]:
+    """What happened and is not recorded yet. `Silent` where the desk does not answer."""
+    for kept in notices.untold():
+        yield from finder.of_message(kept)
+    knowledge = finder.knowledge
+    for grant in knowledge.grants(knowledge.now):
+        request = knowledge.asked_here(grant)
+        if request and notices.is_new(request) and not notices.has(request, "granted"):
+            yield finder.of_grant(request)
+        if request and finder.is_ending(grant) and not notices.has(request, "ends-soon"):
+            yield finder.of_end(grant, request)
+
+
+def settle(notices: Notices, finder: Finder) -> None:
+    """Records what became of requests whose window is over."""
+    for kept in notices.past(stamp(finder.knowledge.now)):
+        event = finder.of_past(kept)
+        if event:
+            notices.record([event])
+        else:
+            notices.record([Event("void", kept.id, {})], "needless")
+
+
+def look(notices: Notices, make: Callable[[], Finder]) -> str:
+    """Records what happened; why not all of it, where that is not known now."""
+    found: list[Event] = []
+    try:
+        finder = make()
+        for event in find(notices, finder):
+            found.append(event)
+        settle(notices, finder)
+    except (Silent, BadRoster) as why:
+        return str(why)
+    finally:
+        notices.record(found)
+    return ""
+
+
+def run(program: list[str], body: str, seconds: float) -> str:
+    """Runs a program with an event on its standard input, and no shell; why it failed, if it did.
+    Whatever it started ends with it."""
+    # (a file, and no pipe: the program has the whole event, also where the relay is killed now)
+    given = os.memfd_create("event")
+    os.write(given, f"{body}\n".encode("ascii"))
+    os.lseek(given, 0, os.SEEK_SET)
+    environment = {"PATH": "/usr/sbin:/usr/bin:/sbin:/bin", "LANG": "C.UTF-8"}
+    try:
+        job = subprocess.Popen(
+            program,
+            stdin=given,
+            stdout=subprocess.DEVNULL,
+            env=environment,
+            cwd="/",
+            start_new_session=True,
+        )
+    except OSError as fault:
+        return f"{program[0]} cannot be run: {fault.strerror}"
+    finally:
+        os.close(given)
+    try:
+        job.wait(seconds)
+        return f"{program[0]} ended with {job.returncode}" if job.returncode else ""
+    except subprocess.TimeoutExpired:
+        return f"{program[0]} took longer than {seconds:g} seconds"
+    finally:
+        with suppress(ProcessLookupError):
+            os.killpg(job.pid, signal.SIGKILL)
+        job.wait()
+
+
+def tell(notices: Notices, program: list[str], seconds: float, ended: threading.Event) -> None:
+    """Runs the program for each event that is due, the oldest first."""
+    for due in notices.due():
+        if ended.is_set():
+            return
+        if why := run(program, due.body, seconds):
+            log.warning("event %s, %s: %s; %s", due.id, due.kind, why, notices.failed(due))
+        else:
+            notices.done(due)
+            log.info("event %s, %s: told", due.id, due.kind)
+
+
+def locked(path: str) -> int:
+    """A lock that no other process has: two of them would tell everything twice."""
+    file = os.open(path, os.O_CREAT | os.O_RDWR | os.O_CLOEXEC, 0o600)
+    try:
+        fcntl.flock(file, fcntl.LOCK_EX | fcntl.LOCK_NB)
+    except BlockingIOError:
+        os.close(file)
+        raise Busy(f"{path}: another process tells already") from None
+    return file
+
+
+def keep_telling(
+    notices: Notices,
+    finder: Callable[[], Finder],
+    program: tuple[list[str], float],
+    every: float,
+    ended: threading.Event,
+) -> None:
+    """Looks and tells, again and again, until `ended`."""
+    trouble = ""
+    while not ended.is_set():
+        why = look(notices, finder)
+        if why and why != trouble:
+            log.warning("what happened is not known: %s", why)
+        trouble = why
+        tell(notices, *program, ended)
+        ended.wait(every)

@@ -1,0 +1,110 @@
+"""Why somebody asks: a text and a ticket, kept beside the request. The desk's message has none."""
+
+import re
+from collections.abc import Iterator
+from dataclasses import dataclass, field
+
+from relays.messages import BadWord
+
+MOST_WHY, MOST_TICKET = 500, 64  # characters
+TICKET = r"[!-~]+"
+
+
+@dataclass(frozen=True)
+class Reason:
+    """Both may be empty, where nobody demands them."""
+
+    why: str = ""
+    ticket: str = ""
+
+    @staticmethod
+    def of(why: str | None, ticket: str | None) -> "Reason":
+        """A reason of words that were checked: one line, and nothing that a terminal obeys, turns
+        round or does not show."""
+        text, name = (why or "").strip(), (ticket or "").strip()
+        if len(text) > MOST_WHY:
+            raise BadWord(f"a reason has at most {MOST_WHY} characters, and this has {len(text)}")
+        if not text.isprintable():
+            raise BadWord("a reason is one line, and has no control characters")
+        if name and (len(name) > MOST_TICKET or not re.fullmatch(TICKET, name)):
+            raise BadWord(
+                f"a ticket has at most {MOST_TICKET} letters, digits and marks, and no blank"
+            )
+        return Reason(text, name)
+
+    def __bool__(self) -> bool:
+        return bool(self.why or self.ticket)
+
+    def lines(self) -> Iterator[tuple[str, str]]:
+        if self.why:
+            yield "why", plain(self.why)
+        if self.ticket:
+            yield "ticket", plain(self.ticket)
+
+    def data(self) -> dict[str, str | None]:
+        return {"why": self.why or None, "ticket": self.ticket or None}
+
+
+NONE = Reason()
+
+
+def plain(text: str) -> str:
+    """A text as a terminal may have it, whoever wrote it into the outbox."""
+    return "".join(it if it.isprintable() else ascii(it)[1:-1] for it in text)
+
+
+@dataclass(frozen=True)
+class Demand:
+    """What this relay demands: of every request (True), or under some ceilings."""
+
+    why: bool | tuple[str, ...] = False
+    ticket: bool | tuple[str, ...] = False
+    form: re.Pattern[str] = field(default_factory=lambda: re.compile(TICKET))
+
+    def wants(self, ceiling: str) -> tuple[bool, bool]:
+        """Whether a request under a ceiling needs a reason, and a ticket."""
+        why, ticket = (
+            it if isinstance(it, bool) else ceiling in it for it in (self.why, self.ticket)
+        )
+        return why, ticket
+
+    def reason(self, ceiling: str, why: str | None, ticket: str | None) -> Reason:
+        """The reason of a request under a ceiling. Raises where it needs another."""
+        found = Reason.of(why, ticket)
+        self.check(ceiling, found)
+        return found
+
+    def check(self, ceiling: str, reason: Reason) -> None:
+        why, ticket = self.wants(ceiling)
+        if why and not reason.why:
+            raise BadWord(f"say why: a request under {ceiling} needs a reason (--why TEXT)")
+        if ticket and not reason.ticket:
+            raise BadWord(f"name a ticket: a request under {ceiling} needs one (--ticket ID)")
+        if reason.ticket and not self.form.fullmatch(reason.ticket):
+            raise BadWord(
+                f"{reason.ticket!r} is no ticket of this site's, which match {self.form.pattern}"
+            )
+
+
+def demand_of(table: dict[str, object]) -> Demand:
+    """The settings below [why]."""
+    unknown = table.keys() - {"required", "ticket_required", "ticket"}
+    if unknown:
+        raise ValueError(f"[why] has no setting {', '.join(sorted(unknown))}")
+    form = table.get("ticket", TICKET)
+    if not isinstance(form, str):
+        raise ValueError("[why] ticket is no regular expression between quotes")
+    try:
+        compiled = re.compile(form)
+    except re.error as fault:
+        raise ValueError(f"[why] ticket: {fault}") from None
+    return Demand(demanded(table, "required"), demanded(table, "ticket_required"), compiled)
+
+
+def demanded(table: dict[str, object], name: str) -> bool | tuple[str, ...]:
+    found = table.get(name, False)
+    if isinstance(found, bool):
+        return found
+    if isinstance(found, list) and all(isinstance(it, str) for it in found):
+        return tuple(found)
+    raise ValueError(f"[why] {name} is true, false or a list of ceilings")

@@ -1,0 +1,213 @@
+"""Verdicts count for people as they count at the desk, and one that does not is said not to."""
+
+import json
+import re
+import time
+from collections.abc import Iterator
+from pathlib import Path
+
+import pytest
+
+from relays.desk import Desk
+from relays.messages import Verdict, Wish
+from relays.moments import now, stamp
+from relays.outbox import UNASKED, Kept, Outbox
+from relays.posting import post_kept
+from relays.tests.front import Front
+from relays.tests.site import Site
+from relays.tests.test_outbox import answering
+from relays.tests.test_page import get, post, token
+
+LINE = "ask {ceiling} --on db1 --as root --for 10m --yes --json --again {command}"
+
+
+@pytest.fixture(scope="module")
+def fronted(tmp_path_factory: pytest.TempPathFactory) -> Iterator[tuple[Site, Front]]:
+    site = Site(tmp_path_factory.mktemp("counts"))
+    try:
+        site.start_desk()
+        site.start_page()
+        front = Front(site, ["ann", "bob", "dave", "eve"])
+        yield site, front
+        front.stop()
+    finally:
+        site.close()
+
+
+def asked(site: Site, ceiling: str = "db-care", command: str = "/usr/bin/id") -> int:
+    """Asks as ann, and gives the request's number."""
+    ran = site.run("ann", LINE.format(ceiling=ceiling, command=command))
+    assert ran.stdout, ran
+    return int(json.loads(ran.stdout)["no"])
+
+
+def state(site: Site, no: int) -> str:
+    found = site.data("ann", "mine --all")
+    assert isinstance(found, list)
+    return str(next(it["state"] for it in found if it["no"] == no))
+
+
+def waits_for_bob(site: Site, front: Front, no: int) -> tuple[bool, bool]:
+    """Whether bob is shown the request, with a button, by ssh and on the page."""
+    found = site.data("bob", "waiting")
+    assert isinstance(found, list)
+    listed = [it["state"] for it in found if it["no"] == no]
+    shown = f'id="waits-ann-{no}"' in get(front.url("bob")).text
+    return listed == ["waiting"], shown
+
+
+# Who may not refuse or revoke what ann asks for: nobody's duty, a conflict, the asker, no person.
+@pytest.mark.parametrize(
+    ("person", "kind"),
+    [("dave", "refuse"), ("eve", "refuse"), ("ann", "refuse"), ("dave", "revoke")],
+)
+def test_nobody_hides_a_request_without_a_right(
+    fronted: tuple[Site, Front], person: str, kind: str
+) -> None:
+    site, front = fronted
+    no = asked(site)
+    ran = site.run(person, f"{kind} ann {no} --yes")
+    assert ran.returncode == 0, ran
+    assert waits_for_bob(site, front, no) == (True, True)
+    assert state(site, no) == "waiting"
+    ran = site.run("bob", f"approve ann {no} --yes")
+    assert "It is in force from" in ran.stdout, ran
+    assert f"ann {no} " in site.ask(f"/v1/grants/{stamp(now())}")
+
+
+@pytest.mark.parametrize(("person", "kind"), [("bob", "refuse"), ("eve", "revoke")])
+def test_who_may_object_ends_it(fronted: tuple[Site, Front], person: str, kind: str) -> None:
+    site, front = fronted
+    no = asked(site)
+    ran = site.run(person, f"{kind} ann {no} --yes")
+    assert ran.returncode == 0 and "count" not in ran.stdout, ran
+    assert waits_for_bob(site, front, no) == (False, False)
+    assert state(site, no) == "objected"
+    ran = site.run("bob", f"approve ann {no} --yes --again")
+    assert "Your approval will not count: the desk grants nothing of it any more." in ran.stdout
+    assert state(site, no) == "objected"
+
+
+def test_a_refusal_after_enough_approvals(fronted: tuple[Site, Front]) -> None:
+    site, _ = fronted
+    no = asked(site)
+    assert site.run("bob", f"approve ann {no} --yes").returncode == 0
+    time.sleep(1.1)  # (a refusal of the same second counts)
+    ran = site.run("carol", f"refuse ann {no} --yes")
+    assert "Your refusal will not count: enough people have approved it: revoke it" in ran.stdout
+    assert state(site, no) == "in-force"
+
+
+# Whose approval does not count, and why.
+BARRED = [
+    ("eve", "conflicts with approving"),
+    ("dave", "do not hold the duty to approve"),
+    ("ann", "asked for it yourself"),
+]
+
+
+@pytest.mark.parametrize(("person", "why"), BARRED)
+def test_it_is_said_before_and_after(
+    fronted: tuple[Site, Front], person: str, why: str
+) -> None:
+    site, front = fronted
+    no = asked(site)
+    ran = site.run(person, f"approve ann {no}", given="n\n")
+    before = ran.stdout.partition("[y/N]")[0]
+    assert "Your approval will not count: " in before and why in before, ran
+    page = get(f"{front.url(person)}/verdict?kind=approve&of=ann&no={no}").text
+    assert "Your approval will not count: " in page and why in page
+    ran = site.run(person, f"approve ann {no} --yes")
+    assert "acknowledged that you approved it. But it does not count: " in ran.stdout, ran
+    again = get(f"{front.url(person)}/verdict?kind=approve&of=ann&no={no}").text
+    done = post(f"{front.url(person)}/send", {"token": token(again), "what": "verdict"}).text
+    assert "acknowledged that you approved it. But it does not count: " in done
+    # (also once somebody else's approval counts)
+    assert site.run("bob", f"approve ann {no} --yes").returncode == 0
+    [told] = [it for it in site.data("ann", "mine --all") if it["no"] == no]  # type: ignore
+    counts = {(it["by"], it["counts"]) for it in told["verdicts"]}
+    assert counts == {(person, False), ("bob", True)}
+
+
+def test_who_may_approve_reads_no_warning(fronted: tuple[Site, Front]) -> None:
+    site, front = fronted
+    no = asked(site)
+    assert "not count" not in get(f"{front.url('bob')}/verdict?kind=approve&of=ann&no={no}").text
+    ran = site.run("bob", f"approve ann {no} --yes")
+    assert ran.returncode == 0 and "not count" not in ran.stdout, ran
+    ran = site.run("carol", f"approve ann {no} --yes")
+    assert "will not count: enough people have approved it already" in ran.stdout, ran
+
+
+def test_a_duty_that_has_days(quiet_site: Site) -> None:
+    roster = quiet_site.folder / "site.roster"
+    text = roster.read_text().replace(
+        'bob = ["approve-db"]',
+        'bob = [{ duty = "approve-db", from = "20200101", until = "20200102" }]',
+    )
+    roster.write_text(text)
+    quiet_site.start_desk()
+    no = asked(quiet_site)
+    assert quiet_site.run("bob", f"refuse ann {no} --yes").returncode == 0
+    assert state(quiet_site, no) == "waiting"
+    ran = quiet_site.run("bob", f"approve ann {no} --yes")
+    assert "Your approval will not count: you do not hold the duty" in ran.stdout, ran
+
+
+def test_what_the_desk_refused_is_not_approved(fronted: tuple[Site, Front]) -> None:
+    site, front = fronted
+    no = asked(site, "db-care", "/usr/sbin/reboot")
+    assert state(site, no) == "refused"
+    before = site.kept()
+    ran = site.run("bob", f"approve ann {no} --yes")
+    assert ran.returncode == 2 and "the desk refused ann" in ran.stderr, ran
+    assert "A6 CommandOutside" in ran.stderr
+    reply = get(f"{front.url('bob')}/verdict?kind=approve&of=ann&no={no}")
+    assert reply.status_code == 400 and "nothing to approve" in reply.text
+    assert "Yes, approve" not in reply.text and site.kept() == before
+
+
+def kept_both(outbox: Outbox) -> tuple[Kept, Kept]:
+    """A request that is not at the desk yet, and its approval."""
+    at = stamp(now())
+    wish = Wish.of("db-care", ["db1"], "root", ["/usr/bin/id"], (at, at))
+    request = outbox.keep_request("ann", wish, at)
+    verdict = Verdict("bob", "approve", "ann", request.request.no, at)
+    return request, outbox.keep_verdict(verdict)
+
+
+def test_a_form_from_before_the_desk_refused_it(fronted: tuple[Site, Front]) -> None:
+    site, front = fronted
+    site.stop_desk()
+    no = asked(site, "db-care", "/usr/sbin/reboot")
+    page = get(f"{front.url('bob')}/verdict?kind=approve&of=ann&no={no}").text
+    site.start_desk()
+    assert site.run("ann", "mine").returncode == 0
+    post_kept(Outbox(str(site.folder / "outbox.db")), Desk(site.url, "chat", None, None))
+    before = site.kept()
+    reply = post(f"{front.url('bob')}/send", {"token": token(page), "what": "verdict"})
+    assert reply.status_code == 400 and "nothing to approve" in reply.text
+    assert site.kept() == before
+
+
+def test_an_approval_goes_after_its_request(tmp_path: Path) -> None:
+    outbox = Outbox(str(tmp_path / "outbox.db"))
+    request, approval = kept_both(outbox)
+    with answering(503, "K4 Storage\n") as url:
+        post_kept(outbox, Desk(url, "chat", None, None))
+    assert outbox.entry(approval.id).answer == "its request is not at the desk yet"
+    with answering(403, "A3 NotAsker\n") as url:
+        post_kept(outbox, Desk(url, "chat", None, None))
+    assert outbox.entry(request.id).answer == "A3 NotAsker"
+    assert outbox.entry(approval.id) == Kept(
+        approval.id, approval.message, "refused", UNASKED
+    )
+
+
+def test_objections_are_told_with_their_worth(fronted: tuple[Site, Front]) -> None:
+    site, front = fronted
+    no = asked(site)
+    assert site.run("dave", f"refuse ann {no} --yes").returncode == 0
+    told = site.run("ann", "mine").stdout
+    assert re.search(r"dave refused it, .*; it does not count: the duty to approve", told), told
+    assert "dave refused it" in get(front.url("ann")).text

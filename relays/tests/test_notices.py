@@ -1,0 +1,314 @@
+"""People are told: by mail through Debian's msmtp, in chat rooms, each event once, and when the
+relay is killed at least once, under one id."""
+
+import contextlib
+import json
+import os
+import random
+import subprocess
+import threading
+import time
+from collections.abc import Iterator
+from datetime import timedelta
+from email import message_from_bytes, policy
+from email.message import EmailMessage
+from http.server import BaseHTTPRequestHandler, HTTPServer
+from pathlib import Path
+
+import pytest
+from aiosmtpd.controller import Controller
+
+from relays.config import read_config
+from relays.events import Event, Finder
+from relays.moments import now, of_stamp
+from relays.notices import Notices, look, run
+from relays.outbox import Outbox
+from relays.standing import Knowledge
+from relays.tests.site import ROOT, Site
+from relays.tests.test_fuzz import answer
+from relays.tests.test_outbox import AT, WISH
+from scripts.ports import free_port
+
+ASK = "ask db-care --on db1 --as root --for 1h --yes --again --why disk full /usr/bin/id"
+MAIL, WEBHOOK = (str(ROOT / "relays" / f"notify-{it}") for it in ("mail", "webhook"))
+HOSTILE = 'x @all "$(id)" `id` <!channel> \\n &'
+
+
+def settings(site: Site, *program: str, **other: object) -> None:
+    with open(site.config, "a", encoding="utf-8") as file:
+        file.write(f"[notify]\nprogram = {json.dumps(program)}\n")
+        file.writelines(f"{name} = {json.dumps(it)}\n" for name, it in other.items())
+
+
+def say(site: Site, person: str, line: str) -> None:
+    status, told = answer(read_config(str(site.config)), person, line)
+    assert status in (0, 2, 3), told
+
+
+def wait_for(check: object, seconds: float = 300.0) -> None:
+    until = time.monotonic() + seconds
+    while not check():  # type: ignore[operator]
+        assert time.monotonic() < until
+        time.sleep(0.2)
+
+
+class Mails:
+    """A real SMTP server, and what came."""
+
+    def __init__(self) -> None:
+        self.mails: list[EmailMessage] = []
+        self.port = free_port()
+        self.controller = Controller(self, hostname="127.0.0.1", port=self.port)
+        self.controller.start()
+
+    async def handle_DATA(self, _: object, __: object, envelope: object) -> str:
+        content = envelope.content  # type: ignore[attr-defined]
+        mail = message_from_bytes(content, policy=policy.default)
+        mail["Rcpt"] = ",".join(sorted(envelope.rcpt_tos))  # type: ignore[attr-defined]
+        self.mails.append(mail)
+        return "250 OK"
+
+
+@pytest.fixture
+def mails() -> Iterator[Mails]:
+    found = Mails()
+    yield found
+    found.controller.stop()
+
+
+def test_by_mail(site: Site, mails: Mails) -> None:
+    """Through /usr/sbin/sendmail, which is msmtp, to the server."""
+    home = site.folder / "home"
+    home.mkdir()
+    account = home / ".msmtprc"
+    account.write_text(f"account default\nhost 127.0.0.1\nport {mails.port}\n")
+    account.chmod(0o600)
+    (site.folder / "people").write_text("# who\nbob robert@corp.example\n")
+    words = ["/usr/bin/env", f"HOME={home}", MAIL, "--domain", "desk.example"]
+    say(site, "ann", ASK)  # (before there is anything to tell by)
+    settings(site, *words, "--people", str(site.folder / "people"), link="https://desk/")
+    site.start("notify", "--every", "0.3")
+    wait_for(lambda: "told_from" in tables(site))
+    count = 0
+    for person, line, more in (
+        ("ann", ASK, 1), ("eve", "approve ann 2 --yes", 1), ("bob", "approve ann 2 --yes", 2),
+        ("ann", ASK, 1), ("carol", "refuse ann 3 --yes", 1),
+        ("ann", ASK.replace("1h", "9h"), 1), ("ann", "revoke ann 2 --yes", 1),
+    ):  # fmt: skip
+        say(site, person, line)
+        count += more
+        wait_for(lambda: len(mails.mails) >= count)  # noqa: B023
+    wanted = sorted(
+        [
+            ("asked", "ann asks.", "carol@desk.example,robert@corp.example"),
+            ("uncounted", "eve approved ann 2, but it does not count: a duty that conflicts with"
+             " approving was held then.", "ann@desk.example,eve@desk.example"),
+            ("approved", "bob approved ann 2.", "ann@desk.example"),
+            ("granted", "ann 2 is granted.", "ann@desk.example,robert@corp.example"),
+            ("asked", "ann asks.", "carol@desk.example,robert@corp.example"),
+            ("refused", "carol refused ann 3.", "ann@desk.example"),
+            ("revoked", "ann revoked ann 2.", "robert@corp.example"),
+        ]
+    )  # fmt: skip
+    time.sleep(1)
+    told = [(it["X-Desk-Event"], it["Subject"][7:], it["Rcpt"]) for it in mails.mails]
+    assert sorted(it for it in told if it[0] != "void") == wanted
+    void = [it[1] for it in told if it[0] == "void"]
+    assert len(void) == 1 and void[0].startswith("The desk refused it. A7 WindowTooLong: ")
+    first = next(it for it in mails.mails if it["X-Desk-Event"] == "asked").get_content()
+    assert "why       disk full" in first and "bob, carol may approve it" in first
+    assert "approve ann 2" in first and "https://desk/" in first
+    assert len({it["Message-ID"] for it in mails.mails}) == len(mails.mails)
+    assert (site.folder / "notify.log").read_text().count(": told") == len(wanted) + 1
+
+
+def tables(site: Site) -> str:
+    outbox = Outbox(str(site.folder / "outbox.db"))
+    with contextlib.closing(outbox):
+        return str(outbox.base.execute("SELECT group_concat(name) FROM sqlite_master").fetchone())
+
+
+def test_what_time_brings(site: Site) -> None:
+    """A grant that ends soon, and requests whose window ended: each once."""
+    config = read_config(str(site.config))
+    outbox, desk = config.open_outbox(), config.open_desk()
+    notices = Notices(outbox)
+    for person, line in (("ann", ASK), ("bob", "approve ann 1 --yes"), ("ann", ASK)):
+        say(site, person, line)
+    ends = of_stamp(outbox.request("ann", 1).request.wish.ends)  # type: ignore[union-attr]
+
+    def seen() -> list[tuple[str, int]]:
+        rows = outbox.base.execute("SELECT kind, body FROM notices WHERE state = 'due'")
+        found = [(kind, json.loads(body)["no"]) for kind, body in rows]
+        outbox.base.execute("UPDATE notices SET state = 'done' WHERE state = 'due'")
+        return sorted(found)
+
+    steps = [
+        (now(), [("approved", 1), ("asked", 1), ("asked", 2), ("granted", 1)]),
+        (ends - timedelta(minutes=16), []),
+        (ends - timedelta(minutes=14), [("ends-soon", 1)]),
+        (ends - timedelta(minutes=1), []),
+        (ends + timedelta(hours=1), [("void", 2)]),
+        (ends + timedelta(hours=2), []),
+    ]
+    for at, wanted in steps:
+        for again in (wanted, []):
+            knowledge = Knowledge(outbox, desk, config.read_roster(), at)
+            assert look(notices, lambda: Finder(knowledge, config.zone)) == ""  # noqa: B023
+            assert seen() == again, at
+    site.stop_desk()
+    assert "cannot be reached" in look(
+        notices, lambda: Finder(Knowledge(outbox, desk, config.read_roster(), now()), config.zone)
+    )
+
+
+def recorded(site: Site, count: int) -> set[str]:
+    """Events that wait to be told, in an outbox of a site: their ids."""
+    outbox = Outbox(str(site.folder / "outbox.db"))
+    notices = Notices(outbox)
+    notices.record([Event("asked", it, {"no": it, "to": []}) for it in range(count)])
+    with contextlib.closing(outbox):
+        return {it[0] for it in outbox.base.execute("SELECT id FROM notices")}
+
+
+def due(site: Site) -> int:
+    outbox = Outbox(str(site.folder / "outbox.db"))
+    with contextlib.closing(outbox):
+        return int(outbox.base.execute("SELECT count(*) FROM notices WHERE state = 'due'")
+                   .fetchone()[0])  # fmt: skip
+
+
+def test_killed_between(quiet_site: Site) -> None:
+    """Each event is told; again under its id only if the relay was killed meanwhile."""
+    site, chance, kills = quiet_site, random.Random(7), 5
+    told, program = site.folder / "told", site.folder / "program"
+    program.write_text(f"#!/bin/sh\nread -r line\necho \"$line\" >> {told}\nsleep 0.1\n")
+    program.chmod(0o755)
+    settings(site, str(program))
+    ids = recorded(site, 40)
+    for _ in range(kills):
+        job, before = site.start("notify", "--every", "0.1"), due(site)
+        wait_for(lambda: due(site) < before)  # noqa: B023
+        time.sleep(chance.uniform(0, 0.3))
+        job.kill()
+        job.wait(timeout=20)
+    assert 0 < due(site) < 40
+    site.start("notify", "--every", "0.1")
+    wait_for(lambda: due(site) == 0)
+    found = [json.loads(line)["id"] for line in told.read_text().splitlines()]
+    print(f"{kills} kills: {len(found) - len(ids)} of {len(ids)} events were told again")
+    assert set(found) == ids and len(found) <= len(ids) + kills
+
+
+def test_a_program_that_fails_or_hangs(quiet_site: Site) -> None:
+    site = quiet_site
+    fails = ["/bin/sh", "-c", 'grep -q "\\"no\\": 1," && exit 3; exit 0']
+    settings(site, *fails)
+    recorded(site, 3)
+    site.start("notify", "--every", "0.2")
+    wait_for(lambda: due(site) == 1)
+    wait_for(lambda: "ended with 3; tried again in 10" in (site.folder / "notify.log").read_text())
+    second = site.start("notify")
+    assert second.wait(timeout=60) == 2
+    assert "another process tells already" in (site.folder / "notify.log").read_text()
+    began, pid = time.monotonic(), site.folder / "pid"
+    hangs = ["/bin/sh", "-c", f"sleep 600 & echo $! > {pid}; sleep 600"]
+    assert "took longer than 1 seconds" in run(hangs, "{}", 1)
+    assert time.monotonic() - began < 60
+    wait_for(lambda: not is_running(int(pid.read_text())), 20)
+    assert run(["/bin/cat", "$(touch /tmp/x)"], "{}", 20).endswith("ended with 1")
+    assert "cannot be run" in run(["/nothing"], "{}", 20)
+    assert run(["/bin/true"], "x" * 10**6, 20) == ""
+
+
+def is_running(pid: int) -> bool:
+    try:
+        return "Z" not in Path(f"/proc/{pid}/stat").read_text().split(")")[1][:3]
+    except OSError:
+        return False
+
+
+class Room(HTTPServer):
+    """A chat server: what was posted to it."""
+
+    def __init__(self) -> None:
+        super().__init__(("127.0.0.1", 0), RoomHandler)
+        self.came: list[tuple[str, str, str, dict[str, str]]] = []
+        self.status = 200
+        threading.Thread(target=self.serve_forever, args=(0.05,), daemon=True).start()
+
+
+class RoomHandler(BaseHTTPRequestHandler):
+    def do_POST(self) -> None:
+        body = json.loads(self.rfile.read(int(self.headers["Content-Length"])))
+        assert isinstance(self.server, Room)
+        key = self.headers.get("Authorization", "")
+        self.server.came.append((self.command, self.path, key, body))
+        self.send_response(self.server.status)
+        self.end_headers()
+
+    do_PUT = do_POST
+
+    def log_message(self, format: str, *args: object) -> None:
+        pass
+
+
+ROOMS = {"mattermost": ("POST", "/hooks/secret"), "slack": ("POST", "/hooks/secret"),
+         "matrix": ("PUT", "/hooks/secret/" + "e" * 32)}  # fmt: skip
+
+
+@pytest.mark.parametrize("kind", ROOMS)
+def test_in_a_chat_room(tmp_path: Path, kind: str) -> None:
+    room, file, log = Room(), tmp_path / "hook", tmp_path / "words"
+    file.write_text(f"http://127.0.0.1:{room.server_port}/hooks/secret\ntoken-1\n")
+    curl = tmp_path / "curl"
+    curl.write_text(f'#!/bin/sh\necho "$@" >> {log}\nexec /usr/bin/curl "$@"\n')
+    curl.chmod(0o755)
+    event = {"id": "e" * 32, "event": "asked", "text": f"ann asks.\n  why  {HOSTILE}"}
+
+    def ran() -> int:
+        environment = {"PATH": f"{tmp_path}:{os.environ['PATH']}"}
+        return subprocess.run(
+            [WEBHOOK, kind, str(file)], input=json.dumps(event), text=True, env=environment,
+            timeout=60, check=False,
+        ).returncode  # fmt: skip
+
+    with contextlib.closing(room.socket):
+        assert ran() == 0
+        room.status = 500
+        assert ran() != 0
+        room.shutdown()
+    method, path, key, body = room.came[0]
+    assert (method, path) == ROOMS[kind]
+    assert (key == "Bearer token-1") == (kind == "matrix")
+    text = body["body" if kind == "matrix" else "text"]
+    assert "$(id)" in text and "\\n &" in text and "e" * 32 in text and "ann asks.\n" in text
+    assert "@all" not in text and "`id`" not in text
+    assert ("<!channel>" in text) == (kind != "slack")
+    assert "secret" not in log.read_text() and "token" not in log.read_text()
+
+
+BAD = ["", 'program = "mail"', 'program = ["mail"]', "program = [7]", 'program = ["/a"]\nx = 1',
+       'program = ["/a"]\nseconds = 0', 'program = ["/a"]\nlink = "a\\nb"']  # fmt: skip
+
+
+@pytest.mark.parametrize("text", BAD)
+def test_settings_that_are_none(quiet_site: Site, text: str) -> None:
+    with open(quiet_site.config, "a", encoding="ascii") as file:
+        file.write(f"[notify]\n{text}\n")
+    with pytest.raises(ValueError, match="notify"):
+        read_config(str(quiet_site.config))
+
+
+def test_nobody_is_told_of_what_was_before(quiet_site: Site) -> None:
+    outbox = Outbox(str(quiet_site.folder / "outbox.db"))
+    kept = outbox.keep_request("ann", WISH, AT)
+    outbox.answered(kept.id, "acked")
+    notices = Notices(outbox)
+    assert notices.untold() == [] and notices.past("20990101000000Z") == []
+    other = outbox.keep_request("ann", WISH, AT)
+    outbox.answered(other.id, "acked")
+    again = Notices(outbox)
+    assert [it.id for it in again.untold()] == [it.id for it in again.past("20990101000000Z")]
+    assert [it.id for it in again.untold()] == [other.id]
+    assert outbox.post_again() == 2 and again.untold() == []

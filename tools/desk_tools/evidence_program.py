@@ -1,0 +1,118 @@
+"""The program `desk-evidence`."""
+
+import argparse
+import os
+import re
+import shutil
+import sys
+import tempfile
+
+from desk_tools import evidence
+from desk_tools.evidence import Evidence, Failed, Period, periods, read
+from desk_tools.found import Parser, visible
+from desk_tools.judge import NoDesk, program
+
+MADE, FAILED = 0, 2
+READING = "second-reading.jq"
+# where it is: in a clone, and where it is installed
+PLACES = ("../../examples", "../../doc/steelnewt/examples")
+
+
+def moment(text: str) -> str:
+    if not re.fullmatch(r"\d{14}Z", text):
+        raise argparse.ArgumentTypeError("a moment is yyyymmddhhmmssZ")
+    return text
+
+
+def parser() -> argparse.ArgumentParser:
+    found = Parser(
+        "desk-evidence",
+        description="Puts together what an audit of a time rests on, with a manifest.",
+        epilog="Exit status: 0 the folder is made, 2 there is none.",
+    )
+    found.add_argument("folder", metavar="FOLDER", help="a new folder")
+    found.add_argument("first", type=moment, metavar="FROM", help="the first moment of the time")
+    found.add_argument("last", type=moment, metavar="UNTIL", help="the last one")
+    found.add_argument("--messages", required=True, metavar="FILE", help="all messages, one a line")
+    found.add_argument("--base", required=True, metavar="BASE", help="the base policy")
+    rosters = found.add_mutually_exclusive_group(required=True)
+    rosters.add_argument("--rosters", metavar="FOLDER", help="rosters, each named MOMENT.toml")
+    rosters.add_argument("--roster", metavar="ROSTER", help="the roster of the whole time")
+    said = "a log of sudo's, or a folder of logs (may be given again)"
+    found.add_argument("--log", action="append", default=[], metavar="[HOST=]LOG", help=said)
+    for name in ("--skew", "--zone", "--year"):
+        found.add_argument(name, metavar=name[2:].upper(), help="of the logs, as for desk-used")
+    found.add_argument("--key", metavar="KEY", help="sign the manifest with this key of ssh's")
+    found.add_argument("--desk", metavar="PROGRAM", help="the program desk (the one on the path)")
+    said = "the second reading (that of the examples)"
+    found.add_argument("--second-reading", metavar="FILE", help=said)
+    return found
+
+
+def reading(said: argparse.Namespace) -> str:
+    here = os.path.dirname(os.path.abspath(__file__))
+    paths = [os.path.join(here, it, READING) for it in PLACES]
+    for path in [said.second_reading] if said.second_reading else paths:
+        if os.path.exists(path):
+            return path
+    raise Failed(f"there is no {said.second_reading or READING}: --second-reading FILE")
+
+
+def rosters(said: argparse.Namespace) -> list[Period]:
+    if said.rosters:
+        return periods(said.rosters, said.first, said.last)
+    return [Period(said.first, read(said.roster), said.first, said.last)]
+
+
+def options(said: argparse.Namespace) -> list[str]:
+    """The words that are for desk-used."""
+    given = {name: getattr(said, name) for name in ("skew", "zone", "year")}
+    return [word for name, value in given.items() if value for word in (f"--{name}", value)]
+
+
+def made(said: argparse.Namespace) -> None:
+    """Fills a folder beside the one that is named, and renames it: there is never half of it."""
+    if said.last < said.first:
+        raise Failed("UNTIL is before FROM")
+    if os.path.lexists(said.folder):
+        raise Failed(f"{said.folder}: it is there already")
+    desk = program(said.desk)
+    messages = sorted({line for line in read(said.messages).splitlines() if line})
+    place = os.path.dirname(os.path.abspath(said.folder))
+    with tempfile.TemporaryDirectory(dir=place) as room:
+        folder = os.path.join(room, "evidence")
+        os.mkdir(folder, 0o700)
+        Evidence(
+            folder=folder,
+            first=said.first,
+            last=said.last,
+            messages=messages,
+            base=said.base,
+            desk=desk,
+            audit=evidence.program_beside(desk),
+            reading=reading(said),
+            logs=said.log,
+            log_options=options(said),
+        ).fill(rosters(said))
+        with open(os.path.join(room, "manifest"), "w", encoding="utf-8") as file:
+            file.write(evidence.manifest(folder))
+        shutil.move(file.name, os.path.join(folder, evidence.MANIFEST))
+        if said.key:
+            evidence.sign(folder, said.key)
+        os.rename(folder, said.folder)
+
+
+def main(words: list[str]) -> int:
+    said = parser().parse_args(words)
+    try:
+        made(said)
+    except (Failed, NoDesk) as fault:
+        why = str(fault)
+    except (ValueError, KeyError, TypeError) as fault:
+        why = f"the desk says something else than is expected: {fault}"
+    except OSError as fault:
+        why = f"{fault.filename}: {fault.strerror}"
+    else:
+        return MADE
+    print(f"desk-evidence: {visible(why)}", file=sys.stderr)
+    return FAILED

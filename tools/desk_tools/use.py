@@ -1,0 +1,326 @@
+"""Which runs of sudo's logs were by which grant, by the base, or by neither."""
+
+import calendar
+import re
+import time
+from array import array
+from bisect import bisect_right
+from collections.abc import Iterable, Iterator
+from dataclasses import dataclass, field
+from typing import Any, NamedTuple
+
+from desk_tools.decisions import Desk, Invocation, Policy, Question
+from desk_tools.found import visible
+from desk_tools.sudo_logs import Logs, Run, without_exits
+
+MOMENT = "%Y%m%d%H%M%SZ"
+# an argument with a space stands in quotes, since sudo 1.9.13
+WORD = re.compile(r" (?:'((?:[^'\\]|\\.)*)'(?= |\Z)|([^ ]*))", re.DOTALL)
+QUOTED = re.compile(r"\\([\\'])")
+QUOTES = str.maketrans({"\\": "\\\\", "'": "\\'"})
+CONTROL = re.compile(r"[\x00-\x1f\x7f]")
+# whom a grant's commands are asked about: its user, host and target are its own
+ASKER = Invocation("asker", "host", "target", "", ())
+ANY_TIME = "20000101000000Z"
+
+
+def seconds(moment: str) -> int:
+    return calendar.timegm(time.strptime(moment, MOMENT))
+
+
+def stamp(at: int) -> str:
+    return time.strftime(MOMENT, time.gmtime(at))
+
+
+@dataclass
+class Grant:
+    """A grant on one host, and what was run by it."""
+
+    by: str
+    no: int
+    host: str
+    runas: str
+    first: int
+    last: int
+    ceiling: str
+    commands: list[str]
+    asked_until: int
+    revoked: int | None
+    is_logged: bool = False
+    moments: list[int] = field(default_factory=list)
+    # by command: when it was run, and which files
+    used: dict[str, list[int]] = field(default_factory=dict)
+    ran: dict[str, set[str]] = field(default_factory=dict)
+
+    @property
+    def name(self) -> str:
+        return f"{self.by} {self.no}"
+
+
+def grants_of(audit: dict[str, Any]) -> list[Grant]:
+    """The windows by host of what `desk-audit --json` tells."""
+    names = {(it["by"], it["no"]): it for it in audit["names"]}
+    found = []
+    for window in audit["windows"]:
+        name = names[window["by"], window["no"]]
+        asked, last = name["requests"][0], seconds(window["until"])
+        revokes = [
+            seconds(it["verdict"]["at"])
+            for it in name["verdicts"]
+            if it["counts"] and it["verdict"]["kind"] == "revoke"
+        ]
+        found.append(
+            Grant(
+                by=name["by"],
+                no=name["no"],
+                host=window["host"],
+                runas=asked["runas"],
+                first=seconds(window["from"]),
+                last=last,
+                ceiling=asked["ceiling"],
+                commands=asked["cmnds"],
+                asked_until=seconds(asked["until"]),
+                revoked=min(revokes, default=None),
+            )
+        )
+    return found
+
+
+class Done(NamedTuple):
+    """What ran, whatever log has it."""
+
+    host: str
+    user: str
+    target: str
+    beside: str
+    path: str
+    args: tuple[str, ...]
+
+    @property
+    def shown(self) -> str:
+        """The command as sudo writes it, with nothing that a terminal obeys."""
+        return " ".join([escaped(self.path), *map(quoted, self.args)])
+
+    @property
+    def invocation(self) -> Invocation:
+        return Invocation(self.user, self.host, self.target, self.path, self.args)
+
+
+def escaped(text: str) -> str:
+    if text.isprintable():
+        return text
+    return visible(CONTROL.sub(lambda it: f"#0{ord(it[0]):o}", text))
+
+
+def quoted(word: str) -> str:
+    text = escaped(word.translate(QUOTES))
+    return f"'{text}'" if " " in text else text
+
+
+def done_of(run: Run) -> Done:
+    if isinstance(run.command, tuple):
+        path, *args = run.command
+        return Done(run.host, run.user, run.target, run.beside, path, tuple(args))
+    path, _, _ = run.command.partition(" ")
+    words = [
+        QUOTED.sub(r"\1", it[1] if it[1] is not None else it[2])
+        for it in WORD.finditer(run.command, len(path))
+    ]
+    return Done(run.host, run.user, run.target, run.beside, path, tuple(words))
+
+
+class Row(NamedTuple):
+    """Runs of one command on one ground."""
+
+    done: Done
+    ground: str  # grant, base, root or neither
+    grants: tuple[Grant, ...]
+    why: str
+    moments: list[int]
+
+
+class Late(NamedTuple):
+    """What ran after a grant was revoked that would have covered it."""
+
+    grant: Grant
+    done: Done
+    moments: list[int]
+
+
+class Span(NamedTuple):
+    first: int
+    last: int
+
+
+@dataclass
+class Use:
+    """The runs of the logs, and the grants that they are held against."""
+
+    desk: Desk
+    base: Policy
+    grants: list[Grant]
+    skew: int
+    done: dict[Done, array] = field(default_factory=dict)
+    rows: list[Row] = field(default_factory=list)
+    late: list[Late] = field(default_factory=list)
+    # the commands of a grant that cover a run, and the grants of a user, host and target
+    covered: dict[tuple[Done, int], list[str]] = field(default_factory=dict)
+    places: dict[tuple[str, str, str], list[int]] = field(default_factory=dict)
+
+    def take(self, logs: Logs, span: Span) -> None:
+        """The runs of the span, in the order of their words and moments."""
+        without_exits(logs)
+        merged: dict[Done, array] = {}
+        for run, moments in logs.runs.items():
+            merged.setdefault(done_of(Run(*run)), array("q")).extend(moments)
+        for done in sorted(merged):
+            kept = sorted(it for it in merged[done] if span.first <= it <= span.last)
+            if kept:
+                self.done[done] = array("q", kept)
+        spans = logs.spans()
+        for grant in self.grants:
+            first, last = spans.get(grant.host, (1, 0))
+            grant.is_logged = first <= grant.last and grant.first <= last
+
+    def judge(self) -> None:
+        self.cover()
+        left: list[tuple[Done, list[int]]] = []
+        for done, moments in self.done.items():
+            if done.user == "root":
+                self.rows.append(Row(done, "root", (), "", list(moments)))
+                continue
+            rest = self.by_grants(done, moments)
+            if rest:
+                left.append((done, rest))
+        self.otherwise(left)
+        self.after_revocations()
+
+    # ---- grants
+
+    def granted(self, commands: Iterable[str], done: Done) -> Question:
+        text = "".join(f"asker host = (target) {it}\n" for it in commands)
+        asked = ASKER._replace(path=done.path, args=done.args)
+        return Question(self.desk.policy(text), ANY_TIME, asked)
+
+    def cover(self) -> None:
+        """Which commands of which grants cover what ran: first of each grant whole."""
+        for place, grant in enumerate(self.grants):
+            self.places.setdefault((grant.by, grant.host, grant.runas), []).append(place)
+        pairs = [
+            (done, place)
+            for done in self.done
+            if not done.beside
+            for place in self.places.get((done.user, done.host, done.target), ())
+        ]
+        whole = (self.granted(self.grants[it].commands, done) for done, it in pairs)
+        answers = self.desk.answers(whole)
+        each = [
+            (it, command)
+            for it, is_covered in zip(pairs, answers, strict=True)
+            if is_covered
+            for command in self.grants[it[1]].commands
+        ]
+        answers = self.desk.answers(self.granted([command], it[0]) for it, command in each)
+        for (it, command), is_covered in zip(each, answers, strict=True):
+            if is_covered:
+                self.covered.setdefault(it, []).append(command)
+
+    def covering(self, done: Done) -> list[tuple[Grant, list[str]]]:
+        places = self.places.get((done.user, done.host, done.target), ())
+        return [
+            (self.grants[place], self.covered[done, place])
+            for place in places
+            if (done, place) in self.covered
+        ]
+
+    def by_grants(self, done: Done, moments: array) -> list[int]:
+        """Counts what ran by grants; what is left of the moments."""
+        covering = self.covering(done)
+        if not covering:
+            return list(moments)
+        by: dict[tuple[int, ...], list[int]] = {}
+        for at in moments:
+            places = [it for it, (grant, _) in enumerate(covering) if is_in(grant, at, 0)]
+            if not places:
+                near = enumerate(covering)
+                places = [it for it, (grant, _) in near if is_in(grant, at, self.skew)]
+            by.setdefault(tuple(places), []).append(at)
+        for places, found in by.items():
+            for grant, commands in (covering[it] for it in places):
+                grant.moments += found
+                for command in commands:
+                    grant.used.setdefault(command, []).extend(found)
+                    grant.ran.setdefault(command, set()).add(done.path)
+            if places:
+                grants = tuple(covering[it][0] for it in places)
+                self.rows.append(Row(done, "grant", grants, "", found))
+        return by.get((), [])
+
+    def after_revocations(self) -> None:
+        for done, moments in self.done.items():
+            for grant, _ in self.covering(done):
+                if grant.revoked is None:
+                    continue
+                first = bisect_right(moments, grant.last + self.skew)
+                late = list(moments[first : bisect_right(moments, grant.asked_until)])
+                if late:
+                    self.late.append(Late(grant, done, late))
+
+    # ---- the base
+
+    def of_base(self, done: Done, moments: list[int]) -> Iterator[tuple[Question, list[int]]]:
+        """A question for each period of the base, and the moments of it."""
+        if done.beside:
+            return
+        if not self.base.bounds:
+            yield Question(self.base, stamp(moments[0]), done.invocation), moments
+            return
+        periods: dict[int, list[int]] = {}
+        for at in moments:
+            periods.setdefault(self.base.period(stamp(at)), []).append(at)
+        for found in periods.values():
+            yield Question(self.base, stamp(found[0]), done.invocation), found
+
+    def otherwise(self, left: list[tuple[Done, list[int]]]) -> None:
+        """By the base, or by neither."""
+        asked = [
+            (done, it, found)
+            for done, rest in left
+            for it, found in self.of_base(done, rest)
+        ]
+        allowed: dict[Done, list[int]] = {}
+        answers = self.desk.answers(it for _, it, _ in asked)
+        for (done, _, found), is_allowed in zip(asked, answers, strict=True):
+            if is_allowed:
+                allowed.setdefault(done, []).extend(found)
+        for done, rest in left:
+            found = sorted(allowed.get(done, ()))
+            if found:
+                self.rows.append(Row(done, "base", (), "", found))
+            self.neither(done, rest, set(found))
+
+    def neither(self, done: Done, moments: list[int], allowed: set[int]) -> None:
+        reasons: dict[str, list[int]] = {}
+        for at in moments:
+            if at not in allowed:
+                reasons.setdefault(self.why(done, at), []).append(at)
+        for why, found in reasons.items():
+            self.rows.append(Row(done, "neither", (), why, found))
+
+    def why(self, done: Done, at: int) -> str:
+        """What a run by neither comes next to."""
+        if done.beside:
+            return f"no grant and no base gives {escaped(done.beside)}"
+        covering = [grant for grant, _ in self.covering(done)]
+        ended = [it for it in covering if it.last < at]
+        if ended:
+            return f"{max(ended, key=lambda it: it.last).name} was over"
+        coming = [it for it in covering if at < it.first]
+        if coming:
+            return f"{min(coming, key=lambda it: it.first).name} had not begun"
+        return ""
+
+
+def is_in(grant: Grant, at: int, skew: int) -> bool:
+    return grant.first - skew <= at <= grant.last + skew
+

@@ -1,0 +1,153 @@
+"""The program `desk-used`."""
+
+import argparse
+import json
+import re
+import sys
+import tempfile
+import tomllib
+import zoneinfo
+from typing import Any
+
+from desk_tools.decisions import Desk
+from desk_tools.found import Parser, visible
+from desk_tools.judge import NoDesk, program
+from desk_tools.narrower import proposals
+from desk_tools.standing import Standing, beyond
+from desk_tools.sudo_logs import Logs, files_of, read_log
+from desk_tools.use import Span, Use, grants_of, seconds, stamp
+from desk_tools.used_text import Told, json_of, text_of, told_of
+
+CLEAN, FOUND, FAILED = 0, 1, 2
+DAY = 86_400
+ENDLESS = 1 << 40
+NAMED = re.compile(r"([a-z][a-z0-9-]{0,31})=(.+)")
+
+
+class Failed(Exception):
+    """Why nothing can be told."""
+
+
+def moment(text: str) -> int:
+    """A moment among the words."""
+    if not re.fullmatch(r"\d{14}Z", text):
+        raise argparse.ArgumentTypeError("a moment is yyyymmddhhmmssZ")
+    return seconds(text)
+
+
+OPTIONS = (
+    ("--from", moment, "AT", "what ran since then"),
+    ("--until", moment, "AT", "what ran until then"),
+    ("--skew", int, "SECONDS", "how far a host's clock may be off (0)"),
+    ("--zone", str, "ZONE", "the zone of moments that name none (UTC)"),
+    ("--year", int, "YEAR", "the year of moments that name none (by the file's time)"),
+    ("--unused-for", int, "DAYS", "the base's rules that nobody used in so many days"),
+    ("--baseline", str, "FILE", "one case of what each user of the base has beyond this policy"),
+    ("--roster", str, "ROSTER", "propose narrower ceilings of this roster"),
+    ("--desk", str, "PROGRAM", "the program desk (the one on the path)"),
+)
+
+
+def parser() -> argparse.ArgumentParser:
+    found = Parser(
+        "desk-used",
+        description="Says which grants of a desk were used, by what sudo logged on the hosts.",
+        epilog="Exit status: 0 all is by a right, 1 something ran by no right or after a "
+        "revocation, or a line cannot be read, 2 nothing is told.",
+    )
+    for name, kind, metavar, said in OPTIONS:
+        found.add_argument(name, type=kind, metavar=metavar, help=said)
+    found.add_argument("--json", action="store_true", help="print JSON")
+    found.add_argument("audit", metavar="AUDIT", help="what desk-audit --json says; - is the input")
+    found.add_argument("base", metavar="BASE", help="the base policy")
+    found.add_argument("logs", metavar="[HOST=]LOG", nargs="+", help="a log, or a folder of logs")
+    return found
+
+
+def audit_of(path: str) -> dict[str, Any]:
+    try:
+        with open(0 if path == "-" else path, encoding="utf-8") as file:
+            told = json.load(file)
+        grants_of(told)
+    except (ValueError, KeyError, TypeError, RecursionError):
+        raise Failed(f"{path}: it is not what desk-audit --json prints") from None
+    return told
+
+
+def files_named(word: str) -> list[tuple[str, str]]:
+    """The files of a word [HOST=]LOG, each with its host."""
+    found = NAMED.fullmatch(word)
+    host, path = found.groups() if found else ("", word)
+    return [(host, name) for name in files_of(path)]
+
+
+def logs_of(said: argparse.Namespace) -> Logs:
+    try:
+        # (UTC needs no tzdata)
+        logs = Logs(zoneinfo.ZoneInfo(said.zone)) if said.zone else Logs()
+    except (zoneinfo.ZoneInfoNotFoundError, ValueError):
+        raise Failed(f"there is no zone {said.zone}") from None
+    for word in said.logs:
+        for host, path in files_named(word):
+            read_log(logs, path, host, said.year or 0)
+    return logs
+
+
+def last_of(logs: Logs) -> int:
+    return max((last for _, last in logs.spans().values()), default=0)
+
+
+def more_of(said: argparse.Namespace, use: Use, until: int) -> Told:
+    """What the options ask for besides."""
+    told: Told = {}
+    if said.unused_for is not None:
+        since = until - said.unused_for * DAY
+        standing = Standing(use)
+        standing.decided()
+        told |= {"unused_since": stamp(since), "unused_rules": standing.unused(since)}
+    if said.baseline:
+        told["beyond"] = list(beyond(use.desk, use.base.path, use.base, said.baseline))
+    if said.roster:
+        with open(said.roster, "rb") as file:
+            roster = tomllib.load(file)
+        told["ceilings"] = [
+            {
+                "ceiling": it.ceiling,
+                "grants": it.grants,
+                "unused": it.unused,
+                "no_log": it.unlogged,
+                "proposal": it.text,
+            }
+            for it in proposals(roster, use.grants, until)
+        ]
+    return told
+
+
+def used(said: argparse.Namespace) -> int:
+    audit, logs = audit_of(said.audit), logs_of(said)
+    until = last_of(logs) if said.until is None else said.until
+    since = getattr(said, "from") or 0
+    span = Span(since, ENDLESS if said.until is None else said.until)
+    with tempfile.TemporaryDirectory() as folder:
+        desk = Desk(program(said.desk), folder)
+        base = desk.policy(desk.canonical(said.base))
+        grants = [it for it in grants_of(audit) if it.first <= span.last and span.first <= it.last]
+        use = Use(desk, base, grants, said.skew or 0)
+        use.take(logs, span)
+        use.judge()
+        told = told_of(logs, use) | more_of(said, use, until)
+    sys.stdout.write(json_of(told) if said.json else text_of(told))
+    is_clean = not told["after_revocation"] and not logs.count_unread
+    return CLEAN if is_clean and all(it.ground != "neither" for it in use.rows) else FOUND
+
+
+def main(words: list[str]) -> int:
+    said = parser().parse_args(words)
+    try:
+        return used(said)
+    except (Failed, NoDesk, tomllib.TOMLDecodeError) as fault:
+        why = str(fault)
+    except OSError as fault:
+        why = f"{fault.filename}: {fault.strerror}"
+    print(f"desk-used: {visible(why)}", file=sys.stderr)
+    return FAILED

@@ -1,0 +1,162 @@
+"""desk-evidence: the same bytes each time, and what sha256sum and ssh-keygen say of them."""
+
+import csv
+import os
+import subprocess
+
+import pytest
+
+from tests.conftest import ROOT
+
+EXAMPLES = os.path.join(ROOT, "examples")
+SPAN = ("20260101000000Z", "20260331235959Z")
+CHANGED = "20260105093000Z"
+
+
+def run(*words, folder=None):
+    return subprocess.run(words, cwd=folder, capture_output=True, text=True, check=False)
+
+
+def checked(folder):
+    """What sha256sum says, of each file of the folder."""
+    ran = run("sha256sum", "-c", "--quiet", "--strict", "SHA256SUMS", folder=folder)
+    with open(os.path.join(folder, "SHA256SUMS"), encoding="utf-8") as file:
+        named = {line.split("  ", 1)[1].rstrip("\n") for line in file}
+    there = {
+        os.path.relpath(os.path.join(top, name), folder)
+        for top, _, names in os.walk(folder)
+        for name in names
+    }
+    assert named == there - {"SHA256SUMS", "SHA256SUMS.sig"}
+    return ran.returncode == 0
+
+
+def bytes_of(folder):
+    found = {}
+    for top, _, names in os.walk(folder):
+        for name in names:
+            with open(os.path.join(top, name), "rb") as file:
+                found[os.path.relpath(os.path.join(top, name), folder)] = file.read()
+    return found
+
+
+@pytest.fixture
+def evidence(desk, tmp_path):
+    """Makes a folder of the examples, with these words besides."""
+    rosters = tmp_path / "rosters"
+    rosters.mkdir()
+    with open(os.path.join(EXAMPLES, "roster.toml"), encoding="utf-8") as file:
+        text = file.read()
+    # at half past nine bob loses his duty
+    (rosters / "20250101000000Z.toml").write_text(text)
+    (rosters / f"{CHANGED}.toml").write_text(text.replace('bob = ["approve-db"]', "bob = []"))
+    (rosters / "20270101000000Z.toml").write_text("later")
+
+    def make(name, *words, messages="audited.messages", span=SPAN):
+        folder = str(tmp_path / name)
+        program = os.path.join(ROOT, "tools", "desk-evidence")
+        given = ["--messages", os.path.join(EXAMPLES, messages), "--desk", desk]
+        given += ["--base", os.path.join(EXAMPLES, "site.sudo"), "--rosters", str(rosters)]
+        return folder, run(program, folder, *span, *given, *words)
+
+    return make
+
+
+def test_twice_the_same(evidence, tmp_path):
+    """Signed, with logs, over two rosters, of messages in another order: byte for byte."""
+    key, log = str(tmp_path / "key"), f"db1={EXAMPLES}/used.log"
+    assert not run("ssh-keygen", "-q", "-t", "ed25519", "-N", "", "-f", key).returncode
+    with open(os.path.join(EXAMPLES, "audited.messages"), encoding="utf-8") as file:
+        lines = file.read().splitlines(keepends=True)
+    turned = tmp_path / "turned"
+    turned.write_text("".join([*reversed(lines), lines[0]]))
+    first, ran = evidence("first", "--log", log, "--key", key)
+    assert ran.returncode == 0, ran
+    second, ran = evidence("second", "--log", log, "--key", key, messages=str(turned))
+    assert ran.returncode == 0 and bytes_of(first) == bytes_of(second), ran
+    assert checked(first)
+    signers = tmp_path / "signers"
+    with open(f"{key}.pub", encoding="ascii") as file:
+        signers.write_text(f"auditor {file.read()}")
+    verify = ["ssh-keygen", "-Y", "verify", "-f", str(signers), "-I", "auditor"]
+    verify += ["-n", "desk-evidence", "-s", f"{first}/SHA256SUMS.sig"]
+    manifest = bytes_of(first)["SHA256SUMS"]
+    assert subprocess.run(verify, input=manifest, capture_output=True).returncode == 0
+    assert subprocess.run(verify, input=manifest + b"\n", capture_output=True).returncode != 0
+    for name in bytes_of(first):
+        if name.startswith("SHA256SUMS") or not os.path.getsize(f"{first}/{name}"):
+            continue
+        with open(f"{first}/{name}", "r+b") as file:
+            byte = file.read(1)[0]
+            file.seek(0)
+            file.write(bytes([byte ^ 1]))
+        assert not checked(first), name
+        with open(f"{first}/{name}", "r+b") as file:
+            file.write(bytes([byte]))
+    assert checked(first)
+
+
+def test_each_roster_has_its_time(evidence):
+    folder, ran = evidence("made", "--log", f"db1={EXAMPLES}/used.log")
+    assert ran.returncode == 0, ran
+    found = bytes_of(folder)
+    names = {name.split("/")[0] for name in found if "/" in name}
+    assert names == {"20250101000000Z", CHANGED}
+    assert found["20250101000000Z/until.report"].startswith(b"REVIEW 20260105092959Z\nLIVE\nann ")
+    assert found[f"{CHANGED}/from.report"].startswith(b"REVIEW 20260105093000Z\nLIVE\nBARRED\n")
+    for name in names:
+        assert found[f"{name}/comparison"] == (
+            b"the statuses are the same\nall messages are told\n"
+        ), name
+        assert found[f"{name}/statuses"] == found[f"{name}/second"]
+    rows = list(csv.DictReader(found["grants.csv"].decode().splitlines()))
+    assert [(it["roster"], it["who"], it["approvers"], it["used"]) for it in rows] == [
+        ("20250101000000Z", "ann", "bob", "used")
+    ]
+    assert rows[0]["commands"] == "/usr/bin/id, /usr/bin/systemctl restart postgresql"
+
+
+def test_without_logs_and_of_one_roster(evidence, desk):
+    other = os.path.join(EXAMPLES, "roster.toml")
+    folder, ran = evidence("made", "--roster", other)
+    assert ran.returncode == 2 and "not allowed with" in ran.stderr and not os.path.exists(folder)
+    program = os.path.join(ROOT, "tools", "desk-evidence")
+    words = [program, folder, *SPAN, "--roster", other, "--desk", desk]
+    words += ["--messages", f"{EXAMPLES}/audited.messages", "--base", f"{EXAMPLES}/site.sudo"]
+    assert run(*words).returncode == 0
+    assert b",bob,\n" in bytes_of(folder)["grants.csv"] and "logs" not in bytes_of(folder)
+
+
+def test_a_second_reading_that_differs(evidence, tmp_path):
+    """It is said so: here it takes no refusal of a second approval by one person."""
+    with open(os.path.join(EXAMPLES, "second-reading.jq"), encoding="utf-8") as file:
+        text = file.read()
+    wrong = tmp_path / "wrong.jq"
+    wrong.write_text(text.replace(".by != $asker and ", ""))
+    assert wrong.read_text() != text
+    messages = tmp_path / "messages"
+    own = '{"at":"20260105071000Z","by":"carol","kind":"approve","no":1,"of":"carol"}\n'
+    with open(os.path.join(EXAMPLES, "audited.messages"), encoding="utf-8") as file:
+        messages.write_text(file.read() + own)
+    folder, ran = evidence("made", "--second-reading", str(wrong), messages=str(messages))
+    assert ran.returncode == 0, ran
+    found = bytes_of(folder)
+    assert found["20250101000000Z/comparison"].startswith(b"THE STATUSES DIFFER\n"), found
+
+
+def test_what_is_refused(evidence, tmp_path):
+    """Nothing is made by halves, and nothing is written over."""
+    (tmp_path / "there").mkdir()
+    for name, words, span, said in (
+        ("there", (), SPAN, "it is there already"),
+        ("a", (), ("20240101000000Z", SPAN[1]), "it has no roster"),
+        ("a", (), (SPAN[1], SPAN[0]), "UNTIL is before FROM"),
+        ("a", ("--base", "/nowhere"), SPAN, "/nowhere"),
+        ("a", ("--log", "/nowhere"), SPAN, "/nowhere"),
+        ("a", ("--key", "/nowhere"), SPAN, "ssh-keygen: "),
+        ("a", ("--second-reading", "/nowhere"), SPAN, "there is no /nowhere"),
+    ):
+        before = sorted(os.listdir(tmp_path))
+        _, ran = evidence(name, *words, span=span)
+        assert ran.returncode == 2 and said in ran.stderr, (words, ran)
+        assert sorted(os.listdir(tmp_path)) == before, words

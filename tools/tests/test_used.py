@@ -1,0 +1,407 @@
+"""desk-used by its words: what it reads of sudo's logs, and what it tells of grants and of the
+base. Beside real runs of sudo: beside_sudo_logs.py."""
+
+import gzip
+import json
+import os
+import random
+import resource
+import subprocess
+import sys
+import tomllib
+
+import jsonschema
+import pytest
+
+from desk_tools.decisions import Desk, Invocation, Question
+from desk_tools.sudo_logs import Logs, Run, read_log, without_exits
+from desk_tools.use import done_of, grants_of, seconds
+from tests.conftest import ROOT
+
+BESIDE = os.path.join(ROOT, "tools", "tests", "beside_sudo_logs.py")
+EXAMPLES = os.path.join(ROOT, "examples")
+ROSTER, BASE = (os.path.join(EXAMPLES, it) for it in ("roster.toml", "site.sudo"))
+# the window of ann 7 on db1, which was revoked, is from 09:15:00 to 10:29:59
+WAS = "TTY=pts/0 ; PWD=/ ; USER=root ; COMMAND=/usr/bin/id -u"
+HEADS = (
+    "2026-01-05T09:20:00+00:00 db1 sudo:      ann : ",
+    "2026-01-05T10:20:00.123456+01:00 db1 sudo[12]: ann : ",
+    "2026-01-05T10:20:00+0100 db1.example.org sudo[12]: ann : ",
+    "Jan  5 09:20:00 DB1 sudo:   ann : ",
+    "<85>Jan  5 09:20:00 db1 sudo:      ann : ",
+    "<85>1 2026-01-05T09:20:00.5Z db1 sudo 123 - - ann : ",
+    "Jan  5 09:20:00 2026 : ann : HOST=db1 ; ",
+)
+# lines that are nobody's use of a right
+NO_USE = (
+    ("Jan  5 09:20:00 db1 sshd[3]: sudo: ann : ", 0),
+    ("Jan  5 09:20:00 db1 sudo: ann : command not allowed ; ", 0),
+    ("Jan  5 09:20:00 db1 sudo: ann b : ", 1),
+    ("Jan  5 09:20:00 db1 sudo: ann : (command continued) ", 1),
+    ("Jan  5 09:20:00 2026 : ann : ", 1),
+    ("ann : ", 1),
+    ("Feb 30 09:20:00 2026 : ann : HOST=db1 ; ", 1),
+    ("Jan  5 09:20:00 db1 sudo: ann : PWD=/x ; USER=op ; COMMAND=/bin/a ; ", 1),
+    ("Jan  5 09:20:00 db1 sudo: ann : PWD=/x ; USER=op ; ENV=y ; ", 1),
+)
+EVENT = {
+    "server_time": {"seconds": seconds("20260105092000Z")},
+    "submit_time": {"seconds": seconds("20260105091900Z")},
+    "submituser": "ann",
+    "command": "/usr/bin/id",
+    "runuser": "root",
+    "submithost": "db1",
+    "runargv": ["id", "-u"],
+}
+ENTRY = {
+    "__REALTIME_TIMESTAMP": f"{seconds('20260105092000Z')}000000",
+    "_HOSTNAME": "db1",
+    "SYSLOG_IDENTIFIER": "sudo",
+    "MESSAGE": f"     ann : {WAS}",
+}
+OBJECTS = (
+    ({"accept": EVENT}, 0),
+    ({"sudo": {"accept": EVENT}}, 0),
+    (ENTRY, 0),
+    (ENTRY | {"MESSAGE": list(ENTRY["MESSAGE"].encode()), "_EXE": "/usr/bin/sudo"}, 0),
+    (ENTRY | {"MESSAGE": "@cee:" + json.dumps({"sudo": {"accept": EVENT}})}, 0),
+    (ENTRY | {"_EXE": "/tmp/sudo"}, 1),
+    ({"accept": EVENT | {"submituser": 7}}, 1),
+    ({"accept": 7}, 1),
+    ({"what": EVENT}, 1),
+    ({"reject": EVENT}, 0),
+)
+
+
+def pretty(*events):
+    """A file of sudo's JSON."""
+    texts = [json.dumps({kind: event}, indent=4)[2:-2] for kind, event in events]
+    return "{\n" + ",\n".join(texts) + "\n}\n"
+
+
+def read(path, text, host="", year=2026):
+    path.write_bytes(text if isinstance(text, bytes) else text.encode())
+    logs = Logs()
+    read_log(logs, str(path), host, year)
+    without_exits(logs)
+    return logs
+
+
+def ran(logs):
+    return [(done_of(Run(*it)), list(at)) for it, at in logs.runs.items()]
+
+
+@pytest.fixture
+def audit(desk, tmp_path):
+    """What desk-audit tells of the examples."""
+    folder, name = os.path.split(desk)
+    program = os.path.join(folder, name.replace("desk", "desk-audit", 1))
+    with open(os.path.join(EXAMPLES, "audited.messages"), "rb") as file:
+        words = [program, ROSTER, BASE, "-", "--json"]
+        told = subprocess.run(words, stdin=file, capture_output=True)
+    path = tmp_path / "audit.json"
+    path.write_bytes(told.stdout)
+    return str(path)
+
+
+@pytest.fixture
+def used(desk, audit, tmp_path):
+    """What desk-used tells of a log, as JSON, and its status."""
+
+    def run(text, *options, base=BASE):
+        log = tmp_path / "told.log"
+        log.write_bytes(text if isinstance(text, bytes) else text.encode())
+        words = [os.path.join(ROOT, "tools", "desk-used"), "--desk", desk, "--json", "--year=2026"]
+        ran = subprocess.run([*words, *options, audit, base, str(log)], capture_output=True)
+        assert not ran.stderr, ran.stderr
+        return json.loads(ran.stdout), ran.returncode
+
+    return run
+
+
+def test_each_form_of_a_line(tmp_path):
+    for head in HEADS:
+        logs = read(tmp_path / "log", f"{head}{WAS}\n")
+        ((done, moments),) = ran(logs)
+        assert done[:3] == ("db1", "ann", "root") and done[4:] == ("/usr/bin/id", ("-u",)), head
+        assert moments == [seconds("20260105092000Z")] and not logs.unread, head
+    for head, unread in NO_USE:
+        logs = read(tmp_path / "log", f"{head}{WAS}\n")
+        assert not logs.runs and logs.count_unread == unread, (head, logs)
+    for told, unread in OBJECTS:
+        logs = read(tmp_path / "log", json.dumps(told) + "\n")
+        assert len(logs.runs) == (not unread and "reject" not in told), told
+        assert logs.count_unread == unread, told
+
+
+def test_a_log_server_may_be_late(tmp_path):
+    late = EVENT | {"peeraddr": "10.0.0.1", "server_time": {"seconds": seconds("20260107000000Z")}}
+    logs = read(tmp_path / "log", pretty(("accept", EVENT), ("accept", late)))
+    moments = [seconds("20260105092000Z"), seconds("20260105091900Z")]
+    assert [at for _, at in ran(logs)] == [moments]
+
+
+def test_a_log_that_is_cut_anywhere(tmp_path):
+    """It never has a run that the whole log has not, and says what it lost."""
+    classic = "".join(f"{head}{WAS}{no}\n" for no, head in enumerate(HEADS))
+    wrapped = "Jan  5 09:20:00 2026 : ann : HOST=db1 ; PWD=/ ; USER=root ;\n    COMMAND=/bin/id a\n"
+    events = pretty(*[("accept", EVENT | {"runargv": ["id", str(no)]}) for no in range(3)])
+    for text in (classic, wrapped * 2, events):
+        whole = read(tmp_path / "log", text)
+        assert not whole.unread
+        for cut in range(0, len(text), 11):
+            parts = [read(tmp_path / "log", it) for it in (text[:cut], text[cut:])]
+            found = {run for it in parts for run in it.runs}
+            assert found <= set(whole.runs), (text[:cut], found)
+            count = sum(len(at) for it in parts for at in it.runs.values())
+            is_whole = count == sum(map(len, whole.runs.values()))
+            assert is_whole or any(it.count_unread for it in parts), text[:cut]
+
+
+def test_random_bytes_are_read(tmp_path):
+    """A damaged log never stops the reader."""
+    rng = random.Random(5)
+    texts = [pretty(("accept", EVENT)), "".join(f"{it}{WAS}\n" for it in HEADS)]
+    texts += [json.dumps(told) + "\n" for told, _ in OBJECTS]
+    for _ in range(600):
+        data = bytearray(rng.choice(texts).encode())
+        for _ in range(rng.randint(1, 9)):
+            data[rng.randrange(len(data))] = rng.choice(b"\x00\xff\n\\\"'{}[]: ;=0a\x1b")
+        read(tmp_path / "log", bytes(data))
+
+
+def test_rotated_logs(tmp_path, used, desk, audit):
+    """A folder of them, packed and not, one of them cut off."""
+    folder = tmp_path / "logs"
+    folder.mkdir()
+    (folder / "sudo.log").write_text(f"{HEADS[0]}{WAS}\n")
+    packed = gzip.compress(f"{HEADS[1]}{WAS} 2\n".encode() * 9)
+    (folder / "sudo.log.2.gz").write_bytes(packed)
+    (folder / "sudo.log.3.gz").write_bytes(packed[:-12])
+    words = [os.path.join(ROOT, "tools", "desk-used"), "--desk", desk, "--json", audit, BASE]
+    ran = subprocess.run([*words, f"db1={folder}"], capture_output=True, text=True)
+    told = json.loads(ran.stdout)
+    assert ran.returncode == 1 and told["logs"]["files"] == 3, ran
+    (lost,) = told["logs"]["unread_lines"]
+    assert lost["file"].endswith("3.gz") and "damaged" in lost["why"], lost
+    assert told["grants"][0]["runs"] >= 10, told
+
+
+def test_the_year_and_the_zone(tmp_path, used):
+    line = f"Jan  5 10:20:00 db1 sudo: ann : {WAS}\n"
+    told, _ = used(line, "--zone", "Europe/Berlin")
+    assert told["runs"][0]["first"] == "20260105092000Z" and told["runs"][0]["ground"] == "grant"
+    path = tmp_path / "old"
+    path.write_text(line)
+    os.utime(path, (seconds("20240110000000Z"),) * 2)
+    logs = Logs()
+    read_log(logs, str(path), "", 0)
+    assert [list(it) for it in logs.runs.values()] == [[seconds("20240105102000Z")]]
+
+
+def line(at, text, user="ann", host="db1"):
+    day = f"{at[:4]}-{at[4:6]}-{at[6:8]}T{at[8:10]}:{at[10:12]}:{at[12:14]}Z"
+    return f"{day} {host} sudo: {user} : PWD=/ ; USER={text}\n"
+
+
+def test_windows_and_clocks(used):
+    """The window's bounds belong to it; a clock that is off is borne with --skew."""
+    ids = "root ; COMMAND=/usr/bin/id"
+    at = ("20260105091459Z", "20260105091500Z", "20260105102959Z", "20260105103000Z")
+    text = "".join(line(it, ids) for it in at)
+    told, status = used(text)
+    assert sorted((it["ground"], it["runs"]) for it in told["runs"]) == [
+        ("grant", 2),
+        ("neither", 1),
+        ("neither", 1),
+    ]
+    assert sorted(it["why"] for it in told["runs"] if it["ground"] == "neither") == [
+        "ann 7 had not begun",
+        "ann 7 was over",
+    ]
+    assert status == 1 and [it["first"] for it in told["after_revocation"]] == [at[3]]
+    told, status = used(text, "--skew", "1")
+    assert [it["ground"] for it in told["runs"]] == ["grant"] and status == 0
+    told, _ = used(text, "--from", at[1], "--until", at[1])
+    assert [(it["runs"], it["first"]) for it in told["runs"]] == [(1, at[1])]
+
+
+def test_grounds(used):
+    """The base, another target, another's name in capitals, a group, and root itself."""
+    at = "20260105092000Z"
+    rows = (
+        ("dba", "postgres ; COMMAND=/usr/bin/psql -c 'select 1'", "base"),
+        ("dba", "root ; COMMAND=/usr/bin/psql", "neither"),
+        ("ann", "postgres ; COMMAND=/usr/bin/id", "neither"),
+        ("ANN", "root ; COMMAND=/usr/bin/id", "neither"),
+        ("dba", "postgres ; GROUP=daemon ; COMMAND=/usr/bin/who", "neither"),
+        ("ann", "root ; COMMAND=/usr/bin/systemctl restart postgresql", "grant"),
+        ("ann", "root ; COMMAND=/usr/bin/systemctl restart postgresql -f", "neither"),
+        ("ann", "root ; COMMAND=/usr/bin/systemctl 'restart postgresql'", "grant"),
+        ("root", "postgres ; COMMAND=/usr/bin/x", "root"),
+    )
+    text = "".join(line(at, text, user) for user, text, _ in rows)
+    told, status = used(text + line(at, "root ; COMMAND=list /usr/bin/id"))
+    found = {(it["by"], it["runas"], it["command"]): it["ground"] for it in told["runs"]}
+    wanted = {
+        (user, text.split(" ; ")[0], text.partition("COMMAND=")[2]): ground
+        for user, text, ground in rows
+    }
+    assert found == wanted and status == 1
+    assert used(line(at, rows[0][1], rows[0][0]))[1] == 0
+
+
+def test_a_grant_without_a_log_is_not_unused(used):
+    told, _ = used(line("20260105092000Z", "root ; COMMAND=/usr/bin/id", host="web1"))
+    assert [it["status"] for it in told["grants"]] == ["no log"]
+    told, _ = used(line("20260105092000Z", "root ; COMMAND=/usr/bin/ls"))
+    assert [it["status"] for it in told["grants"]] == ["unused"]
+    assert told["grants"][0]["never"] == ["/usr/bin/id", "/usr/bin/systemctl restart postgresql"]
+
+
+def test_hostile_words(used):
+    """Whatever a user writes, nothing that a terminal obeys is printed."""
+    event = EVENT | {"runargv": ["id", "\x1b[2J", "a\nb", "\u202e", "\x9b", "\udcff"]}
+    event |= {"submituser": "an\x1bn", "submithost": "db\x071"}
+    text = pretty(("accept", event), ("accept", EVENT))
+    told, status = used(text.encode("utf-8", "surrogateescape"))
+    assert told["runs"] and all(it["command"].isprintable() for it in told["runs"])
+    assert all(it["by"].isprintable() and it["host"].isprintable() for it in told["runs"])
+
+
+def test_json_is_by_its_schema(used):
+    with open(os.path.join(ROOT, "tools", "schemas", "used.schema.json"), "rb") as file:
+        schema = json.load(file)
+    options = ("--unused-for", "30", "--baseline", "/dev/null", "--roster", ROSTER)
+    for text in ("", "no log\n", line("20260105103000Z", "root ; COMMAND=/usr/bin/id -u")):
+        told, _ = used(text, *options)
+        jsonschema.validate(told, schema)
+    with pytest.raises(jsonschema.ValidationError):
+        jsonschema.validate(told | {"runs": [{}]}, schema)
+
+
+def test_standing_rights(used, tmp_path):
+    """Which rule decided, by the last one that speaks; and what each user has beyond none."""
+    listed = "ann db1 = (root) /usr/bin/ls"
+    rules = ["OPS ALL = (op) ALL", listed, f"{listed} -l", "ann db1 = !/bin/x"]
+    base = tmp_path / "base.sudo"
+    base.write_text("User_Alias OPS = olga, omar\n" + "".join(f"{it}\n" for it in rules))
+    text = line("20260105092000Z", "root ; COMMAND=/usr/bin/ls -l")
+    text += line("20251105092000Z", "op ; COMMAND=/usr/bin/x", user="olga")
+    options = ("--unused-for", "30", "--baseline", "/dev/null")
+    told, _ = used(text, *options, base=str(base))
+    assert told["unused_rules"] == [
+        {"rule": rules[0], "last": "20251105092000Z"},
+        {"rule": rules[1]},
+    ]
+    found = {it["user"]: it.get("witness") for it in told["beyond"]}
+    assert found.pop("other0") is None and list(found) == ["ann", "olga", "omar"]
+    assert found["ann"] == "ann db1 root 19700101000000Z /usr/bin/ls", found
+
+
+def test_a_narrower_ceiling(used, lint, tmp_path):
+    """The proposal, in the ceiling's place, is a roster without faults."""
+    text = line("20260105092000Z", "root ; COMMAND=/usr/bin/id")
+    options = ("--roster", ROSTER, "--until", "20260201000000Z")
+    (told,) = used(text, *options)[0]["ceilings"]
+    assert (told["grants"], told["unused"], told["no_log"]) == (1, 0, 0)
+    ceiling = tomllib.loads(told["proposal"])["ceilings"]["db-care"]
+    assert (ceiling["hosts"], ceiling["runas"]) == (["db1"], ["root"])
+    assert ceiling["commands"] == ["/usr/bin/id"] and ceiling["longest"] == 7200
+    with open(ROSTER, encoding="utf-8") as file:
+        head, _, rest = file.read().partition("[ceilings.db-care]")
+    made = tmp_path / "roster.toml"
+    after = rest[rest.index("[ceilings.db-emergency]") :]
+    made.write_text(head + told["proposal"] + after)
+    assert lint(str(made)).returncode == 0, lint(str(made)).stdout
+    text = line("20260105092000Z", "root ; COMMAND=/bin/x")
+    (told,) = used(text, *options)[0]["ceilings"]
+    assert told["proposal"].startswith("# No grant of db-care was used")
+
+
+def test_what_stands_for_others_is_decided_alike(desk, tmp_path):
+    """A word that a policy does not have is decided as any other such word."""
+    program, rng = Desk(desk, str(tmp_path)), random.Random(4)
+    policy = program.policy(program.canonical(os.path.join(EXAMPLES, "team.sudo")))
+    users, hosts, targets = ("olga", "omar", "kim"), ("db1", "web2", "mail"), ("root", "www", "op")
+    paths = ("/usr/bin/uptime", "/usr/bin/systemctl", "/usr/local/sbin/x", "/usr/local/sbin", "/x")
+    args = ((), ("-n", "50"), ("restart", "nginx"), ("-x", "a,b"))
+    rows = [
+        ("olga", "mail", "root", "/usr/local/sbin/any", ("-x",)),
+        ("omar", "mail", "www", "/usr/bin/uptime", ()),
+        ("omar", "mail", "www", "/usr/bin/uptime", ("-x",)),
+        ("olga", "web2", "root", "/usr/bin/systemctl", ("restart", "nginx")),
+        *(map(rng.choice, (users, hosts, targets, paths, args)) for _ in range(12)),
+    ]
+    seen = set()
+    for row in rows:
+        asked = Invocation(*row)
+        question = Question(policy, "20260105092000Z", asked)
+        answer = program.decide(question)
+        assert answer == program.decide(question._replace(asked=policy.general(asked))), asked
+        seen.add(answer)
+    assert seen == {True, False}
+
+
+def test_wrong_words(desk, audit, tmp_path):
+    words = [os.path.join(ROOT, "tools", "desk-used"), "--desk", desk]
+    log = tmp_path / "log"
+    log.write_text("")
+    for rest, said in (
+        ([BASE, BASE, str(log)], "it is not what desk-audit --json prints"),
+        ([audit, audit, str(log)], "audit.json: S"),
+        ([audit, BASE, "/nowhere\x1b"], "/nowhere\\x1b: No such file"),
+        (["--zone", "Mars/Base", audit, BASE, str(log)], "there is no zone Mars/Base"),
+        (["--baseline", "/nowhere", audit, BASE, str(log)], "/nowhere: F1"),
+        (["--from", "2026", audit, BASE, str(log)], "a moment is"),
+        (["--desk", "/nowhere", audit, BASE, str(log)], "there is no program /nowhere"),
+    ):
+        ran = subprocess.run([*words, *rest], capture_output=True, text=True)
+        assert ran.returncode == 2 and not ran.stdout and said in ran.stderr, (rest, ran)
+
+
+def test_a_hundred_thousand_lines(desk, audit, tmp_path):
+    """As many lines take a tenth of what a million may: three seconds, on a machine that is not
+    busy with others; and a busy one takes twice that."""
+    log = tmp_path / "log"
+    with open(log, "w", encoding="ascii") as file:
+        for no in range(100_000):
+            second, minute = no % 60, no // 60 % 60
+            head = f"2026-01-05T{9 + no % 3:02}:{minute:02}:{second:02}Z db{1 + no % 2} sudo: "
+            file.write(f"{head}{'dba' if no % 3 else 'ann'} : TTY=pts/{no % 9} ; PWD=/home ; ")
+            file.write(f"USER={'postgres' if no % 3 else 'root'} ; ")
+            file.write(f"COMMAND=/usr/bin/id {no % 999}\n")
+    words = [os.path.join(ROOT, "tools", "desk-used"), "--desk", desk, "--json", audit, BASE]
+    before = resource.getrusage(resource.RUSAGE_CHILDREN).ru_utime
+    ran = subprocess.run([*words, str(log)], capture_output=True)
+    took = resource.getrusage(resource.RUSAGE_CHILDREN).ru_utime - before
+    told = json.loads(ran.stdout)
+    print(f"100,000 lines: {took:.1f} s")
+    assert sum(it["runs"] for it in told["runs"]) == 100_000 and took < 10, took
+
+
+def test_beside_sudo(desk):
+    """Real runs on two hosts, in each way that sudo logs."""
+    ran = subprocess.run([sys.executable, BESIDE], capture_output=True, text=True)
+    print(ran.stdout[-300:])
+    assert ran.returncode == 0, ran.stdout[-6000:] + ran.stderr[-2000:]
+
+
+def test_grants_are_those_of_the_audit(audit):
+    with open(audit, encoding="utf-8") as file:
+        (grant,) = grants_of(json.load(file))
+    assert (grant.by, grant.no, grant.revoked) == ("ann", 7, seconds("20260105103000Z"))
+
+
+def test_a_command_that_syslog_splits(tmp_path):
+    """Its pieces are joined, whatever comes between of others; a piece alone is no run."""
+    text = line("20260105092000Z", "root ; COMMAND=/usr/bin/id a").rstrip("\n")
+    more = text.partition(" : ")[0] + " : (command continued) "
+    other = line("20260105092001Z", "root ; COMMAND=/usr/bin/id x", user="kim")
+    whole = line("20260105092002Z", "root ; COMMAND=/usr/bin/id")
+    pieces = f"{more}b c\n{more}{'d' * 950}\n{more}d e\n"
+    logs = read(tmp_path / "log", f"{text}\n{other}{pieces}{whole}")
+    found = {done.args for done, _ in ran(logs) if done.user == "ann"}
+    assert found == {("a", "b", "c", "d" * 951, "e"), ()} and not logs.unread, found
+    logs = read(tmp_path / "log", f"{whole}{text} ; COMMAND=/bin/x\n{more}b\n{more}c\n")
+    assert len(logs.runs) == 1 and logs.count_unread == 1, logs
