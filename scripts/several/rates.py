@@ -89,13 +89,12 @@ def measure(bench: Bench, posts: list[Post]) -> None:
     """Starts one desk after the other, and tells the rates, each of a third of the messages."""
     # (a desk that has a message already would be waited for in vain)
     posts = list({post.body: post for post in posts}.values())
-    each = len(posts) // len(NAMES)
     for count in range(1, len(NAMES) + 1):
         bench.define(NAMES[:count])
         name = NAMES[count - 1]
         bench.new_desk(name).start()
         bench.new_consumer(name).start()
-        some = posts[(count - 1) * each : count * each]
+        some = posts[count - 1 :: len(NAMES)]  # (each post is in one part: all are waited for)
         if count == 1:
             bench.tell(f"a desk alone: {alone(bench, some):.0f} messages a second")
         tell_rates(bench, some, f"{count} desks")
