@@ -1,7 +1,7 @@
 //! Listening, and what is said as a service begins and ends.
 
 use crate::log::Log;
-use crate::service::{Service, events};
+use crate::service::{End, Service, events};
 use crate::socket::{At, listen};
 use desk::{Desk, Keeper};
 use desk_commands::Address;
@@ -50,12 +50,17 @@ impl fmt::Display for Warning<'_> {
 
 /// Why a service ended, as a line.
 #[derive(Clone, Copy)]
-struct Ended<'a>(&'a io::Result<()>);
+struct Ended<'a>(&'a io::Result<End>);
 
 impl fmt::Display for Ended<'_> {
     fn fmt<W: fmt::Write>(&self, f: &mut fmt::Formatter<W>) -> fmt::Result {
         match self.0 {
-            Ok(()) => f.write_str("ended: all connections that were asked for are served"),
+            Ok(End::Served) => {
+                f.write_str("ended: all connections that were asked for are served")
+            }
+            Ok(End::StorageFailed) => {
+                f.write_str("ended: the storage failed, and is to be opened again")
+            }
             Err(error) => write!(f, "ended: {error}"),
         }
     }
@@ -73,15 +78,16 @@ fn count<K: Keeper>(desk: &mut Desk<K>) -> Option<usize> {
 /// It prints `listening` and the address, once it listens there. On the standard error it says what
 /// it serves, with the digest of the roster; a warning where the address has a port; each 503
 /// that is answered; each connection that is let go before its reply is out; and why it ended. It
-/// fails where the address cannot be listened at, where nothing can be printed, and where a
-/// connection cannot be accepted though no other is open.
+/// ends once the desk's storage is shut after a failure, since the desk would answer nothing any
+/// more. It fails where the address cannot be listened at, where nothing can be printed, and where
+/// a connection cannot be accepted though no other is open.
 pub(crate) fn serve_at<K: Keeper>(
     rt: &HostRuntime,
     desk: &mut Desk<K>,
     roster: &str,
     addr: &Address,
     requests: Option<u64>,
-) -> io::Result<()> {
+) -> io::Result<End> {
     let (listener, at) = listen(rt, addr)?;
     let mut events = events(rt)?;
     let mut service = Service::new(rt, listener, requests.unwrap_or(u64::MAX))?;

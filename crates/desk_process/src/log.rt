@@ -41,6 +41,11 @@ impl Answered {
         }
         refusal.map(Answered)
     }
+
+    /// Whether it tells that the storage failed.
+    pub(crate) fn is_of_storage(&self) -> bool {
+        matches!(self.0, Refusal::Storage)
+    }
 }
 
 impl fmt::Display for Answered {

@@ -3,7 +3,7 @@
 use crate::connection::{Connection, Next};
 use crate::log::Log;
 use crate::socket::{Listener, Stream};
-use desk::{Desk, Keeper};
+use desk::{Desk, Keeper, Refusal};
 use mio::event::Events;
 use mio::{Poll, Token};
 use relay_http::{Page, Routes, ServeFault};
@@ -11,6 +11,7 @@ use std::alloc::{AllocFailed, Global};
 use std::collections::VecDeque;
 use std::io::{self, ErrorKind};
 use std::time::{Duration, Instant};
+use sudo_words::Moment;
 
 /// The most connections that are kept at once.
 const MOST_CONNECTIONS: usize = 4_096;
@@ -21,6 +22,12 @@ const MOST_AT_ONCE: usize = 64;
 /// The milliseconds after which no further question is answered in one turn.
 const MOST_BUSY: u64 = 20;
 
+/// The milliseconds between two questions of the service's own to a desk whose storage failed.
+const TO_ASK_AGAIN: u64 = 500;
+
+/// The milliseconds that replies still have to go out, once the storage is shut.
+const TO_END: u64 = 500;
+
 /// The token of the listener. A connection's is its place.
 const LISTENER: Token = Token(MOST_CONNECTIONS);
 
@@ -30,6 +37,28 @@ const LISTENER: Token = Token(MOST_CONNECTIONS);
 struct Asked {
     deliveries: VecDeque<usize>,
     questions: VecDeque<usize>,
+}
+
+/// How a service ended.
+#[derive(Clone, Copy)]
+pub(crate) enum End {
+    /// All the connections that it was to accept have come and are over.
+    Served,
+    /// The desk's storage failed, and the desk answers no question any more.
+    StorageFailed,
+}
+
+/// What is known of the desk's storage.
+#[derive(Clone, Copy)]
+enum Storage {
+    /// It has not failed since the desk last answered a question of the service's own.
+    Answers,
+    /// It failed, as where a disk is full. The desk is asked at this millisecond whether it still
+    /// answers.
+    Failed { ask_at: u64 },
+    /// It is shut, and stays so until it is opened again. What is not sent at this millisecond is
+    /// not sent.
+    Shut { end_at: u64 },
 }
 
 /// A listener with its connections.
@@ -52,6 +81,7 @@ pub(crate) struct Service {
     began: Instant,
     /// The milliseconds that exchanges took, which count against no peer.
     busy: u64,
+    storage: Storage,
 }
 
 fn millis(time: Duration) -> u64 {
@@ -119,6 +149,7 @@ impl Service {
             more_wait: false,
             began: Instant::now(rt)?,
             busy: 0,
+            storage: Storage::Answers,
         })
     }
 
@@ -207,13 +238,53 @@ impl Service {
         };
         let answered = connection.answer(rt.alloc(), &self.routes, desk);
         self.busy = self.busy.saturating_add(millis(began.elapsed(rt)?));
+        let now = self.now(rt)?;
         if let Some(line) = answered {
             log.say(rt, &line);
+            if line.is_of_storage() {
+                self.doubt(now);
+            }
         }
-        let now = self.now(rt)?;
         connection.begin_reply(now);
         let next = connection.go_on(&self.routes, &mut self.page, now);
         self.settle(rt, log, at, connection, next);
+        Ok(())
+    }
+
+    /// Has the desk asked soon whether it still answers.
+    fn doubt(&mut self, now: u64) {
+        if let Storage::Answers = self.storage {
+            self.storage = Storage::Failed {
+                ask_at: now.saturating_add(TO_ASK_AGAIN),
+            };
+        }
+    }
+
+    /// Asks a desk whose storage failed whether it still answers. If not, no connection is accepted
+    /// any more, and the service ends soon.
+    fn ask_desk<K: Keeper>(&mut self, rt: &HostRuntime, desk: &mut Desk<K>) -> io::Result<()> {
+        let Storage::Failed { ask_at } = self.storage else {
+            return Ok(());
+        };
+        if self.now(rt)? < ask_at {
+            return Ok(());
+        }
+        let began = Instant::now(rt)?;
+        let answer = match Moment::from_secs(0) {
+            Some(moment) => desk.live_at(moment).map(drop),
+            None => Ok(()),
+        };
+        self.busy = self.busy.saturating_add(millis(began.elapsed(rt)?));
+        let now = self.now(rt)?;
+        self.storage = match answer {
+            Ok(()) => Storage::Answers,
+            Err(Refusal::Storage) => Storage::Shut {
+                end_at: now.saturating_add(TO_END),
+            },
+            Err(_) => Storage::Failed {
+                ask_at: now.saturating_add(TO_ASK_AGAIN),
+            },
+        };
         Ok(())
     }
 
@@ -315,12 +386,17 @@ impl Service {
         self.go_on(rt, log, at)
     }
 
+    /// Whether no connection is accepted any more.
+    fn is_closed(&self) -> bool {
+        self.left == 0 || matches!(self.storage, Storage::Shut { .. })
+    }
+
     /// Accepts what has connected. While no connection may be let go for another, none is accepted
     /// past the most. A connection that cannot be accepted is an error where no other is open.
     fn accept(&mut self, rt: &HostRuntime, log: &mut Log) -> io::Result<()> {
         self.more_wait = false;
         for _ in 0..MOST_AT_ONCE {
-            if self.left == 0 {
+            if self.is_closed() {
                 return Ok(());
             }
             if self.asked.len() >= MOST_CONNECTIONS {
@@ -356,13 +432,23 @@ impl Service {
         Ok(())
     }
 
-    /// How long to wait for an event: until a connection is due, without end where none is open,
-    /// and not at all where a request waits for its turn or more may wait to be accepted.
+    /// When the service goes on by itself on account of the desk's storage.
+    fn storage_due(&self) -> Option<u64> {
+        match self.storage {
+            Storage::Answers => None,
+            Storage::Failed { ask_at } => Some(ask_at),
+            Storage::Shut { end_at } => Some(end_at),
+        }
+    }
+
+    /// How long to wait for an event: until a connection is due or the desk is to be asked, without
+    /// end where nothing is, and not at all where a request waits for its turn or more may wait to
+    /// be accepted.
     fn patience(&self, rt: &HostRuntime) -> io::Result<Option<Duration>> {
         if self.more_wait || !self.asked.is_empty() {
             return Ok(Some(Duration::ZERO));
         }
-        let mut first: Option<u64> = None;
+        let mut first = self.storage_due();
         for at in 0..self.places.len() {
             if let Some(connection) = &self.places[at] {
                 first = Some(first.unwrap_or(u64::MAX).min(connection.due));
@@ -373,7 +459,7 @@ impl Service {
     }
 
     /// Waits until a peer is ready or a connection is due, reads what has come on all connections,
-    /// and only then takes up new ones and answers.
+    /// and only then takes up new ones and answers; and asks a desk whose storage failed.
     fn turn<K: Keeper>(
         &mut self,
         rt: &HostRuntime,
@@ -395,23 +481,35 @@ impl Service {
             self.accept(rt, log)?;
         }
         self.answer_some(rt, desk, log)?;
+        self.ask_desk(rt, desk)?;
         self.let_due_go(rt, log)
     }
 
-    /// Serves until all the connections that it accepts have come and are over.
+    /// How the service has ended, if it has.
+    fn end_by(&self, now: u64) -> Option<End> {
+        match self.storage {
+            Storage::Shut { end_at } if self.open == 0 || end_at <= now => Some(End::StorageFailed),
+            _ if self.left == 0 && self.open == 0 => Some(End::Served),
+            _ => None,
+        }
+    }
+
+    /// Serves until all the connections that it accepts have come and are over, or until the desk's
+    /// storage is shut.
     pub(crate) fn run<K: Keeper>(
         &mut self,
         rt: &HostRuntime,
         desk: &mut Desk<K>,
         log: &mut Log,
         events: &mut Events,
-    ) -> io::Result<()> {
+    ) -> io::Result<End> {
         for _ in 0..u64::MAX {
-            if self.left == 0 && self.open == 0 {
-                return Ok(());
+            let now = self.now(rt)?;
+            if let Some(end) = self.end_by(now) {
+                return Ok(end);
             }
             self.turn(rt, desk, log, events)?;
         }
-        Ok(())
+        Ok(End::Served)
     }
 }

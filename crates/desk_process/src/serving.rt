@@ -1,6 +1,7 @@
 //! The command `serve`.
 
 use crate::listener::serve_at;
+use crate::service::End;
 use desk::Keeper;
 use desk_commands::{Address, Refusal, Status, open_over};
 use sha2::{Digest, Sha256};
@@ -16,9 +17,10 @@ fn digest_of(alloc: Global, roster: &[u8]) -> Result<String, Refusal> {
 }
 
 /// The status or the refusal with which the service ended.
-fn status_of(served: io::Result<()>) -> Result<Status, Refusal> {
+fn status_of(served: io::Result<End>) -> Result<Status, Refusal> {
     match served {
-        Ok(()) => Ok(Status::Done),
+        Ok(End::Served) => Ok(Status::Done),
+        Ok(End::StorageFailed) => Err(Refusal::Desk(desk::Refusal::Storage)),
         Err(error) if error.kind() == io::ErrorKind::OutOfMemory => Err(Refusal::NoMemory),
         Err(_) => Err(Refusal::FileFailed),
     }
@@ -27,8 +29,8 @@ fn status_of(served: io::Result<()>) -> Result<Status, Refusal> {
 /// Serves the desk that the files make over what the keeper keeps, at the address, and hands the
 /// keeper on.
 ///
-/// It is refused where the files make no desk, and where it cannot listen at the address or accept
-/// from it.
+/// It is refused where the files make no desk, where it cannot listen at the address or accept from
+/// it, and where the desk's storage failed so that it has to be opened again.
 pub(crate) fn serve<K: Keeper>(
     rt: &HostRuntime,
     files: &[Vec<u8>],
