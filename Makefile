@@ -85,6 +85,7 @@ faults: desk
 soak: desk
 	bash scripts/tools.sh
 	python3 scripts/peers_faults.py --whole
+	python3 scripts/peers_healing.py --whole
 	python3 scripts/peers_crowd.py --whole
 	python3 scripts/peers_kills.py
 	/usr/bin/python3 scripts/soak.py

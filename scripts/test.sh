@@ -67,7 +67,7 @@ peers() {
 
 # the short form of `make soak`
 soak() {
-    python3 scripts/peers_faults.py &&
+    python3 scripts/peers_faults.py && python3 scripts/peers_healing.py &&
         RUNS=20 HELD=600 SENT=100 python3 scripts/peers_kills.py &&
         /usr/bin/python3 scripts/soak.py --short
 }
