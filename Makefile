@@ -1,6 +1,6 @@
 # The commands of the repository. `rt` is the toolchain's command.
 
-.PHONY: all desk demo test quick try cases gate-times edits docs contracts peers bench faults soak relays-test relays-demo tools-test several hosts install deb pages package-test clean
+.PHONY: all desk demo test quick try cases gate-times edits docs contracts peers bench faults soak types relays-test relays-demo tools-test several hosts install deb pages package-test clean
 
 all: desk
 
@@ -89,6 +89,10 @@ soak: desk
 	python3 scripts/peers_crowd.py --whole
 	python3 scripts/peers_kills.py
 	/usr/bin/python3 scripts/soak.py
+
+# The types and style of relays/, broker/ and tools/, by mypy and flake8 (it installs them where this is root).
+types:
+	bash scripts/types.sh
 
 # The relays (docs/RELAYS.md): a real sshd, a real browser behind nginx, and relays that are killed, over build/desk or the program that DESK names. What
 # it needs of Debian is installed where this is root.

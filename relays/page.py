@@ -342,7 +342,7 @@ def reason_in(said: dict[str, Any]) -> Reason:
 def serve(config: Config) -> None:
     """Serves the page until SIGTERM, at a socket that only its group may open, or on loopback."""
     # (waitress logs the path of a request whose peer has gone, and one without a head has none)
-    HTTPRequestParser.path = ""
+    HTTPRequestParser.path = ""  # type: ignore[attr-defined]
     app, place = create_app(config), config.page_place()
     if isinstance(place, tuple):
         log.warning("%s:%d: %s", *place, EXPOSED)

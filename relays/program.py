@@ -66,12 +66,13 @@ def notify(config: Config, every: float) -> int:
     if (told := config.notify) is None:
         print("desk-relay: nobody is told anything: the settings have no [notify]", file=sys.stderr)
         return 0
-    ended, outbox, desk = ended_by_signal(), config.open_outbox(), config.open_desk()
+    link, ended = told.link, ended_by_signal()
+    outbox, desk = config.open_outbox(), config.open_desk()
     lock = locked(f"{config.outbox}.notify")
 
     def finder() -> Finder:
         knowledge = Knowledge(outbox, desk, config.read_roster(), now())
-        return Finder(knowledge, config.zone, told.link)
+        return Finder(knowledge, config.zone, link)
 
     keep_telling(Notices(outbox), finder, (told.program, told.seconds), every, ended)
     os.close(lock)

@@ -2,7 +2,7 @@
 # The whole gate: what can be seen without a proof; `rt ci`; and then, over the program that it
 # left, the demo, the cases, sudo beside the desk, the desk served over loopback, its file beside
 # sqlite3, each request for memory refused, the relays and tools, hosts with their sudo, and several
-# desks behind a broker.
+# desks behind a broker. The types of the relays, the broker's programs and the tools come before.
 # With WHOLE=1 a part that cannot run here fails; without it, it is left out and named. The last
 # line is 'N passed, M failed'.
 set -euo pipefail
@@ -110,6 +110,7 @@ part_with cases setpriv jq -- cases
 part_with peers root sudo visudo cvtsudoers faketime unshare curl nc sqlite3 nginx openssl -- peers
 part_with faults cc -- python3 scripts/faults.py
 part_with soak root cc visudo unshare mount prlimit setpriv -- soak
+part_with types root apt-get -- bash scripts/types.sh
 part_with relays-test root apt-get -- bash relays/test.sh
 part_with tools-test root apt-get -- bash tools/test.sh
 part_with hosts root debootstrap unshare sudo visudo faketime ip -- \

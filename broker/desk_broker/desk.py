@@ -62,7 +62,7 @@ def read_reply(peer: socket.socket) -> tuple[int, str]:
     while (head := HEAD.match(whole)) is None:
         piece = peer.recv(MOST_HEAD)
         if not piece or len(whole) > MOST_HEAD:
-            raise RemoteDisconnected
+            raise RemoteDisconnected("")
         whole += piece
     length = LENGTH.search(head[2])
     end = head.end() + min(MOST_REPLY, int(length[1]) if length else MOST_REPLY)

@@ -9,6 +9,7 @@ import socketserver
 import sys
 import threading
 from collections.abc import Iterator
+from typing import Any
 
 import pytest
 
@@ -19,7 +20,7 @@ sys.path[:0] = [str(ROOT / "broker"), str(ROOT / "scripts")]
 class Scripted(http.server.ThreadingHTTPServer):
     """Gives each POST the next reply: a status and a body, None to hang up, or seconds to wait."""
 
-    def __init__(self, place: object = ("127.0.0.1", 0)) -> None:
+    def __init__(self, place: Any = ("127.0.0.1", 0)) -> None:
         super().__init__(place, Handler)
         self.replies: list[tuple[int, str] | float | None] = []
         self.seen: list[tuple[str, bytes]] = []

@@ -1,9 +1,12 @@
 """A broker that is not there, or takes connections and says nothing."""
 
+from __future__ import annotations
+
 import logging
 import socket
 import threading
 import time
+from collections.abc import Iterator
 
 import pytest
 from desk_broker.consume import Consumer
@@ -15,7 +18,7 @@ from ports import free_port
 
 
 @pytest.fixture(params=["nobody", "silent", "no name"])
-def broker(request):
+def broker(request: pytest.FixtureRequest) -> Iterator[Broker]:
     if request.param == "silent":
         with socket.create_server(("127.0.0.1", 0)) as server:
             port = server.getsockname()[1]
@@ -25,7 +28,9 @@ def broker(request):
     yield Broker([(host, free_port())], "desk-a", "secret", patience=0.3)
 
 
-def test_a_consumer_goes_on_trying_and_ends_when_asked(broker, caplog):
+def test_a_consumer_goes_on_trying_and_ends_when_asked(
+    broker: Broker, caplog: pytest.LogCaptureFixture
+) -> None:
     consumer = Consumer("a", Desk("http://127.0.0.1:1"), broker)
     with caplog.at_level(logging.INFO):
         thread = threading.Thread(target=consumer.run)
@@ -41,6 +46,6 @@ def test_a_consumer_goes_on_trying_and_ends_when_asked(broker, caplog):
     assert "desk a: ended" in caplog.text
 
 
-def test_a_publisher_confirms_nothing(broker):
+def test_a_publisher_confirms_nothing(broker: Broker) -> None:
     with Publisher(broker) as publisher, pytest.raises(NotConfirmed, match="within 0.5 s"):
         publisher.publish(b"{}", patience=0.5)

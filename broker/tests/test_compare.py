@@ -1,17 +1,20 @@
 """The check that compares desks: what it says, and its status."""
 
+from __future__ import annotations
+
 import http.server
 import pathlib
 import subprocess
 import sys
 import threading
+from pathlib import Path
 
 import pytest
 
 COMPARE = pathlib.Path(__file__).resolve().parents[2] / "examples/monitoring/compare-desks.py"
 
 
-def compare(*words):
+def compare(*words: str) -> tuple[int, str]:
     ran = subprocess.run([sys.executable, COMPARE, *words], capture_output=True, text=True)
     return ran.returncode, ran.stdout
 
@@ -19,18 +22,21 @@ def compare(*words):
 class Answers(http.server.ThreadingHTTPServer):
     """A desk that answers from a table; its host h2 is behind so many times."""
 
-    def __init__(self, behind=0):
+    def __init__(self, behind: int = 0) -> None:
         super().__init__(("127.0.0.1", 0), Handler)
-        self.behind, self.asked = behind, []
+        self.behind = behind
+        self.asked: list[str] = []
         threading.Thread(target=self.serve_forever, args=(0.02,), daemon=True).start()
 
     @property
-    def url(self):
+    def url(self) -> str:
         return f"http://127.0.0.1:{self.server_address[1]}"
 
 
 class Handler(http.server.BaseHTTPRequestHandler):
-    def do_GET(self):
+    server: Answers
+
+    def do_GET(self) -> None:
         self.server.asked.append(self.path)
         text = self.path.encode()
         if "h2" in self.path and self.server.behind > 0:
@@ -42,18 +48,18 @@ class Handler(http.server.BaseHTTPRequestHandler):
         self.end_headers()
         self.wfile.write(text)
 
-    def log_message(self, *_):
+    def log_message(self, *_: object) -> None:
         pass
 
 
 @pytest.fixture
-def roster(tmp_path):
+def roster(tmp_path: Path) -> str:
     path = tmp_path / "roster.toml"
     path.write_text('hosts = ["h2", "h1"]\n')
     return str(path)
 
 
-def test_desks_that_agree(roster):
+def test_desks_that_agree(roster: str) -> None:
     one, other = Answers(), Answers()
     status, said = compare("answers", roster, one.url, other.url, "--at", "20260105093000Z")
     assert (status, said.splitlines()[-1]) == (0, "they agree")
@@ -62,12 +68,12 @@ def test_desks_that_agree(roster):
     ]
 
 
-def test_a_desk_that_lags_and_catches_up(roster):
+def test_a_desk_that_lags_and_catches_up(roster: str) -> None:
     status, said = compare("answers", roster, Answers().url, Answers(behind=2).url)
     assert (status, said.splitlines()[-1]) == (0, "they agree")
 
 
-def test_a_desk_that_differs_is_named_with_what_differs(roster):
+def test_a_desk_that_differs_is_named_with_what_differs(roster: str) -> None:
     words = ["answers", roster, Answers().url, Answers(behind=99).url, "--patience", "0.3"]
     status, said = compare(*words)
     assert status == 1
@@ -75,19 +81,19 @@ def test_a_desk_that_differs_is_named_with_what_differs(roster):
     assert said.splitlines()[-1] == "1 of 3 answers differ"
 
 
-def test_a_desk_that_does_not_answer(roster, tmp_path):
+def test_a_desk_that_does_not_answer(roster: str, tmp_path: Path) -> None:
     assert compare("answers", roster, Answers().url, "http://127.0.0.1:1")[0] == 2
     roster_of_nine = tmp_path / "nine.toml"
     roster_of_nine.write_text('hosts = ["nine"]\n')
     assert compare("answers", str(roster_of_nine), Answers().url, Answers().url)[0] == 2
 
 
-def listing(folder, name, *bodies):
+def listing(folder: Path, name: str, *bodies: str) -> str:
     (folder / name).write_text("".join(body + "\n" for body in bodies))
     return f"{name}={folder / name}"
 
 
-def test_messages_that_a_desk_lacks(tmp_path):
+def test_messages_that_a_desk_lacks(tmp_path: Path) -> None:
     a, b = listing(tmp_path, "a", "1", "2", "3"), listing(tmp_path, "b", "2")
     status, said = compare("messages", a, b)
     assert status == 1
@@ -97,12 +103,12 @@ def test_messages_that_a_desk_lacks(tmp_path):
     assert compare("messages", a, b, "--lacking", "c")[0] == 2
 
 
-def test_the_same_messages_in_another_order(tmp_path):
+def test_the_same_messages_in_another_order(tmp_path: Path) -> None:
     a, b = listing(tmp_path, "a", "1", "2"), listing(tmp_path, "b", "2", "1")
     assert compare("messages", a, b)[0] == 0
 
 
-def test_what_is_on_its_way_is_not_lacking(tmp_path):
+def test_what_is_on_its_way_is_not_lacking(tmp_path: Path) -> None:
     a, b = listing(tmp_path, "a", "1", "2", "3"), listing(tmp_path, "b", "1", "2")
     (tmp_path / "old").mkdir()
     old_a, old_b = listing(tmp_path / "old", "a", "1", "2"), listing(tmp_path / "old", "b", "1")

@@ -1,13 +1,19 @@
 """A message leaves the queue after the desk's last word only, and a refusal is put by before."""
 
+from __future__ import annotations
+
 import logging
 import time
+from collections.abc import Callable, Iterable
+from pathlib import Path
+from typing import Any, cast
 
 import pika
 import pytest
 from desk_broker import consume, flight
 from desk_broker.consume import Consumer
-from desk_broker.desk import Answer, Kind
+from desk_broker.consume import Link as RealLink
+from desk_broker.desk import Answer, Desk, Kind
 from desk_broker.flight import Acks, Delivery, Flight
 from desk_broker.settings import BadSettings, Broker
 from pika.exceptions import AMQPConnectionError, NackError
@@ -17,41 +23,60 @@ BUSY = Answer(Kind.WAITS, "503 K4 Storage")
 BROKER = Broker([("127.0.0.1", 1)], "desk-a", "secret")
 
 
+Act = Callable[[], object] | str  # 'stop' is the consumer's own
+
+
+def called(act: Act) -> None:
+    assert not isinstance(act, str)
+    act()
+
+
 class Told:
     """A desk that answers as it was told; what is left over or wanting fails the test."""
 
-    def __init__(self, answers, on_post=lambda: None):
-        self.answers, self.posted, self.on_post = list(answers), [], on_post
+    def __init__(
+        self, answers: Iterable[Answer], on_post: Act = lambda: None
+    ) -> None:
+        self.answers, self.on_post = list(answers), on_post
+        self.posted: list[tuple[str, bytes]] = []
 
-    def post(self, relay, body):
+    def post(self, relay: str, body: bytes) -> Answer:
         self.posted.append((relay, body))
-        self.on_post()
+        called(self.on_post)
         return self.answers.pop(0)
 
 
 class Link:
     """A connection whose time passes at once, and calls a function when it sleeps."""
 
-    def __init__(self, on_sleep=lambda: None):
+    def __init__(self, on_sleep: Act = lambda: None) -> None:
         self.on_sleep = on_sleep
 
-    def sleep(self, seconds):
+    def sleep(self, seconds: float) -> None:
         time.sleep(seconds / 50)
-        self.on_sleep()
+        called(self.on_sleep)
 
 
 class Refusals:
-    def __init__(self, faults=()):
-        self.faults, self.published = list(faults), []
+    def __init__(self, faults: Iterable[Exception] = ()) -> None:
+        self.faults = list(faults)
+        self.published: list[tuple[Any, ...]] = []
 
-    def basic_publish(self, exchange, key, body, properties, mandatory):
+    def basic_publish(
+        self,
+        exchange: str,
+        key: str,
+        body: bytes,
+        properties: pika.BasicProperties,
+        mandatory: bool,
+    ) -> None:
         if self.faults:
             raise self.faults.pop(0)
         self.published.append((exchange, body, properties.headers, properties.user_id, mandatory))
 
 
 @pytest.fixture(autouse=True)
-def quick(monkeypatch):
+def quick(monkeypatch: pytest.MonkeyPatch) -> None:
     for module in (consume, flight):
         monkeypatch.setattr(module, "Backoff", lambda first, most: Quick())
     monkeypatch.setattr(Flight, "_pause", lambda self, seconds: time.sleep(seconds / 50))
@@ -60,45 +85,51 @@ def quick(monkeypatch):
 class Quick:
     tries = 0
 
-    def next(self):
+    def next(self) -> float:
         self.tries += 1
         return 0.01
 
-    def reset(self):
+    def reset(self) -> None:
         self.tries = 0
 
 
-def delivery(user="relay-web", **more):
+def delivery(user: str | None = "relay-web", **more: Any) -> Delivery:
     properties = pika.BasicProperties(user_id=user, headers={"sent-ms": 5_000}, **more)
     return Delivery.of(7, properties, b"{}")
 
 
-def settle(desk, refusals=None, link=None, given=None):
-    consumer = Consumer("a", desk, BROKER)
+def settle(
+    desk: Told,
+    refusals: Refusals | None = None,
+    link: Link | None = None,
+    given: Delivery | None = None,
+) -> tuple[Consumer, bool]:
+    consumer = Consumer("a", cast(Desk, desk), BROKER)
     link, given = link or Link(), given or delivery()
     if link.on_sleep == "stop":
         link.on_sleep = consumer.stop
     if desk.on_post == "stop":
         desk.on_post = consumer.stop
-    answer = Flight("a", desk, consumer.tally, consumer.is_stopping).judged(given)
+    on_its_way = Flight("a", cast(Desk, desk), consumer.tally, consumer.is_stopping)
+    answer = on_its_way.judged(given)
     return consumer, consumer._settle(link, refusals or Refusals(), given, answer)
 
 
-def test_the_relay_is_the_account_that_published():
+def test_the_relay_is_the_account_that_published() -> None:
     desk = Told([TAKEN])
     assert settle(desk)[1]
     assert desk.posted == [("web", b"{}")]
 
 
 @pytest.mark.parametrize("user", [None, "guest", "relay-", "relay-Web", "relay-a/b", "desk-a"])
-def test_what_no_relay_published_is_refused_and_not_posted(user):
+def test_what_no_relay_published_is_refused_and_not_posted(user: str | None) -> None:
     desk, refusals = Told([]), Refusals()
     assert settle(desk, refusals, given=delivery(user))[1]
     assert refusals.published[0][2] == {"code": "C1 NoRelay", "relay": "", "desk": "a"}
 
 
 @pytest.mark.parametrize("after", ["0", "600000", ""])
-def test_what_may_expire_is_refused_and_not_posted(after):
+def test_what_may_expire_is_refused_and_not_posted(after: str) -> None:
     desk, refusals = Told([]), Refusals()
     assert settle(desk, refusals, given=delivery(expiration=after))[1]
     assert refusals.published[0][2] == {"code": "C2 Expires", "relay": "web", "desk": "a"}
@@ -107,25 +138,25 @@ def test_what_may_expire_is_refused_and_not_posted(after):
 class Fails(Told):
     """A desk whose client fails so often at a message."""
 
-    def __init__(self, often, on_post=lambda: None):
+    def __init__(self, often: int, on_post: Act = lambda: None) -> None:
         super().__init__([TAKEN], on_post)
         self.often = often
 
-    def post(self, relay, body):
+    def post(self, relay: str, body: bytes) -> Answer:
         if self.often:
-            self.on_post()
+            called(self.on_post)
             self.often -= 1
             raise RecursionError
         return super().post(relay, body)
 
 
-def test_what_fails_once_is_tried_again():
+def test_what_fails_once_is_tried_again() -> None:
     refusals = Refusals()
     assert settle(Fails(1), refusals)[1]
     assert refusals.published == []
 
 
-def test_what_fails_twice_is_put_by(caplog):
+def test_what_fails_twice_is_put_by(caplog: pytest.LogCaptureFixture) -> None:
     refusals = Refusals()
     with caplog.at_level(logging.WARNING):
         assert settle(Fails(2), refusals)[1]
@@ -133,13 +164,13 @@ def test_what_fails_twice_is_put_by(caplog):
     assert "failed at a message, relay web, 2 bytes, try 2 of 2" in caplog.text
 
 
-def test_stopped_before_it_fails_twice_it_leaves_the_message():
+def test_stopped_before_it_fails_twice_it_leaves_the_message() -> None:
     refusals = Refusals()
     assert not settle(Fails(2, "stop"), refusals)[1]
     assert refusals.published == []
 
 
-def test_it_tries_again_until_the_desk_knows():
+def test_it_tries_again_until_the_desk_knows() -> None:
     desk = Told([BUSY, BUSY, BUSY, TAKEN])
     consumer, settled = settle(desk)
     assert settled
@@ -147,7 +178,7 @@ def test_it_tries_again_until_the_desk_knows():
     assert consumer.tally.tried_again == 3
 
 
-def test_a_refusal_is_put_by_with_its_code_and_relay():
+def test_a_refusal_is_put_by_with_its_code_and_relay() -> None:
     refusals = Refusals()
     consumer, settled = settle(Told([REFUSED]), refusals)
     headers = {"code": "A1 UnknownPerson", "relay": "web", "desk": "a"}
@@ -156,31 +187,31 @@ def test_a_refusal_is_put_by_with_its_code_and_relay():
     assert (consumer.tally.taken, consumer.tally.refused) == (0, 1)
 
 
-def test_a_refusal_stays_in_the_queue_until_it_is_put_by():
+def test_a_refusal_stays_in_the_queue_until_it_is_put_by() -> None:
     refusals = Refusals([NackError([]), NackError([])])
     assert settle(Told([REFUSED]), refusals)[1]
     assert len(refusals.published) == 1
 
 
-def test_a_refusal_that_cannot_be_put_by_leaves_the_message():
+def test_a_refusal_that_cannot_be_put_by_leaves_the_message() -> None:
     with pytest.raises(AMQPConnectionError):
         settle(Told([REFUSED]), Refusals([AMQPConnectionError()]))
 
 
-def test_stopped_while_it_waits_it_leaves_the_message():
+def test_stopped_while_it_waits_it_leaves_the_message() -> None:
     desk = Told([BUSY, BUSY], "stop")
     consumer, settled = settle(desk)
     assert not settled
     assert len(desk.posted) == 1
 
 
-def test_stopped_before_a_refusal_is_put_by_it_leaves_the_message():
+def test_stopped_before_a_refusal_is_put_by_it_leaves_the_message() -> None:
     refusals = Refusals([NackError([]), NackError([])])
     assert not settle(Told([REFUSED]), refusals, Link("stop"))[1]
     assert refusals.published == []
 
 
-def test_it_says_why_it_waits_and_that_it_goes_on(caplog):
+def test_it_says_why_it_waits_and_that_it_goes_on(caplog: pytest.LogCaptureFixture) -> None:
     with caplog.at_level(logging.INFO):
         settle(Told([BUSY, TAKEN]))
     said = [record.getMessage() for record in caplog.records]
@@ -194,60 +225,63 @@ class Queue:
 
     refusals = None
 
-    def __init__(self, bodies, at_once=3):
+    def __init__(self, bodies: Iterable[bytes], at_once: int = 3) -> None:
         self.bodies, self.at_once, self.connection = list(bodies), at_once, Link()
-        self.tag, self.flight, self.steps, self.acks = 0, None, [], Acks()
-        self.acknowledged, self.stop = 0, None
+        self.tag, self.acknowledged, self.acks = 0, 0, Acks()
+        self.steps: list[str | tuple[str, int]] = []
+        self.flight: Flight
+        self.stop: Callable[[], None]
 
-    def wake(self):
+    def wake(self) -> None:
         pass
 
-    def _give(self):
+    def _give(self) -> None:
         self.tag += 1
         properties = pika.BasicProperties(user_id="relay-web")
         self.acks.begin(self.tag)
         self.flight.begin(Delivery.of(self.tag, properties, self.bodies.pop(0)))
 
-    def take_head(self, flight):
+    def take_head(self, flight: Flight) -> bool:
         self.flight = flight
         self.steps.append("head")
         if self.bodies:
             self._give()
         return self.tag > 0
 
-    def take_all(self, _):
+    def take_all(self, _: Flight) -> None:
         self.steps.append(("all", self.acknowledged))
 
-    def wait(self):
+    def wait(self) -> None:
         time.sleep(0.01)
         while "all" in str(self.steps) and self.bodies and self.open() < self.at_once:
             self._give()
         if not self.bodies and not self.open():
             self.stop()
 
-    def open(self):
+    def open(self) -> int:
         return self.tag - self.acknowledged
 
-    def is_taking(self):
+    def is_taking(self) -> bool:
         return True
 
-    def settle(self, delivery):
+    def settle(self, delivery: Delivery) -> None:
         self.acks.settle(delivery.tag)
 
-    def acknowledge(self):
+    def acknowledge(self) -> None:
         self.acknowledged = self.acks.due() or self.acknowledged
 
 
-def carried(desk, queue):
-    consumer = Consumer("a", desk, BROKER)
+def carried(desk: Told, queue: Queue) -> Consumer:
+    consumer = Consumer("a", cast(Desk, desk), BROKER)
     queue.stop = consumer.stop
-    on_its_way = Flight("a", desk, consumer.tally, consumer.is_stopping, queue.wake)
-    consumer._carry(queue, on_its_way)
+    posts = cast(Desk, desk)
+    on_its_way = Flight("a", posts, consumer.tally, consumer.is_stopping, queue.wake)
+    consumer._carry(cast(RealLink, queue), on_its_way)
     on_its_way.end()
     return consumer
 
 
-def test_the_head_comes_alone_and_then_many():
+def test_the_head_comes_alone_and_then_many() -> None:
     desk, queue = Told([TAKEN] * 50), Queue([b"%d" % number for number in range(50)])
     consumer = carried(desk, queue)
     assert queue.steps == ["head", ("all", 1)]
@@ -255,20 +289,20 @@ def test_the_head_comes_alone_and_then_many():
     assert {body for _, body in desk.posted} == {b"%d" % number for number in range(50)}
 
 
-def test_an_empty_queue_is_taken_from_at_once():
+def test_an_empty_queue_is_taken_from_at_once() -> None:
     queue = Queue([])
     carried(Told([]), queue)
     assert queue.steps == ["head", ("all", 0)]
 
 
-def test_what_is_not_settled_stays_when_it_is_time_to_stop():
+def test_what_is_not_settled_stays_when_it_is_time_to_stop() -> None:
     queue = Queue([b"1", b"2"])
     desk = Told([TAKEN, BUSY], lambda: len(desk.posted) == 2 and queue.stop())
     consumer = carried(desk, queue)
     assert (queue.acknowledged, consumer.tally.taken) == (1, 1)
 
 
-def test_it_reads_its_settings(tmp_path):
+def test_it_reads_its_settings(tmp_path: Path) -> None:
     secret = tmp_path / "password"
     secret.write_text("s3\n")
     environment = {

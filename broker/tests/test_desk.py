@@ -1,10 +1,14 @@
 """What a reply of the desk means, and what no reply does."""
 
+from __future__ import annotations
+
 import socket
 import threading
 import time
+from pathlib import Path
 
 import pytest
+from conftest import Scripted
 from desk_broker.desk import Desk, Kind, judge
 from ports import free_port
 
@@ -31,41 +35,41 @@ from ports import free_port
         (302, "ack\n", Kind.WAITS),
     ],
 )
-def test_judge(status, text, kind):
+def test_judge(status: int, text: str, kind: Kind) -> None:
     assert judge(status, text).kind is kind
 
 
-def test_posts_to_the_relays_route(scripted):
+def test_posts_to_the_relays_route(scripted: Scripted) -> None:
     scripted.replies = [(200, "ack\n")]
     assert Desk(scripted.address).post("web", b'{"a":1}').kind is Kind.TAKEN
     assert scripted.seen == [("/v1/relays/web/messages", b'{"a":1}')]
     assert "Transfer-Encoding" not in scripted.fields[0]
 
 
-def test_an_empty_message_has_a_length(scripted):
+def test_an_empty_message_has_a_length(scripted: Scripted) -> None:
     scripted.replies = [(400, "M2 NotCanonical\n")]
     assert Desk(scripted.address).post("web", b"").kind is Kind.REFUSED
     assert scripted.fields[0]["Content-Length"] == "0"
 
 
-def test_a_long_message_is_not_sent(scripted):
+def test_a_long_message_is_not_sent(scripted: Scripted) -> None:
     answer = Desk(scripted.address).post("web", b"x" * 16_385)
     assert (answer.kind, answer.said) == (Kind.REFUSED, "M1 TooLong")
     assert scripted.seen == []
 
 
-def test_the_longest_message_is_sent(scripted):
+def test_the_longest_message_is_sent(scripted: Scripted) -> None:
     scripted.replies = [(200, "ack\n")]
     assert Desk(scripted.address).post("web", b"x" * 16_384).kind is Kind.TAKEN
 
 
-def test_a_peer_that_hangs_up(scripted):
+def test_a_peer_that_hangs_up(scripted: Scripted) -> None:
     scripted.replies = [None]
     answer = Desk(scripted.address).post("web", b"{}")
     assert (answer.kind, answer.said) == (Kind.WAITS, "no reply: RemoteDisconnected")
 
 
-def test_a_peer_that_is_silent(scripted):
+def test_a_peer_that_is_silent(scripted: Scripted) -> None:
     scripted.replies = [5.0]
     answer = Desk(scripted.address, patience=0.2).post("web", b"{}")
     assert (answer.kind, answer.said) == (Kind.WAITS, "no reply: timed out")
@@ -78,13 +82,13 @@ CHUNKS = b"4\r\nack\n\r\n0\r\n\r\n"
 class Raw:
     """A peer that answers with these bytes, in pieces, and hangs up, or stays until it is told."""
 
-    def __init__(self, *pieces, stays=False):
+    def __init__(self, *pieces: bytes, stays: bool = False) -> None:
         self.listener = socket.create_server(("127.0.0.1", 0))
         self.address = "http://127.0.0.1:%d" % self.listener.getsockname()[1]
         self.pieces, self.stays, self.over = pieces, stays, threading.Event()
         threading.Thread(target=self.serve, daemon=True).start()
 
-    def serve(self):
+    def serve(self) -> None:
         peer, _ = self.listener.accept()
         with peer:
             peer.recv(65_536)
@@ -112,28 +116,28 @@ class Raw:
         ([b"x" * 9_000] * 3, Kind.WAITS, DISCONNECTED),
     ],
 )
-def test_replies_by_their_bytes(pieces, kind, said):
+def test_replies_by_their_bytes(pieces: list[bytes], kind: Kind, said: str) -> None:
     answer = Desk(Raw(*pieces).address).post("web", b"{}")
     assert answer.kind is kind
     assert answer.said.startswith(said) or answer.said == "no reply: ConnectionResetError"
 
 
-def test_it_does_not_wait_for_the_end_of_a_whole_reply():
+def test_it_does_not_wait_for_the_end_of_a_whole_reply() -> None:
     peer = Raw(b"HTTP/1.1 200 OK\r\nContent-Length: 4\r\n\r\nack\n", stays=True)
     assert Desk(peer.address, patience=5).post("web", b"{}").kind is Kind.TAKEN
     peer.over.set()
 
 
-def test_a_slash_behind_the_port():
+def test_a_slash_behind_the_port() -> None:
     assert Desk("http://127.0.0.1:1/").post("web", b"1").said == "no reply: ConnectionRefusedError"
 
 
-def test_a_socket_that_is_not_there(tmp_path):
+def test_a_socket_that_is_not_there(tmp_path: Path) -> None:
     answer = Desk(f"unix:{tmp_path}/desk.sock").post("web", b"{}")
     assert (answer.kind, answer.said) == (Kind.WAITS, "no reply: FileNotFoundError")
 
 
-def test_nobody_listens():
+def test_nobody_listens() -> None:
     answer = Desk(f"http://127.0.0.1:{free_port()}").post("web", b"{}")
     assert (answer.kind, answer.said) == (Kind.WAITS, "no reply: ConnectionRefusedError")
 
@@ -142,6 +146,6 @@ def test_nobody_listens():
     "address",
     ["", "127.0.0.1:80", "https://desk", "http://", "http://desk/v1", "http://desk:x", "unix:desk"],
 )
-def test_no_address(address):
+def test_no_address(address: str) -> None:
     with pytest.raises(ValueError, match="."):
         Desk(address)

@@ -1,10 +1,13 @@
 """Several messages are posted at once; one at a time, where the desk does not answer."""
 
+from __future__ import annotations
+
 import threading
 import time
+from typing import Any, cast
 
 import pytest
-from desk_broker.desk import Answer, Kind
+from desk_broker.desk import Answer, Desk, Kind
 from desk_broker.flight import POSTS, Acks, Delivery, Flight
 from desk_broker.tally import Tally
 
@@ -12,21 +15,22 @@ TAKEN, BUSY = Answer(Kind.TAKEN, "ack"), Answer(Kind.WAITS, "503 K4 Storage")
 PATIENCE = 30
 
 
-def delivery(tag):
+def delivery(tag: int) -> Delivery:
     return Delivery(tag, "web", b"%d" % tag, None)
 
 
-def answers(flight, count):
+def answers(flight: Flight, count: int) -> dict[int, Answer | None]:
     """So many answers, by the tags of their messages."""
-    found, until = {}, time.monotonic() + PATIENCE
+    found: dict[int, Answer | None] = {}
+    until = time.monotonic() + PATIENCE
     while len(found) < count and time.monotonic() < until:
         found |= {given.tag: answer for given, answer in flight.done()}
         time.sleep(0.01)
     return found
 
 
-def started(desk, count, **more):
-    flight = Flight("a", desk, Tally("a"), **more)
+def started(desk: object, count: int, **more: Any) -> Flight:
+    flight = Flight("a", cast(Desk, desk), Tally("a"), **more)
     for tag in range(1, count + 1):
         flight.begin(delivery(tag))
     return flight
@@ -35,15 +39,15 @@ def started(desk, count, **more):
 class Meeting:
     """A desk that answers when so many posts wait for it at once."""
 
-    def __init__(self, count):
+    def __init__(self, count: int) -> None:
         self.barrier = threading.Barrier(count)
 
-    def post(self, relay, body):
+    def post(self, relay: str, body: bytes) -> Answer:
         self.barrier.wait(PATIENCE)
         return TAKEN
 
 
-def test_so_many_are_posted_at_once():
+def test_so_many_are_posted_at_once() -> None:
     woken = []
     flight = started(Meeting(POSTS), 3 * POSTS, wake=lambda: woken.append(1))
     assert answers(flight, 3 * POSTS) == {tag: TAKEN for tag in range(1, 3 * POSTS + 1)}
@@ -54,11 +58,12 @@ def test_so_many_are_posted_at_once():
 class Away:
     """A desk that begins to answer when it was asked so often, and remembers by what and when."""
 
-    def __init__(self, often):
-        self.often, self.posted, self.lock = often, [], threading.Lock()
+    def __init__(self, often: int) -> None:
+        self.often, self.lock = often, threading.Lock()
+        self.posted: list[bytes] = []
         self.all_came = threading.Barrier(POSTS)
 
-    def post(self, relay, body):
+    def post(self, relay: str, body: bytes) -> Answer:
         with self.lock:
             self.posted.append(body)
             number = len(self.posted)
@@ -67,7 +72,7 @@ class Away:
         return BUSY if number <= self.often else TAKEN
 
 
-def test_a_desk_that_is_away_is_asked_by_one():
+def test_a_desk_that_is_away_is_asked_by_one() -> None:
     desk = Away(POSTS + 4)
     flight = started(desk, 100)
     assert answers(flight, 100) == {tag: TAKEN for tag in range(1, 101)}
@@ -81,16 +86,16 @@ def test_a_desk_that_is_away_is_asked_by_one():
 class Odd:
     """A desk whose one message never has an answer, until it is told to."""
 
-    def __init__(self):
+    def __init__(self) -> None:
         self.is_well = threading.Event()
 
-    def post(self, relay, body):
+    def post(self, relay: str, body: bytes) -> Answer:
         if body != b"3":
             time.sleep(0.05)
         return TAKEN if body != b"3" or self.is_well.is_set() else BUSY
 
 
-def test_one_that_is_never_answered_holds_up_those_behind_it():
+def test_one_that_is_never_answered_holds_up_those_behind_it() -> None:
     desk, count = Odd(), 40 * POSTS
     flight = started(desk, count)
     found = answers_until_quiet(flight)
@@ -101,9 +106,10 @@ def test_one_that_is_never_answered_holds_up_those_behind_it():
     assert found == {tag: TAKEN for tag in range(1, count + 1)}
 
 
-def answers_until_quiet(flight):
+def answers_until_quiet(flight: Flight) -> dict[int, Answer | None]:
     """What was answered until nothing more comes."""
-    found, new = {}, {0: None}
+    found: dict[int, Answer | None] = {}
+    new: dict[int, Answer | None] = {0: None}
     while new:
         time.sleep(0.7)
         new = {given.tag: answer for given, answer in flight.done()}
@@ -112,7 +118,7 @@ def answers_until_quiet(flight):
 
 
 @pytest.mark.parametrize("how", ["ended", "stopped"])
-def test_over_it_gives_up_and_begins_none(how):
+def test_over_it_gives_up_and_begins_none(how: str) -> None:
     stopping = threading.Event()
     desk = Away(1_000)
     flight = started(desk, 100, is_stopping=stopping.is_set)
@@ -125,7 +131,7 @@ def test_over_it_gives_up_and_begins_none(how):
     assert len({*desk.posted[POSTS:]}) == 1, "none begins"
 
 
-def test_what_may_be_acknowledged():
+def test_what_may_be_acknowledged() -> None:
     acks = Acks()
     for tag in range(1, 7):
         acks.begin(tag)

@@ -1,12 +1,17 @@
 """A desk is killed with as many posts in flight as there can be: nothing is lost, and while it is
 away one post alone asks for it. (Its place has scripts/several/stub.py.)"""
 
+from __future__ import annotations
+
 import os
 import signal
 import subprocess
 import sys
 import time
+from collections.abc import Callable
+from pathlib import Path
 
+from desk_broker.desk import Answer
 from desk_broker.desk import Desk as Address
 from desk_broker.flight import POSTS, Delivery, Flight
 from desk_broker.tally import Tally
@@ -19,24 +24,25 @@ PATIENCE = 60
 class Stub(Desk):
     """A program in a desk's place, at the socket of a path."""
 
-    def __init__(self, path):
+    def __init__(self, path: Path) -> None:
         self.socket = path
 
-    def start(self):
+    def start(self) -> None:
         words = [sys.executable, stub.__file__, "serve", "-", "-", "-", self.address]
         self.process = subprocess.Popen(words)
         wait_until(self.is_listening)
 
 
-def wait_until(is_so):
+def wait_until(is_so: Callable[[], bool]) -> None:
     until = time.monotonic() + PATIENCE
     while not is_so() and time.monotonic() < until:
         time.sleep(0.05)
     assert is_so()
 
 
-def test_a_desk_is_killed_with_posts_in_flight(tmp_path):
-    desk, answers, tally = Stub(tmp_path / "desk.sock"), [], Tally("a")
+def test_a_desk_is_killed_with_posts_in_flight(tmp_path: Path) -> None:
+    desk, tally = Stub(tmp_path / "desk.sock"), Tally("a")
+    answers: list[tuple[Delivery, Answer | None]] = []
     desk.start()
     os.kill(desk.process.pid, signal.SIGSTOP)
     flight = Flight("a", Address(desk.address), tally)
@@ -48,12 +54,12 @@ def test_a_desk_is_killed_with_posts_in_flight(tmp_path):
     wait_until(lambda: tally.tried_again == 3)
     desk.start()
 
-    def is_done():
+    def is_done() -> bool:
         answers.extend(flight.done())
         return len(answers) == 4 * POSTS
 
     wait_until(is_done)
-    assert {answer.said for _, answer in answers} == {"ack"}
+    assert {answer and answer.said for _, answer in answers} == {"ack"}
     assert desk.count() == 4 * POSTS
     flight.finish()
     desk.process.kill()

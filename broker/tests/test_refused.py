@@ -1,6 +1,9 @@
 """A refused message is printed so that its bytes can be read back."""
 
+from __future__ import annotations
+
 import json
+from typing import Any
 
 import pika
 import pytest
@@ -11,7 +14,7 @@ BODIES = [b"", b'{"a":1}', b"\xff\xfe\n\x00", "é".encode(), b"\xed\xb3\xbf"]
 
 
 @pytest.mark.parametrize("body", BODIES)
-def test_the_bytes_come_back(body):
+def test_the_bytes_come_back(body: bytes) -> None:
     headers = {"code": "M2 NotCanonical", "relay": "web", "desk": "a"}
     printed = line(pika.BasicProperties(headers=headers, user_id="desk-a"), body)
     assert printed.isascii()
@@ -21,21 +24,21 @@ def test_the_bytes_come_back(body):
     assert (told["code"], told["relay"], told["desk"]) == ("M2 NotCanonical", "web", "a")
 
 
-def told(user, headers):
+def told(user: str | None, headers: dict[Any, Any] | None) -> tuple[str, str, str]:
     found = json.loads(line(pika.BasicProperties(headers=headers, user_id=user), b"x"))
     return found["code"], found["desk"], found["relay"]
 
 
-def test_without_headers():
+def test_without_headers() -> None:
     assert told("desk-a", None) == ("", "", "")
     assert told(None, None) == ("C3 Fails", "", "")
 
 
-def death(reason, queue="desk.b"):
+def death(reason: str, queue: str = "desk.b") -> dict[str, str]:
     return {"reason": reason, "queue": queue}
 
 
-def test_what_the_broker_put_by():
+def test_what_the_broker_put_by() -> None:
     for reason, code in (("expired", "C2 Expires"), ("delivery_limit", "C3 Fails")):
         assert told("relay-web", {"x-death": [death(reason)]}) == (code, "b", "web")
 
@@ -49,10 +52,10 @@ ODD = [{"x-death": 7}, {"x-death": []}, {"x-death": [7]}, {"x-death": [{}]}, {b"
 
 
 @pytest.mark.parametrize("headers", FORGED)
-def test_headers_of_a_relay_say_nothing_there(headers):
+def test_headers_of_a_relay_say_nothing_there(headers: dict[Any, Any] | None) -> None:
     assert told("relay-web", headers) == ("C2 Expires", "b", "web")
 
 
 @pytest.mark.parametrize("headers", ODD)
-def test_headers_of_no_form(headers):
+def test_headers_of_no_form(headers: dict[Any, Any] | None) -> None:
     assert told("relay-web", headers) == ("C3 Fails", "", "web")

@@ -1,16 +1,22 @@
 """A snapshot of a store that is written meanwhile, and a desk that is filled from it."""
 
+from __future__ import annotations
+
+import shutil
 import sqlite3
 import threading
 import time
+from collections.abc import Iterable
+from pathlib import Path
 
 import pytest
+from conftest import Scripted
 from desk_broker import snapshot
 from desk_broker.desk import Desk
 from desk_broker.fill import fill
 
 
-def store(path, bodies):
+def store(path: Path, bodies: Iterable[str]) -> sqlite3.Connection:
     """A store in the desk's journal mode, with its connection: its log is not merged."""
     connection = sqlite3.connect(path, isolation_level=None, check_same_thread=False)
     connection.execute("PRAGMA journal_mode = wal")
@@ -19,17 +25,17 @@ def store(path, bodies):
     return connection
 
 
-def add(connection, bodies):
+def add(connection: sqlite3.Connection, bodies: Iterable[str]) -> None:
     connection.executemany("INSERT OR IGNORE INTO messages VALUES (?)", ((it,) for it in bodies))
 
 
-def test_it_has_what_is_in_the_log_alone(tmp_path):
+def test_it_has_what_is_in_the_log_alone(tmp_path: Path) -> None:
     connection = store(tmp_path / "desk.db", ["b", "a"])
     assert snapshot.messages(tmp_path / "desk.db") == ["a", "b"]
     connection.close()
 
 
-def test_it_has_what_was_merged(tmp_path):
+def test_it_has_what_was_merged(tmp_path: Path) -> None:
     connection = store(tmp_path / "desk.db", ["b", "a"])
     connection.execute("PRAGMA wal_checkpoint(TRUNCATE)")
     add(connection, ["c"])
@@ -37,7 +43,7 @@ def test_it_has_what_was_merged(tmp_path):
     connection.close()
 
 
-def test_it_leaves_the_file_that_another_has(tmp_path):
+def test_it_leaves_the_file_that_another_has(tmp_path: Path) -> None:
     connection = store(tmp_path / "desk.db", ["a"])
     connection.execute("PRAGMA locking_mode = exclusive")
     add(connection, ["b"])
@@ -47,11 +53,11 @@ def test_it_leaves_the_file_that_another_has(tmp_path):
     connection.close()
 
 
-def test_each_has_all_that_was_committed_before_it_began(tmp_path):
+def test_each_has_all_that_was_committed_before_it_began(tmp_path: Path) -> None:
     connection = store(tmp_path / "desk.db", [])
     written, ending = [0], threading.Event()
 
-    def write():
+    def write() -> None:
         while not ending.is_set() and written[0] < 20_000:
             add(connection, [f"{written[0]:06}" * 20])
             written[0] += 1
@@ -71,23 +77,25 @@ def test_each_has_all_that_was_committed_before_it_began(tmp_path):
     connection.close()
 
 
-def test_a_checkpoint_meanwhile_spoils_the_copy(tmp_path, monkeypatch):
+def test_a_checkpoint_meanwhile_spoils_the_copy(
+    tmp_path: Path, monkeypatch: pytest.MonkeyPatch
+) -> None:
     connection = store(tmp_path / "desk.db", ["a"])
     time.sleep(0.2)
-    whole = snapshot.shutil.copyfile
+    whole = shutil.copyfile
 
-    def copy(source, target):
+    def copy(source: str, target: str) -> None:
         whole(source, target)
         if not str(source).endswith("-wal"):
             add(connection, ["b"])
             connection.execute("PRAGMA wal_checkpoint(TRUNCATE)")
 
-    monkeypatch.setattr(snapshot.shutil, "copyfile", copy)
+    monkeypatch.setattr(shutil, "copyfile", copy)
     assert not snapshot.copy_once(str(tmp_path / "desk.db"), str(tmp_path / "copy.db"))
     connection.close()
 
 
-def test_no_store(tmp_path, monkeypatch):
+def test_no_store(tmp_path: Path, monkeypatch: pytest.MonkeyPatch) -> None:
     monkeypatch.setattr(snapshot, "TRIES", 2)
     (tmp_path / "other").write_text("no database, but longer than one byte")
     for name in ("other", "none"):
@@ -96,7 +104,7 @@ def test_no_store(tmp_path, monkeypatch):
     assert not (tmp_path / "none").exists()
 
 
-def test_fill_tries_again_and_tells_what_is_refused(scripted):
+def test_fill_tries_again_and_tells_what_is_refused(scripted: Scripted) -> None:
     ack = (200, "ack\n")
     scripted.replies = [ack, (503, "K4 Storage\n"), ack, (403, "A1 UnknownPerson\n")]
     taken, refused = fill(Desk(scripted.address), "web", [b"1", b"2", b"3"])
@@ -104,7 +112,9 @@ def test_fill_tries_again_and_tells_what_is_refused(scripted):
     assert [body for _, body in scripted.seen] == [b"1", b"2", b"2", b"3"]
 
 
-def test_fill_gives_up_on_a_desk_that_is_away(scripted, monkeypatch):
+def test_fill_gives_up_on_a_desk_that_is_away(
+    scripted: Scripted, monkeypatch: pytest.MonkeyPatch
+) -> None:
     monkeypatch.setattr("desk_broker.fill.PATIENCE", 0.0)
     scripted.replies = [(503, "K4 Storage\n")] * 9
     with pytest.raises(TimeoutError, match="503 K4 Storage"):

@@ -1,13 +1,16 @@
 """Waits double and are bounded; the log has a line now and then."""
 
+from __future__ import annotations
+
 import logging
 import random
 
+import pytest
 from desk_broker.backoff import Backoff
 from desk_broker.tally import Tally
 
 
-def test_waits_double_up_to_the_most():
+def test_waits_double_up_to_the_most() -> None:
     backoff = Backoff(0.1, 5.0, random.Random(1))
     waits = [backoff.next() for _ in range(60)]
     for n, wait in enumerate(waits):
@@ -17,7 +20,7 @@ def test_waits_double_up_to_the_most():
     assert backoff.next() <= 0.1
 
 
-def test_a_line_when_it_is_due_and_something_happened(caplog):
+def test_a_line_when_it_is_due_and_something_happened(caplog: pytest.LogCaptureFixture) -> None:
     now = [0.0]
     with caplog.at_level(logging.INFO):
         tally = Tally("a", 30.0, lambda: now[0])

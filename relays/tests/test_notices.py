@@ -64,6 +64,7 @@ class Mails:
     async def handle_DATA(self, _: object, __: object, envelope: object) -> str:
         content = envelope.content  # type: ignore[attr-defined]
         mail = message_from_bytes(content, policy=policy.default)
+        assert isinstance(mail, EmailMessage)
         mail["Rcpt"] = ",".join(sorted(envelope.rcpt_tos))  # type: ignore[attr-defined]
         self.mails.append(mail)
         return "250 OK"

@@ -71,7 +71,7 @@ def test_two_lines_give_nobody_a_shell(sshd: Sshd) -> None:
 def test_what_no_file_may_have(sshd: Sshd) -> None:
     before, key = kept(sshd), public(sshd, "carol")
     bare = key.split(" ")
-    for text in (
+    odd: list[str | bytes] = [
         OPTIONS + key,
         f"cert-authority {key}",
         f" {key}",
@@ -88,7 +88,8 @@ def test_what_no_file_may_have(sshd: Sshd) -> None:
         key + " " * 9000,
         (sshd.folder / "carol").read_bytes(),
         (sshd.folder / "eve-cert.pub").read_bytes(),
-    ):
+    ]
+    for text in odd:
         sshd.person("add", "carol", given(sshd, text), status=2)
     sshd.person("add", "carol", f"{sshd.folder}/none.pub", status=2)
     sshd.person("add", "carol", str(sshd.folder), status=2)

@@ -5,6 +5,7 @@ import sqlite3
 import subprocess
 from collections.abc import Iterator
 from contextlib import closing
+from dataclasses import replace
 from pathlib import Path
 
 import pytest
@@ -129,7 +130,7 @@ def test_what_somebody_else_wrote_there(quiet_site: Site) -> None:
     """Whoever wrote the outbox, no terminal and no browser obeys a reason."""
     path = quiet_site.folder / "outbox.db"
     outbox = Outbox(str(path))
-    wish = WISH.__class__(**(vars(WISH) | {"ends": "20991231235959Z"}))
+    wish = replace(WISH, ends="20991231235959Z")
     outbox.keep_request("ann", wish, AT, reason=Reason(HOSTILE, HOSTILE))
     for person, line in (("bob", "waiting"), ("bob", "approve ann 1"), ("ann", "mine --json")):
         _, printed = answered(quiet_site, person, line)

@@ -165,7 +165,7 @@ def likeliest(code: str, text: str) -> tuple[str, str]:
     for form, remedy in LIKELY.get(code, []):
         for found in re.finditer(form, plain):
             word = found.groupdict().get("word") or found[0]
-            if code != "S5" or (word not in KNOWN and not f"{word} =" in plain):
+            if code != "S5" or (word not in KNOWN and f"{word} =" not in plain):
                 return word.strip(), remedy
     return plain.strip(), ""
 

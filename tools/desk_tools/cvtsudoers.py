@@ -34,7 +34,8 @@ class BadSudoers(Exception):
 
 def mended(text: str) -> str:
     """cvtsudoers of 1.9.13 writes some pairs straight into a list: each is made an object."""
-    lines, stack = [], []
+    lines: list[str] = []
+    stack: list[str] = []
     for line in text.splitlines():
         bare = line.strip().rstrip(",")
         if bare[:1] in "]}" and bare:
@@ -77,9 +78,10 @@ def run(words: list[str], given: bytes | None, zone: str, shown: dict[str, str])
         raise BadSudoers(f"sudo cannot read it: {said_of(ran.stderr, shown)}")
     found = ran.stdout.decode("utf-8", "surrogateescape").strip()
     try:
-        return json.loads(mended(found), strict=False) if found else {}
+        read: Read = json.loads(mended(found), strict=False) if found else {}
     except (ValueError, IndexError):
         raise BadSudoers("cvtsudoers prints what is no JSON") from None
+    return read
 
 
 def file_read(path: str, shown: str) -> Read:
@@ -146,11 +148,12 @@ def is_joined(specs: list[dict[str, Any]]) -> bool:
 
 def rules(line: str, read: Read, name: str) -> list[dict[str, Any]]:
     """The rules of a line that was read, each command with the options of its own."""
-    specs = read.get("User_Specs", [])
+    specs: list[dict[str, Any]] = read.get("User_Specs", [])
     if not is_joined(specs) or not re.search(OPTION, line):
         return specs
     try:
-        apart = text_read(f"{set_apart(line)}\n", name).get("User_Specs", [])
+        read_apart = text_read(f"{set_apart(line)}\n", name)
+        apart: list[dict[str, Any]] = read_apart.get("User_Specs", [])
     except BadSudoers:
         apart = []
     if commands(apart) != commands(specs) or is_joined(apart):

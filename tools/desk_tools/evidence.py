@@ -75,12 +75,13 @@ def periods(folder: str, first: str, last: str) -> list[Period]:
     dated = sorted(found[1] for it in os.listdir(folder) if (found := DATED.fullmatch(it)))
     if not dated or dated[0] > first:
         raise Failed(f"{folder}: it has no roster YYYYMMDDHHMMSSZ.toml of {first} or before")
-    found = []
+    served: list[Period] = []
     for at, after in zip(dated, [*dated[1:], None], strict=True):
         end = last if after is None else min(last, stamp(seconds(after) - 1))
         if at <= last and first <= end:
-            found.append(Period(at, read(os.path.join(folder, f"{at}.toml")), max(at, first), end))
-    return found
+            text = read(os.path.join(folder, f"{at}.toml"))
+            served.append(Period(at, text, max(at, first), end))
+    return served
 
 
 @dataclass

@@ -51,8 +51,8 @@ def parser() -> argparse.ArgumentParser:
 
 def reading(said: argparse.Namespace) -> str:
     here = os.path.dirname(os.path.abspath(__file__))
-    paths = [os.path.join(here, it, READING) for it in PLACES]
-    for path in [said.second_reading] if said.second_reading else paths:
+    named: list[str] = [said.second_reading] if said.second_reading else []
+    for path in named or [os.path.join(here, it, READING) for it in PLACES]:
         if os.path.exists(path):
             return path
     raise Failed(f"there is no {said.second_reading or READING}: --second-reading FILE")

@@ -63,13 +63,14 @@ def coded(code: str) -> str:
 
 def first_code(faults: list[Fault]) -> str | None:
     """The code that the desk answers where a text has these faults."""
-    return min((fault.code for fault in faults), key=ORDER.index, default=None)
+    return min((fault.code for fault in faults), key=lambda it: ORDER.index(str(it)), default=None)
 
 
 def shown(value: Any) -> str:
     """A value on one line, shortened."""
     try:
-        text = value.text if hasattr(value, "text") else json.dumps(value, ensure_ascii=True)
+        is_stamp = hasattr(value, "text")
+        text: str = value.text if is_stamp else json.dumps(value, ensure_ascii=True)
     except (TypeError, ValueError):
         text = str(value)
     return text if len(text) <= MOST_SHOWN else f"{text[: MOST_SHOWN - 4]} ..{text[-1]}"

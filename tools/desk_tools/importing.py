@@ -401,13 +401,13 @@ class Import:
         self.look_at(where, text)
         if all(it.says_yes() for it in lists):
             users, hosts, targets = lists
-            said = [f"NOTBEFORE={options['notbefore']}"] if "notbefore" in options else []
-            said += [f"NOTAFTER={options['notafter']}"] if "notafter" in options else []
-            said += ["NOPASSWD:"] if options.get("authenticate") is False else []
-            self.has_nopasswd = self.has_nopasswd or said[-1:] == ["NOPASSWD:"]
+            marks = [f"NOTBEFORE={options['notbefore']}"] if "notbefore" in options else []
+            marks += [f"NOTAFTER={options['notafter']}"] if "notafter" in options else []
+            marks += ["NOPASSWD:"] if options.get("authenticate") is False else []
+            self.has_nopasswd = self.has_nopasswd or marks[-1:] == ["NOPASSWD:"]
             if text == "ALL" and not negated and "in_alias" in options:
                 text = self.all_of_alias()
-            self.lines.append(" ".join([f"{users} {hosts} = ({targets})", *said, f"{'!' if negated else ''}{text}"]))
+            self.lines.append(" ".join([f"{users} {hosts} = ({targets})", *marks, f"{'!' if negated else ''}{text}"]))
 
     def all_of_alias(self) -> str:
         """An alias of ALL alone. ALL in a rule lets its user set the environment, and ALL in an

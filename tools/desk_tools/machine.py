@@ -137,13 +137,14 @@ def by_address(form: str) -> Callable[[Host, bool], bool] | None:
     found = NETWORK.fullmatch(form)
     if found is None or not is_mask(found[2]):
         return None
+    mask = found[2]
     try:
         network = ipaddress.ip_network(form, strict=False)
     except ValueError:
         return None
 
     def matches(host: Host, perhaps: bool) -> bool:
-        if perhaps and found[2] is None:
+        if perhaps and mask is None:
             return any(may_be_network(it, network.network_address) for it in host.addresses)
         return any(it in network for it in host.addresses)
 

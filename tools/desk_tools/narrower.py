@@ -70,4 +70,3 @@ def proposals(roster: dict[str, Any], grants: list[Grant], until: int) -> list[N
         unused = sum(not it.used for it in logged)
         found.append(Narrower(label, len(under), unused, len(under) - len(logged), text))
     return found
-

@@ -3,7 +3,7 @@
 import re
 from collections.abc import Iterator
 from datetime import date
-from typing import Any
+from typing import Any, TypeGuard
 
 from desk_tools import schema, toml_text
 from desk_tools.found import Fault, dotted, shown
@@ -243,7 +243,7 @@ def is_formed(text: str) -> bool:
     return schema.day_form().search(text) is not None
 
 
-def is_day(text: Any) -> bool:
+def is_day(text: Any) -> TypeGuard[str]:
     if not isinstance(text, str) or not is_formed(text):
         return False
     try:

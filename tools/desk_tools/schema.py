@@ -88,7 +88,7 @@ def fits(name: str) -> Check:
 
 def check_of(node: Any) -> Check:
     if not isinstance(node, dict) or "type" not in node or set(node) - KNOWN:
-        return lambda value: node == {}
+        return lambda value: bool(node == {})
     kinds = [node["type"]] if isinstance(node["type"], str) else node["type"]
     makers = {str: text_check, dict: table_check, list: list_check, int: number_check}
     checks = {kind: makers[kind](node) for kind in (TYPES[kind] for kind in kinds)}
@@ -102,7 +102,7 @@ def text_check(node: dict[str, Any]) -> Check:
 
 def number_check(node: dict[str, Any]) -> Check:
     least, most = node.get("minimum", -math.inf), node.get("maximum", math.inf)
-    return lambda value: least <= value <= most
+    return lambda value: bool(least <= value <= most)
 
 
 def list_check(node: dict[str, Any]) -> Check:

@@ -82,4 +82,3 @@ def beyond(desk: Desk, base: str, policy: Policy, baseline: str) -> Iterator[dic
     """For each user what the base gives beyond the baseline: one case, or nothing."""
     for user in users_of(policy):
         yield {"user": user} | desk.beyond(base, baseline, user)
-

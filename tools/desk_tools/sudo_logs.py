@@ -16,10 +16,10 @@ import re
 import time
 import zlib
 from array import array
-from collections.abc import Iterable, Iterator
+from collections.abc import Callable, Iterable, Iterator
 from dataclasses import dataclass, field
 from datetime import datetime, timezone, tzinfo
-from typing import Any, BinaryIO, NamedTuple, cast
+from typing import Any, BinaryIO, NamedTuple, TypeAlias, cast
 
 MOST_SHOWN = 20
 # lines of a log are no longer; of what is, the rest is another line that cannot be read
@@ -88,7 +88,7 @@ class Cut(Exception):
     """Why a line cannot be read."""
 
 
-Moments = array  # in seconds since 1970
+Moments: TypeAlias = "array[int]"  # in seconds since 1970
 
 
 @dataclass
@@ -97,7 +97,7 @@ class Logs:
 
     zone: tzinfo = timezone.utc
     # (keyed by Run's members)
-    runs: dict[tuple, Moments] = field(default_factory=dict)
+    runs: dict[tuple[Any, ...], Moments] = field(default_factory=dict)
     refused: dict[tuple[str, str], Moments] = field(default_factory=dict)
     unread: list[Unread] = field(default_factory=list)
     files: int = 0
@@ -122,7 +122,9 @@ class Logs:
 
 
 def opened(path: str) -> BinaryIO:
-    for end, opener in ((".gz", gzip.open), (".bz2", bz2.open), (".xz", lzma.open)):
+    openers: dict[str, Callable[[str, Any], Any]]
+    openers = {".gz": gzip.open, ".bz2": bz2.open, ".xz": lzma.open}
+    for end, opener in openers.items():
         if path.endswith(end):
             return cast(BinaryIO, opener(path, "rb"))
     return open(path, "rb")
@@ -159,7 +161,7 @@ class Reader:
         self.moments: dict[str, int] = {}
         # a command of syslog may go on in the next line of its host and user
         self.open: dict[tuple[str, str], Open] = {}
-        self.latest: dict[tuple[str, str], tuple[int, int, str, tuple]] = {}
+        self.latest: dict[tuple[str, str], tuple[int, int, str, tuple[Any, ...]]] = {}
         self.hosts: dict[str, str] = {}
         self.line = 0
 
@@ -362,8 +364,8 @@ class Reader:
         # a folder or a variable may have the same words
         if text.count(" ; COMMAND=") > 1 or f" ; {head}".count(" ; USER=") > 1:
             raise Cut("it can be read in two ways: a user's words look like sudo's")
-        named, chroot, target, group, command = found.groups()
-        host = host or short(named or "")
+        name, chroot, target, group, command = found.groups()
+        host = host or short(name or "")
         if not host:
             raise Cut("it names no host: write HOST=FILE")
         beside = [f"{it}={value}" for it, value in (("chroot", chroot), ("group", group)) if value]

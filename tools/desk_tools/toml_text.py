@@ -261,7 +261,8 @@ class Reader:
         return Node("value", read, at), found.end()
 
     def array(self, at: int, depth: int) -> tuple[Node, int]:
-        began, items, rest = at, [], at + 1
+        items: list[Node] = []
+        began, rest = at, at + 1
         while True:
             start = self.skip(BLANK, rest)
             if self.text.startswith("]", start):
@@ -324,7 +325,8 @@ class Reader:
             raise Refused(at, "the line goes on behind its value")
 
     def document(self) -> Document:
-        found, root = Document(), {}
+        root: dict[str, Node] = {}
+        found = Document()
         section: list[str] = []
         at = 1 if self.text.startswith("\ufeff") else 0
         while True:

@@ -11,7 +11,7 @@ from typing import Any, NamedTuple
 
 from desk_tools.decisions import Desk, Invocation, Policy, Question
 from desk_tools.found import visible
-from desk_tools.sudo_logs import Logs, Run, without_exits
+from desk_tools.sudo_logs import Logs, Moments, Run, without_exits
 
 MOMENT = "%Y%m%d%H%M%SZ"
 # an argument with a space stands in quotes, since sudo 1.9.13
@@ -160,7 +160,7 @@ class Use:
     base: Policy
     grants: list[Grant]
     skew: int
-    done: dict[Done, array] = field(default_factory=dict)
+    done: dict[Done, Moments] = field(default_factory=dict)
     rows: list[Row] = field(default_factory=list)
     late: list[Late] = field(default_factory=list)
     # the commands of a grant that cover a run, and the grants of a user, host and target
@@ -170,7 +170,7 @@ class Use:
     def take(self, logs: Logs, span: Span) -> None:
         """The runs of the span, in the order of their words and moments."""
         without_exits(logs)
-        merged: dict[Done, array] = {}
+        merged: dict[Done, Moments] = {}
         for run, moments in logs.runs.items():
             merged.setdefault(done_of(Run(*run)), array("q")).extend(moments)
         for done in sorted(merged):
@@ -233,7 +233,7 @@ class Use:
             if (done, place) in self.covered
         ]
 
-    def by_grants(self, done: Done, moments: array) -> list[int]:
+    def by_grants(self, done: Done, moments: Moments) -> list[int]:
         """Counts what ran by grants; what is left of the moments."""
         covering = self.covering(done)
         if not covering:
@@ -245,14 +245,14 @@ class Use:
                 near = enumerate(covering)
                 places = [it for it, (grant, _) in near if is_in(grant, at, self.skew)]
             by.setdefault(tuple(places), []).append(at)
-        for places, found in by.items():
-            for grant, commands in (covering[it] for it in places):
+        for within, found in by.items():
+            for grant, commands in (covering[it] for it in within):
                 grant.moments += found
                 for command in commands:
                     grant.used.setdefault(command, []).extend(found)
                     grant.ran.setdefault(command, set()).add(done.path)
-            if places:
-                grants = tuple(covering[it][0] for it in places)
+            if within:
+                grants = tuple(covering[it][0] for it in within)
                 self.rows.append(Row(done, "grant", grants, "", found))
         return by.get((), [])
 
@@ -323,4 +323,3 @@ class Use:
 
 def is_in(grant: Grant, at: int, skew: int) -> bool:
     return grant.first - skew <= at <= grant.last + skew
-

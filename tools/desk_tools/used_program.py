@@ -7,6 +7,7 @@ import sys
 import tempfile
 import tomllib
 import zoneinfo
+from collections.abc import Callable
 from typing import Any
 
 from desk_tools.decisions import Desk
@@ -35,7 +36,7 @@ def moment(text: str) -> int:
     return seconds(text)
 
 
-OPTIONS = (
+OPTIONS: tuple[tuple[str, Callable[[str], Any], str, str], ...] = (
     ("--from", moment, "AT", "what ran since then"),
     ("--until", moment, "AT", "what ran until then"),
     ("--skew", int, "SECONDS", "how far a host's clock may be off (0)"),
@@ -67,7 +68,7 @@ def parser() -> argparse.ArgumentParser:
 def audit_of(path: str) -> dict[str, Any]:
     try:
         with open(0 if path == "-" else path, encoding="utf-8") as file:
-            told = json.load(file)
+            told: dict[str, Any] = json.load(file)
         grants_of(told)
     except (ValueError, KeyError, TypeError, RecursionError):
         raise Failed(f"{path}: it is not what desk-audit --json prints") from None

@@ -40,7 +40,7 @@ def grant_of(grant: Grant) -> Told:
 
 
 def row_of(row: Row) -> Told:
-    told = {
+    told: Told = {
         "host": escaped(row.done.host),
         "by": escaped(row.done.user),
         "runas": escaped(row.done.target),
@@ -108,7 +108,7 @@ def json_of(told: Told) -> str:
 
 
 def span(it: Told) -> str:
-    return it["first"] if it["first"] == it["last"] else f"{it['first']} to {it['last']}"
+    return str(it["first"]) if it["first"] == it["last"] else f"{it['first']} to {it['last']}"
 
 
 def times_said(count: int) -> str:

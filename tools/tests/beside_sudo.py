@@ -6,6 +6,8 @@ by the file itself, which has to allow all that the desk allows, and nothing els
 and so many random ones. beside_sudo.py RANDOM FILE..
 """
 
+from __future__ import annotations
+
 import base64
 import hashlib
 import json
@@ -15,6 +17,7 @@ import re
 import subprocess
 import sys
 import tempfile
+from collections.abc import Sequence
 
 ROOT = os.path.dirname(os.path.dirname(os.path.dirname(os.path.abspath(__file__))))
 sys.path[:0] = [os.path.join(ROOT, "tools"), os.path.join(ROOT, "scripts")]
@@ -37,21 +40,21 @@ REFUSED = re.compile(r":[0-9]+: (\w+: .*, which a base cannot say|a time without
 ALIKE = ("Defaults", "(.. :", "#", "%")
 
 
-def digest(path):
+def digest(path: str) -> str:
     return base64.b64encode(hashlib.sha256(f"#!/bin/sh\n# {path.removeprefix('/srv/')}\n".encode()).digest()).decode()
 
 
-def signed(rng, word):
+def signed(rng: random.Random, word: str) -> str:
     """A word, or its negation; the sign of a command stands behind its digest."""
     sign = rng.choice(("", "", "", "!"))
     return word.replace(" ", f" {sign}", 1) if word.startswith("sha") else sign + word
 
 
-def chosen(rng, words, most=3):
+def chosen(rng: random.Random, words: Sequence[str], most: int = 3) -> str:
     return ", ".join(signed(rng, rng.choice(words)) for _ in range(rng.randint(1, most)))
 
 
-def random_command(rng, targets, commands):
+def random_command(rng: random.Random, targets: list[str], commands: list[str]) -> str:
     """A command or two, with a target, options and tags or without."""
     target = rng.choice(["", "", f"({chosen(rng, targets, 2)}) ", f"({chosen(rng, targets, 2)} : op) "])
     odd = (["TIMEOUT=60 ", "CWD=/ "], ["NOEXEC: ", "EXEC: ", "SETENV: ", "MAIL: "]) if len(commands) > 12 else ([], [])
@@ -60,7 +63,7 @@ def random_command(rng, targets, commands):
     return f"{target}{option}{tag}{chosen(rng, commands, 2)}"
 
 
-def random_sudoers(rng):
+def random_sudoers(rng: random.Random) -> str:
     """Aliases and rules; of two thirds of the files some words are ones that the desk cannot say."""
     users = [*USERS, "ALL", "ALL", "%wheel", "%ops", "%empty", "#2002", "%nobody-knows"]
     hosts, targets = [*HOSTS, "ALL", "ALL", "ALL", "DB1"], ["root", "root", "op", "ALL", "ALL", "%ops"]
@@ -82,7 +85,7 @@ def random_sudoers(rng):
 class File:
     """A sudoers file, with its paths below /srv, where all commands are files of this test."""
 
-    def __init__(self, name, text):
+    def __init__(self, name: str, text: str) -> None:
         self.name = name
         self.text = re.sub(r"(?<=[\s,!=:)])/(?!srv/)(?=[A-Za-z])", "/srv/", text)
         read = json.dumps(text_read(self.text, name))
@@ -90,12 +93,12 @@ class File:
         self.users = sorted({*USERS, "root", *re.findall(r'"username": "([a-z_][a-z0-9._-]{0,31})"', read)})
         self.hosts = sorted({*HOSTS, *(it.lower() for it in re.findall(r'"hostname": "([A-Za-z][A-Za-z0-9-]{0,31})"', read))} - {"all"})
 
-    def paths(self):
+    def paths(self) -> set[str]:
         """The files that its commands name, and one in each directory."""
         found = {command.split(" ")[0] for command in self.commands}
         return {f"{path}tool" if path.endswith("/") else path for path in found if path.startswith("/srv/")}
 
-    def invocation(self, rng):
+    def invocation(self, rng: random.Random) -> list[str]:
         path, *args = rng.choice(self.commands or ["/srv/bin/ls"]).split(" ")
         path = f"{path}tool" if path.endswith("/") else path
         args = rng.choice([args, args, [], ["-l"], [*args, "x"]])
@@ -104,7 +107,7 @@ class File:
         return [rng.choice(names), rng.choice(self.hosts), rng.choice(["root", "root", "op", rng.choice(names)]), AT, path, *args]
 
 
-def read_files(named, count):
+def read_files(named: list[str], count: int) -> tuple[list[File], int]:
     """The files that sudo reads, and how many it does not."""
     rng, found, unread = random.Random(1), [], 0
     for path in named:
@@ -119,21 +122,21 @@ def read_files(named, count):
 
 
 class Run:
-    def __init__(self, folder, sudoers):
+    def __init__(self, folder: str, sudoers: str) -> None:
         self.folder, self.sudoers = folder, sudoers
         self.programs = {name: desk.tool(name) for name in ("sudo", "visudo", "faketime")}
         self.count = {"bases": 0, "refused": 0, "kept whole": 0, "asked": 0, "allowed": 0, "denied, though the file allows": 0, "wrong": 0}
 
-    def wrong(self, file, said):
+    def wrong(self, file: File, said: str) -> None:
         self.count["wrong"] += 1
         print(f"{file.name}: {said}\n{file.text}")
 
-    def by_sudo(self, text, words):
+    def by_sudo(self, text: str, words: list[str]) -> bool:
         with open(self.sudoers, "w", encoding="utf-8", errors="surrogateescape") as target:
             target.write(text)
         return sudo_peer.allows(self.programs, words)
 
-    def look(self, file, rng):
+    def look(self, file: File, rng: random.Random) -> None:
         source = os.path.join(self.folder, "source")
         with open(source, "w", encoding="utf-8", errors="surrogateescape") as target:
             target.write(file.text)
@@ -157,7 +160,7 @@ class Run:
         for _ in range(ASKED):
             self.ask(file, base, ran.stdout, is_whole, file.invocation(rng))
 
-    def ask(self, file, base, text, is_whole, words):
+    def ask(self, file: File, base: str, text: str, is_whole: bool, words: list[str]) -> None:
         answer = desk.run([DESK, "decide", base, *words[:5], "--", *words[5:]])
         ours = answer.returncode == 0
         theirs, before = self.by_sudo(text, words), self.by_sudo(file.text, words)
@@ -173,7 +176,7 @@ class Run:
             self.wrong(file, f"{shown}: nothing was left out, and the base denies what the file allows\n{text}--")
 
 
-def inside(count, named):
+def inside(count: int, named: list[str]) -> None:
     files, unread = read_files(named, count)
     rng = random.Random(2)
     users = sorted({*USERS, "op", *(user for file in files for user in file.users)} - {"ALL"})
@@ -188,14 +191,14 @@ def inside(count, named):
         os.chmod(groups, 0o644)
         sudo_peer.bind(groups, "/etc/group")
         ran = Run(folder, sudoers)
-        for file in files:
-            ran.look(file, rng)
+        for each in files:
+            ran.look(each, rng)
         subprocess.run(["umount", "/etc/group"], check=True)
         sudo_peer.clear()
     print(f"of {len(files) + unread} sudoers files sudo reads {len(files)}: {ran.count}")
-    count = ran.count
-    is_idle = not count["allowed"] or not count["kept whole"] or count["refused"] * 8 > count["bases"]
-    sys.exit(1 if count["wrong"] or is_idle else 0)
+    found = ran.count
+    is_idle = not found["allowed"] or not found["kept whole"] or found["refused"] * 8 > found["bases"]
+    sys.exit(1 if found["wrong"] or is_idle else 0)
 
 
 if __name__ == "__main__":

@@ -17,6 +17,7 @@ import tempfile
 import threading
 import time
 from collections.abc import Iterator
+from typing import Any
 
 ROOT = os.path.dirname(os.path.dirname(os.path.dirname(os.path.abspath(__file__))))
 sys.path[:0] = [os.path.join(ROOT, "tools"), os.path.join(ROOT, "scripts")]
@@ -44,7 +45,10 @@ WAYS = {
 }
 LONG = "x" * 700
 # host, user, target, command, and what it was by: a grant, the base, neither; or it was refused
-RAN = (
+Told = dict[str, Any]
+# host, user, target, the command's words, and by what it ran
+Rows = tuple[tuple[str, str, str, list[str], str], ...]
+RAN: Rows = (
     ("db1", "ann", "root", ["/srv/bin/a", "-l"], "grant"),
     ("db1", "ann", "root", ["/srv/bin/a", "\x1b[2J\x07", "a\nb"], "grant"),
     ("db1", "ann", "root", ["/srv/bin/a", "it's", "a\\b", "a  b", ""], "grant"),
@@ -59,7 +63,7 @@ RAN = (
     ("db2", "ann", "op", ["/srv/bin/b"], "refused"),
 )
 # classic lines of these can be read in two ways
-UNCLEAR = (
+UNCLEAR: Rows = (
     ("db1", "ann", "root", ["/srv/bin/a", ";", "COMMAND=/srv/bin/b"], "grant"),
     ("db1", "ann", "root", ["/srv/bin/a", "odd"], "grant"),
 )
@@ -148,7 +152,7 @@ def furnish(folder: str) -> None:
     subprocess.run(["ip", "link", "set", "lo", "up"], check=True)
 
 
-def run_all(folder: str, printed: dict[str, str], way: str, rows: tuple) -> None:
+def run_all(folder: str, printed: dict[str, str], way: str, rows: Rows) -> None:
     for host, settings in ((it, WAYS[way].replace("HOST", it)) for it in ("db1", "db2")):
         socket.sethostname(host)
         changed = "eve ALL = (root) ALL\n" if host == "db2" else ""
@@ -189,7 +193,7 @@ def served(way: str) -> "subprocess.Popen[bytes] | None":
     return found
 
 
-def told(folder: str, rows: tuple, printed: dict[str, str], way: str) -> dict:
+def told(folder: str, rows: Rows, printed: dict[str, str], way: str) -> Told:
     """What desk-used tells of the rows, logged in one way."""
     shutil.rmtree("/mnt/log", ignore_errors=True)
     os.mkdir("/mnt/log")
@@ -205,13 +209,14 @@ def told(folder: str, rows: tuple, printed: dict[str, str], way: str) -> dict:
     ran = desk.run([USED, "--json", "--desk", DESK, *given, *words])
     if ran.returncode not in (0, 1):
         sys.exit(f"{way}: {ran}")
-    return json.loads(ran.stdout)
+    found: Told = json.loads(ran.stdout)
+    return found
 
 
-def wrong(way: str, found: dict) -> Iterator[str]:
+def wrong(way: str, found: Told) -> Iterator[str]:
     """What is told otherwise than it was."""
     runs = {(it["host"], it["by"], it["runas"], it["command"]): it for it in found["runs"]}
-    grounds: dict[tuple, str] = {}
+    grounds: dict[tuple[str, ...], str] = {}
     for (host, user, target, command), it in runs.items():
         grounds[host, user, target, command.split(" ")[0], it["ground"]] = command
     wanted = [it for it in RAN if it[4] != "refused"]
@@ -235,7 +240,7 @@ def wrong(way: str, found: dict) -> Iterator[str]:
         yield f"{way}: a control byte is told"
 
 
-def unclear(way: str, found: dict) -> Iterator[str]:
+def unclear(way: str, found: Told) -> Iterator[str]:
     """JSON is clear; a classic line with a user's words that look like sudo's is unread."""
     count, ran = found["logs"]["unread"], sum(it["runs"] for it in found["runs"])
     # (a file has how each ended, too)
@@ -244,7 +249,7 @@ def unclear(way: str, found: dict) -> Iterator[str]:
         yield f"{way}, unclear lines: {found}"
 
 
-def alike(told_by: dict[str, dict]) -> Iterator[str]:
+def alike(told_by: dict[str, Told]) -> Iterator[str]:
     """Each way tells the same, but for the moments, and what a long line of syslog loses."""
     kept = {
         way: sorted((it["host"], it["by"], it["command"], it["ground"]) for it in found["runs"])

@@ -166,7 +166,8 @@ def inside(count: int, seed: int = 53) -> int:
         machine = Machine(folder)
         run = Run(machine)
         for it in WIDENERS:
-            is_right = run.case(it, lambda _base, asks=it.asks: [asks])
+            asks = it.asks
+            is_right = run.case(it, lambda _: [asks])  # noqa: B023
             failed += not is_right
             print(f"{'ok' if is_right else 'WIDENED'}: {it.name}")
         named, run.count = run.count, collections.Counter()

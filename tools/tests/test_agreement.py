@@ -1,5 +1,7 @@
 """desk-lint and the desk agree: on whether a text is refused, and on the first code."""
 
+from __future__ import annotations
+
 import collections
 import glob
 import itertools
@@ -7,6 +9,10 @@ import os
 import random
 import subprocess
 import tomllib
+from pathlib import Path
+from typing import Any
+
+import pytest
 
 from desk_tools import admission, base_faults, message_faults, roster_faults, toml_text
 from desk_tools.found import coded, first_code
@@ -19,14 +25,15 @@ BASE_MARKS = ["\\\n", " \\\n", "\n", ",", "=", "!", ":", "#", "\\", '"', "(", ")
 EXAMPLE = os.path.join(ROOT, "examples", "roster.toml")
 
 
-def answer(desk, roster, given=b""):
+def answer(desk: str, roster: str, given: bytes = b"") -> subprocess.CompletedProcess[bytes]:
     """What the desk says: the code of the roster, or the answer to each line."""
     words = [desk, "deliver", roster, "/dev/null", "-", "chat"]
     return subprocess.run(words, input=given, capture_output=True, check=False)
 
 
-def test_rosters(desk, tmp_path, pytestconfig):
-    path, wrong, seen = tmp_path / "roster", [], collections.Counter()
+def test_rosters(desk: str, tmp_path: Path, pytestconfig: pytest.Config) -> None:
+    path, wrong = tmp_path / "roster", []
+    seen = collections.Counter[str]()
     for data in texts.rosters(pytestconfig.getoption("rosters")):
         path.write_bytes(data)
         ran = answer(desk, str(path))
@@ -40,9 +47,10 @@ def test_rosters(desk, tmp_path, pytestconfig):
     assert pytestconfig.getoption("rosters") < 400 or len(seen) == 8, seen
 
 
-def test_limits(desk, tmp_path):
+def test_limits(desk: str, tmp_path: Path) -> None:
     """Each name, number and count at its limit, and one past it."""
-    path, wrong, seen = tmp_path / "roster", [], collections.Counter()
+    path, wrong = tmp_path / "roster", []
+    seen = collections.Counter[str]()
     for what, text in texts.limits():
         path.write_text(text, encoding="utf-8")
         ran = answer(desk, str(path))
@@ -55,7 +63,7 @@ def test_limits(desk, tmp_path):
     assert seen["read"] > 20 and seen["O4 BadName"] > 20 and seen["O7 OutOfRange"] > 10, seen
 
 
-def test_messages(desk, pytestconfig):
+def test_messages(desk: str, pytestconfig: pytest.Config) -> None:
     with open(EXAMPLE, "rb") as file:
         site = Site(roster_faults.Roster(file.read()).document.value)
     lines = texts.messages(pytestconfig.getoption("messages"))
@@ -73,7 +81,7 @@ def test_messages(desk, pytestconfig):
     assert pytestconfig.getoption("messages") < 4000 or len(set(theirs)) == 12, set(theirs)
 
 
-def bases():
+def bases() -> list[str]:
     """The policies of cases/ and of the examples, and these with one or two of their parts changed."""
     found = []
     for path in sorted(glob.glob(os.path.join(ROOT, "cases", "check*.toml"))):
@@ -85,14 +93,15 @@ def bases():
     return found
 
 
-def strings(value):
+def strings(value: Any) -> list[str]:
     inner = value.values() if isinstance(value, dict) else value if isinstance(value, list) else ()
     return [value] if isinstance(value, str) else [text for it in inner for text in strings(it)]
 
 
-def test_bases(desk, tmp_path, pytestconfig):
+def test_bases(desk: str, tmp_path: Path, pytestconfig: pytest.Config) -> None:
     """desk-lint finds a fault where the desk refuses a base, and nowhere else."""
-    chance, path, seen = random.Random(54), tmp_path / "base", collections.Counter()
+    chance, path = random.Random(54), tmp_path / "base"
+    seen = collections.Counter[str]()
     known = bases()
     changed = (texts.changed(chance, chance.choice(known), BASE_WORDS, BASE_MARKS) for _ in range(10**9))
     given = [*chance.sample(known, min(60, len(known))), *itertools.islice(changed, pytestconfig.getoption("rosters") // 4)]
@@ -115,7 +124,7 @@ def test_bases(desk, tmp_path, pytestconfig):
     assert seen["read"] > 20 and len(seen) > 6, seen
 
 
-def test_toml_beside_tomllib(pytestconfig):
+def test_toml_beside_tomllib(pytestconfig: pytest.Config) -> None:
     """What Python's reader of TOML 1.0 reads is read here, as the same value."""
     compared = 0
     for data in texts.rosters(pytestconfig.getoption("rosters") * 5, seed=3):
@@ -133,7 +142,7 @@ def test_toml_beside_tomllib(pytestconfig):
     assert compared > pytestconfig.getoption("rosters")
 
 
-def plain(value):
+def plain(value: Any) -> Any:
     """A value in which dates are only dates."""
     if isinstance(value, dict):
         return {key: plain(it) for key, it in value.items()}

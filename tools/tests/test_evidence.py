@@ -1,8 +1,12 @@
 """desk-evidence: the same bytes each time, and what sha256sum and ssh-keygen say of them."""
 
+from __future__ import annotations
+
 import csv
 import os
 import subprocess
+from collections.abc import Callable
+from pathlib import Path
 
 import pytest
 
@@ -11,13 +15,14 @@ from tests.conftest import ROOT
 EXAMPLES = os.path.join(ROOT, "examples")
 SPAN = ("20260101000000Z", "20260331235959Z")
 CHANGED = "20260105093000Z"
+Make = Callable[..., tuple[str, "subprocess.CompletedProcess[str]"]]
 
 
-def run(*words, folder=None):
+def run(*words: str, folder: str | None = None) -> subprocess.CompletedProcess[str]:
     return subprocess.run(words, cwd=folder, capture_output=True, text=True, check=False)
 
 
-def checked(folder):
+def checked(folder: str) -> bool:
     """What sha256sum says, of each file of the folder."""
     ran = run("sha256sum", "-c", "--quiet", "--strict", "SHA256SUMS", folder=folder)
     with open(os.path.join(folder, "SHA256SUMS"), encoding="utf-8") as file:
@@ -31,7 +36,7 @@ def checked(folder):
     return ran.returncode == 0
 
 
-def bytes_of(folder):
+def bytes_of(folder: str) -> dict[str, bytes]:
     found = {}
     for top, _, names in os.walk(folder):
         for name in names:
@@ -41,7 +46,7 @@ def bytes_of(folder):
 
 
 @pytest.fixture
-def evidence(desk, tmp_path):
+def evidence(desk: str, tmp_path: Path) -> Make:
     """Makes a folder of the examples, with these words besides."""
     rosters = tmp_path / "rosters"
     rosters.mkdir()
@@ -52,7 +57,9 @@ def evidence(desk, tmp_path):
     (rosters / f"{CHANGED}.toml").write_text(text.replace('bob = ["approve-db"]', "bob = []"))
     (rosters / "20270101000000Z.toml").write_text("later")
 
-    def make(name, *words, messages="audited.messages", span=SPAN):
+    def make(
+        name: str, *words: str, messages: str = "audited.messages", span: tuple[str, str] = SPAN
+    ) -> tuple[str, subprocess.CompletedProcess[str]]:
         folder = str(tmp_path / name)
         program = os.path.join(ROOT, "tools", "desk-evidence")
         given = ["--messages", os.path.join(EXAMPLES, messages), "--desk", desk]
@@ -62,7 +69,7 @@ def evidence(desk, tmp_path):
     return make
 
 
-def test_twice_the_same(evidence, tmp_path):
+def test_twice_the_same(evidence: Make, tmp_path: Path) -> None:
     """Signed, with logs, over two rosters, of messages in another order: byte for byte."""
     key, log = str(tmp_path / "key"), f"db1={EXAMPLES}/used.log"
     assert not run("ssh-keygen", "-q", "-t", "ed25519", "-N", "", "-f", key).returncode
@@ -96,7 +103,7 @@ def test_twice_the_same(evidence, tmp_path):
     assert checked(first)
 
 
-def test_each_roster_has_its_time(evidence):
+def test_each_roster_has_its_time(evidence: Make) -> None:
     folder, ran = evidence("made", "--log", f"db1={EXAMPLES}/used.log")
     assert ran.returncode == 0, ran
     found = bytes_of(folder)
@@ -116,7 +123,7 @@ def test_each_roster_has_its_time(evidence):
     assert rows[0]["commands"] == "/usr/bin/id, /usr/bin/systemctl restart postgresql"
 
 
-def test_without_logs_and_of_one_roster(evidence, desk):
+def test_without_logs_and_of_one_roster(evidence: Make, desk: str) -> None:
     other = os.path.join(EXAMPLES, "roster.toml")
     folder, ran = evidence("made", "--roster", other)
     assert ran.returncode == 2 and "not allowed with" in ran.stderr and not os.path.exists(folder)
@@ -127,7 +134,7 @@ def test_without_logs_and_of_one_roster(evidence, desk):
     assert b",bob,\n" in bytes_of(folder)["grants.csv"] and "logs" not in bytes_of(folder)
 
 
-def test_a_second_reading_that_differs(evidence, tmp_path):
+def test_a_second_reading_that_differs(evidence: Make, tmp_path: Path) -> None:
     """It is said so: here it takes no refusal of a second approval by one person."""
     with open(os.path.join(EXAMPLES, "second-reading.jq"), encoding="utf-8") as file:
         text = file.read()
@@ -144,7 +151,7 @@ def test_a_second_reading_that_differs(evidence, tmp_path):
     assert found["20250101000000Z/comparison"].startswith(b"THE STATUSES DIFFER\n"), found
 
 
-def test_what_is_refused(evidence, tmp_path):
+def test_what_is_refused(evidence: Make, tmp_path: Path) -> None:
     """Nothing is made by halves, and nothing is written over."""
     (tmp_path / "there").mkdir()
     for name, words, span, said in (

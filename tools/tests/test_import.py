@@ -1,17 +1,21 @@
 """desk-import: the base of a sudoers file, and what is said of the rest; and what sudo says of both."""
 
+from __future__ import annotations
+
 import os
 import re
 import shutil
 import subprocess
 import sys
 import time
+from collections.abc import Callable
+from pathlib import Path
 
 import pytest
 
 from desk_tools import machine
 from tests import fetch
-from tests.conftest import ROOT
+from tests.conftest import ROOT, Run
 
 BESIDE = os.path.join(ROOT, "tools", "tests", "beside_sudo.py")
 NEVER_WIDER = os.path.join(ROOT, "tools", "tests", "never_wider.py")
@@ -27,9 +31,11 @@ case $1:$2 in
 esac
 """
 
+Make = Callable[..., tuple[str, list[str]]]
+
 
 @pytest.fixture
-def made(imports, desk, tmp_path, monkeypatch):
+def made(imports: Run, desk: str, tmp_path: Path, monkeypatch: pytest.MonkeyPatch) -> Make:
     """The base of a text, and the notes on it, on a machine of three users and three groups."""
     for name, text in (("group", GROUP), ("passwd", PASSWD)):
         (tmp_path / name).write_text(text)
@@ -39,7 +45,7 @@ def made(imports, desk, tmp_path, monkeypatch):
     getent.chmod(0o755)
     monkeypatch.setenv("PATH", f"{tmp_path}/bin:{os.environ['PATH']}")
 
-    def make(text, *words, status=None):
+    def make(text: str, *words: str, status: int | None = None) -> tuple[str, list[str]]:
         source = tmp_path / "sudoers"
         source.write_text(text)
         ran = imports("--desk", desk, *words, str(source))
@@ -92,12 +98,12 @@ def made(imports, desk, tmp_path, monkeypatch):
         ("ann ALL = (: op) /bin/ls, () /bin/kill, (op : op) /bin/ps\n", "ann ALL = (op) /bin/ps\n"),
     ],
 )
-def test_bases(made, text, base):
+def test_bases(made: Make, text: str, base: str) -> None:
     found, _ = made(text)
     assert found == base
 
 
-def test_the_list_of_what_is_left_out(made, tmp_path):
+def test_the_list_of_what_is_left_out(made: Make, tmp_path: Path) -> None:
     text = """\
 # a comment, \\
 Defaults env_reset, \\
@@ -149,31 +155,31 @@ NOTES = [
 
 
 @pytest.mark.parametrize(("text", "note"), NOTES)
-def test_notes(made, text, note):
+def test_notes(made: Make, text: str, note: str) -> None:
     assert note in made(text)[1]
 
 
-def test_what_needs_no_note(made):
+def test_what_needs_no_note(made: Make) -> None:
     assert made("ALL, !ann ALL, !db1 = /usr/local/sbin/, /bin/ls\n%ops ALL = /bin/ls\n")[1] == [
         "sudoers:2: note: %ops: it is kim here, by getent: who joins later is not in the base",
         "3 entries; 0 things are left out",
     ]
 
 
-def test_the_list_is_in_the_order_of_the_file(made):
+def test_the_list_is_in_the_order_of_the_file(made: Make) -> None:
     text = "User_Alias A = +a\nann ALL = /bin/*\nCmnd_Alias C = /bin/?\nHost_Alias H = 10.0.0.1\nA H = C\nDefaults x\n"
     said = made(text.replace("Defaults x", "Defaults mail_badpass"))[1]
     lines = [int(line.split(":")[1]) for line in said[:-1]]
     assert lines == sorted(lines) and {*lines} >= {1, 2, 3, 4, 6}
 
 
-def test_the_line_of_a_fault(made):
+def test_the_line_of_a_fault(made: Make) -> None:
     """sudo's own number, whatever comments, continuations and included files stand above."""
     text = "# one\n\nann ALL = \\\n  /bin/ls\n@includedir nothing\n# six\nbob ALL = bin/ls\n"
     assert made(text, status=2)[1] == ["desk-import: sudo cannot read it: sudoers:7:11: expected a fully-qualified path name"]
 
 
-def test_hosts_of_a_list(made, tmp_path):
+def test_hosts_of_a_list(made: Make, tmp_path: Path) -> None:
     (tmp_path / "hosts").write_text("# ours\n10.0.0.1 db1.example.org db1\n10.0.0.2 DB2\n192.0.2.7 web1\n")
     words = ("--host-list", str(tmp_path / "hosts"))
     text = "ann 10.0.0.0/24, !db1.example.org = /bin/ls\nann db* = /bin/kill\nann 203.0.113.0/24 = ALL\n"
@@ -184,7 +190,7 @@ def test_hosts_of_a_list(made, tmp_path):
     assert made(text, *words)[0] == "ann ALL = (root) ALL\nann ALL = (root) !/bin/ls\n"
 
 
-def test_included_files(made, tmp_path):
+def test_included_files(made: Make, tmp_path: Path) -> None:
     (tmp_path / "more.d").mkdir()
     files = {"b": "bob ALL = /bin/b\n", "a": "User_Alias A = ann\n\nA ALL = /bin/a, /bin/x*\n", "c.off": "c ALL = ALL\n", "d~": "d ALL = ALL\n"}
     for name, text in files.items():
@@ -218,14 +224,14 @@ REFUSALS = [
 
 
 @pytest.mark.parametrize(("text", "why"), REFUSALS)
-def test_refusals(made, text, why):
+def test_refusals(made: Make, text: str, why: str) -> None:
     """Whatever is not read, or not said as sudo means it, may be a denial: there is no base then."""
     found, said = made(text, status=2)
     assert found == "" and len(said) == 1
     assert re.fullmatch(f"desk-import: (sudo cannot read it: )?sudoers{why}.*", said[0]), said
 
 
-def test_many_files_that_include_one_another(made, tmp_path):
+def test_many_files_that_include_one_another(made: Make, tmp_path: Path) -> None:
     for number in range(40):
         (tmp_path / f"f{number}").write_text(f"@include f{number + 1}\n@include f{number + 1}\n")
     (tmp_path / "f40").write_text("")
@@ -234,7 +240,7 @@ def test_many_files_that_include_one_another(made, tmp_path):
     assert time.monotonic() - began < 60
 
 
-def test_what_is_read_as_sudo_reads_it(made, tmp_path):
+def test_what_is_read_as_sudo_reads_it(made: Make, tmp_path: Path) -> None:
     """What looks odd, and is no fault."""
     (tmp_path / "more").write_text("kim ALL = /bin/kim")
     text = """\
@@ -251,7 +257,9 @@ Defaults passprompt = "a \\
     assert made(text)[0] == base
 
 
-def test_no_byte_of_a_file_rules_a_terminal(made, imports, desk, tmp_path):
+def test_no_byte_of_a_file_rules_a_terminal(
+    made: Make, imports: Run, desk: str, tmp_path: Path
+) -> None:
     odd = "\x1b[2J\u202e\x9b"
     _, said = made(f'"a{odd}" ALL = /bin/ls\nann ALL = "/bin/{odd}\n', status=2)
     said += made(f'"a{odd}" ALL = /bin/ls\nDefaults badpass_message="{odd}"\nann ALL = /bin/{odd}\n')[1]
@@ -278,12 +286,13 @@ LIST = machine.hosts_of("10.0.0.1 db1.example.org db1\n10.0.0.2 DB2 other\n192.0
         ("203.0.113.0/24", "", ""),
     ],
 )
-def test_hosts_by_address(form, sure, perhaps):
-    assert machine.meant(LIST, machine.by_address(form)) == (sure.split(), perhaps.split())
+def test_hosts_by_address(form: str, sure: str, perhaps: str) -> None:
+    matches = machine.by_address(form)
+    assert matches and machine.meant(LIST, matches) == (sure.split(), perhaps.split())
 
 
 @pytest.mark.parametrize("form", ["10.0.0.0/0", "0.0.0.0/0.0.0.0", "10.0.0.0/0.0.0.255", "10.0.0.0/0.255.255.0", "10.0.0.0/33", "::/0", "10.1", "x"])
-def test_networks_that_mean_something_else(form):
+def test_networks_that_mean_something_else(form: str) -> None:
     """sudo takes none of these as Python does."""
     assert machine.by_address(form) is None
 
@@ -301,11 +310,12 @@ def test_networks_that_mean_something_else(form):
         ("*.*", "db1", "db1"),
     ],
 )
-def test_hosts_by_name(form, sure, perhaps):
-    assert machine.meant(LIST, machine.by_name(form)) == (sure.split(), perhaps.split())
+def test_hosts_by_name(form: str, sure: str, perhaps: str) -> None:
+    matches = machine.by_name(form)
+    assert matches and machine.meant(LIST, matches) == (sure.split(), perhaps.split())
 
 
-def test_failures(made, imports, desk, tmp_path):
+def test_failures(made: Make, imports: Run, desk: str, tmp_path: Path) -> None:
     assert made("ann ALL = \n", status=2)[1][0].startswith("desk-import: sudo cannot read it: ")
     assert imports("--desk", desk, str(tmp_path / "none")).returncode == 2
     assert made("ann ALL = /bin/ls\n", "--host-list", "none", status=2)[1] == ["desk-import: none: No such file or directory"]
@@ -313,7 +323,7 @@ def test_failures(made, imports, desk, tmp_path):
     assert made("ann ALL = /bin/ls\n", status=0)[1] == ["1 entry; 0 things are left out"]
 
 
-def ask_sudo(script, *words):
+def ask_sudo(script: str, *words: str) -> None:
     path = f"{os.environ['PATH']}:/usr/sbin:/sbin"
     needed = ("sudo", "visudo", "cvtsudoers", "faketime", "unshare", "setpriv")
     lacks = [name for name in needed if shutil.which(name, path=path) is None]
@@ -325,16 +335,16 @@ def ask_sudo(script, *words):
     assert ran.returncode == 0, ran.stdout[-6000:]
 
 
-def test_random_files_beside_sudo(desk, pytestconfig):
+def test_random_files_beside_sudo(desk: str, pytestconfig: pytest.Config) -> None:
     ask_sudo(BESIDE, str(pytestconfig.getoption("sudoers")))
 
 
-def test_no_base_gives_more_than_its_file(desk, pytestconfig):
+def test_no_base_gives_more_than_its_file(desk: str, pytestconfig: pytest.Config) -> None:
     """By sudo's own answers: the files of which a base once gave more, and random ones."""
     ask_sudo(NEVER_WIDER, str(pytestconfig.getoption("sudoers")))
 
 
-def test_files_of_others_beside_sudo(desk):
+def test_files_of_others_beside_sudo(desk: str) -> None:
     try:
         files = fetch.fetched()
     except fetch.NoNetwork as fault:

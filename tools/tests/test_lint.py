@@ -1,17 +1,22 @@
 """desk-lint by its words: what it prints, and its status."""
 
+from __future__ import annotations
+
 import json
 import os
 import re
 import resource
 import subprocess
+from collections.abc import Callable, Iterator
+from pathlib import Path
+from typing import Any
 
 import pytest
 
 from desk_tools import schema, toml_text
 from desk_tools.site import command, lies_inside
 from desk_tools.warnings import risk, table
-from tests.conftest import ROOT
+from tests.conftest import ROOT, Run
 
 EXAMPLES = os.path.join(ROOT, "examples")
 ROSTER = os.path.join(EXAMPLES, "roster.toml")
@@ -60,13 +65,14 @@ FAULTS = [
 ]
 
 
-def found_in(lint, path, *words):
+def found_in(lint: Run, path: Path, *words: str) -> dict[str, Any]:
     ran = lint("--json", *words, str(path))
     assert not ran.stderr
-    return json.loads(ran.stdout)["files"][0]
+    found: dict[str, Any] = json.loads(ran.stdout)["files"][0]
+    return found
 
 
-def test_all_faults_by_line(lint, tmp_path):
+def test_all_faults_by_line(lint: Run, tmp_path: Path) -> None:
     path = tmp_path / "roster.toml"
     path.write_text(FAULTY)
     found = found_in(lint, path)
@@ -112,7 +118,7 @@ WHY = [
 
 
 @pytest.mark.parametrize(("old", "new", "said"), WHY)
-def test_what_to_do_is_said(lint, tmp_path, old, new, said):
+def test_what_to_do_is_said(lint: Run, tmp_path: Path, old: str, new: str, said: str) -> None:
     text = roster(
         'ann = ["ask"]\nbob = ["approve", { duty = "x", from = "20260101", until = "20261231" }]',
         conflicts='[["approve", "x"]]',
@@ -125,7 +131,7 @@ def test_what_to_do_is_said(lint, tmp_path, old, new, said):
     assert ran.returncode == 2 and said in ran.stdout, ran.stdout
 
 
-def test_several_faults_of_syntax(lint, tmp_path):
+def test_several_faults_of_syntax(lint: Run, tmp_path: Path) -> None:
     path = tmp_path / "roster.toml"
     path.write_text('relays = ["chat"\nhosts = ["db1"]\nduties = [\n  "a"\n  "b",\n]\nduties = x\n[people]\nann = [\'a\']\n[people]\nbob = "x\n')
     found = found_in(lint, path)
@@ -133,7 +139,7 @@ def test_several_faults_of_syntax(lint, tmp_path):
     assert found["answer"] == "O1 NotToml" and {it["code"] for it in found["faults"]} == {"O1"}
 
 
-def test_the_example_has_warnings_alone(lint):
+def test_the_example_has_warnings_alone(lint: Run) -> None:
     ran = lint(ROSTER)
     assert (ran.returncode, ran.stdout.count("warning:"), ran.stdout.count("\n")) == (0, 3, 3)
     assert lint("--strict", ROSTER).returncode == 1
@@ -141,7 +147,7 @@ def test_the_example_has_warnings_alone(lint):
     assert re.search(r"roster.toml:21: warning: people.eve: .*audit conflicts", ran.stdout)
 
 
-def test_the_team_takes_turns_that_run_out(lint, desk):
+def test_the_team_takes_turns_that_run_out(lint: Run, desk: str) -> None:
     """The desk reads the roster of a team, and all that is said of it is when the on-call weeks end."""
     team = os.path.join(EXAMPLES, "team.toml")
     said = "warning: ceilings.emergency: from 20260216 on: nobody holds on-call, so nobody may ask under it"
@@ -152,14 +158,21 @@ def test_the_team_takes_turns_that_run_out(lint, desk):
     assert (ran.returncode, ran.stdout, ran.stderr) == (0, "dba ALL = (postgres) ALL\n", "")
 
 
-def roster(people, needs=1, commands='["/opt/x"]', conflicts='[["approve", "audit"]]', hosts='["db1"]', duties='["approve", "audit", "ask"]'):
+def roster(
+    people: str,
+    needs: int = 1,
+    commands: str = '["/opt/x"]',
+    conflicts: str = '[["approve", "audit"]]',
+    hosts: str = '["db1"]',
+    duties: str = '["approve", "audit", "ask"]',
+) -> str:
     return (
         f'relays = ["chat"]\nhosts = {hosts}\nduties = {duties}\nconflicts = {conflicts}\n[people]\n{people}\n'
         f'[ceilings.c]\nask = "ask"\napprove = "approve"\nneeds = {needs}\nhosts = ["db1"]\nrunas = ["root"]\ncommands = {commands}\nlongest = 60\n'
     )
 
 
-def entry(first, last):
+def entry(first: str, last: str) -> str:
     return f'{{ duty = "ask", from = "{first}", until = "{last}" }}'
 
 
@@ -238,7 +251,7 @@ SOUND = 'ann = ["ask"]\nbob = ["approve"]\ndave = ["audit"]'
         ),
     ],
 )
-def test_warnings(lint, tmp_path, text, said):
+def test_warnings(lint: Run, tmp_path: Path, text: str, said: list[str]) -> None:
     path = tmp_path / "roster.toml"
     path.write_text(text)
     found = found_in(lint, path, "--on", "20260105")
@@ -248,7 +261,7 @@ def test_warnings(lint, tmp_path, text, said):
     assert lint("--strict", "--on", "20260105", str(path)).returncode == int(strict)
 
 
-def test_messages(lint, tmp_path):
+def test_messages(lint: Run, tmp_path: Path) -> None:
     path = tmp_path / "x.messages"
     path.write_text(
         '{"at":"20260105083000Z", "by":"bob","kind":"approve","no":7.0,"of":"Ann"}\n\n'
@@ -284,20 +297,20 @@ ASKED = (
         (f"{VERDICT}\nx\n", "x.messages: 1 of 2 lines are refused\n"),
     ],
 )
-def test_what_to_do_is_said_of_messages(lint, tmp_path, text, said):
+def test_what_to_do_is_said_of_messages(lint: Run, tmp_path: Path, text: str, said: str) -> None:
     path = tmp_path / "x.messages"
     path.write_bytes(text.encode())
     ran = lint("--roster", ROSTER, str(path))
     assert ran.returncode == 2 and said in ran.stdout.replace(str(path), "x.messages"), ran.stdout
 
 
-def test_a_message_over_several_lines(lint, tmp_path):
+def test_a_message_over_several_lines(lint: Run, tmp_path: Path) -> None:
     path = tmp_path / "x.json"
     path.write_text(json.dumps({"at": "20260105083000Z", "by": "Bob", "kind": "approve", "no": 7, "of": "ann"}, indent=2))
     assert [(it["line"], it["code"]) for it in found_in(lint, path)["faults"]] == [(1, "M2"), (1, "M3")]
 
 
-def test_words(lint, tmp_path):
+def test_words(lint: Run, tmp_path: Path) -> None:
     assert lint("--explain", "O4").stdout.startswith("O4 BadName (A roster (docs/ROSTER.md))\n  when: a text has not the form")
     assert lint("--explain", "badname").stdout == lint("--explain", "O4 BadName").stdout
     assert "(STORE.md, 'When the roster changes')" in lint("--explain", "K1").stdout
@@ -311,7 +324,7 @@ def test_words(lint, tmp_path):
     assert lint("-", given='{"kind":7}\n').stdout.startswith('-:1: M3 BadField: kind = 7: expected one of request, approve, ')
 
 
-def test_commands():
+def test_commands() -> None:
     rows = [
         ("/usr/bin/id -u", ["/usr/bin/id -u", "/usr/bin/id", "/usr/bin/", "ALL"], ['/usr/bin/id ""', "/usr/bin/id -g", "/usr/"]),
         ("/usr/bin/id", ["/usr/bin/id", "/usr/bin/", "ALL"], ["/usr/bin/id -u", '/usr/bin/id ""', "/usr/"]),
@@ -323,16 +336,16 @@ def test_commands():
         assert not any(lies_inside(command(asked), command(it)) for it in outside)
 
 
-def test_the_table_of_programs():
+def test_the_table_of_programs() -> None:
     names = [name for row in table()["program"].values() for name in row["names"]]
     assert len(table()["program"]) == len({*names}), "a program stands twice"
     assert risk(command("/bin/vi")) and risk(command('/bin/vi ""')) and not risk(command("/bin/true"))
 
 
-def test_schemas():
+def test_schemas() -> None:
     """Each place of the schemas says what it is, and an editor takes the examples by them."""
 
-    def undescribed(node, path):
+    def undescribed(node: Any, path: tuple[str, ...]) -> Iterator[tuple[str, ...]]:
         if isinstance(node, dict):
             if ("type" in node or "$ref" in node) and path and "propertyNames" not in path[-1:] and not {"title", "description", "$ref"} & {*node}:
                 yield path
@@ -344,14 +357,13 @@ def test_schemas():
             text = json.load(file)
         schema.validator(name).check_schema(text)
         assert not list(undescribed(text, ()))
-    with open(ROSTER, "rb") as file:
-        document = toml_text.read(file.read())
+    document = toml_text.read(Path(ROSTER).read_bytes())
     assert schema.validator("roster").is_valid(document.value)
     assert document.line(("people", "eve")) == 21 and document.line(("ceilings", "db-care", "needs", "x")) == 27
 
 
 @pytest.mark.parametrize("path", ["/bin/ls", "/sbin/reboot -f", "/lib/x/", "/lib64/y"])
-def test_paths_that_are_links(lint, tmp_path, path):
+def test_paths_that_are_links(lint: Run, tmp_path: Path, path: str) -> None:
     """On a host, /bin is a link, and sudo compares files."""
     (tmp_path / "r.toml").write_text(roster(SOUND, commands=f'["{path}", "/usr{path}", "/opt/bin/x"]'))
     said = lint(str(tmp_path / "r.toml")).stdout.splitlines()
@@ -394,7 +406,7 @@ BASE_SAID = [
 ]
 
 
-def test_faults_of_a_base(lint, desk, tmp_path):
+def test_faults_of_a_base(lint: Run, desk: str, tmp_path: Path) -> None:
     (tmp_path / "b.sudo").write_text(BASE_FAULTS)
     ran = lint("--desk", desk, "--json", str(tmp_path / "b.sudo"))
     (found,) = json.loads(ran.stdout)["files"]
@@ -403,7 +415,7 @@ def test_faults_of_a_base(lint, desk, tmp_path):
     assert all(it["expected"] for it in found["faults"])
 
 
-def test_warnings_of_a_base(lint, desk, tmp_path):
+def test_warnings_of_a_base(lint: Run, desk: str, tmp_path: Path) -> None:
     base = tmp_path / "base"
     base.write_text("User_Alias A = ann\n \\\nUser_Alias SITE_B = bob\nA ALL = /bin/ls, \\\n  /lib/x/\n# /bin/no\n")
     said = lint("--desk", desk, "--base", "--strict", str(base))
@@ -415,7 +427,7 @@ def test_warnings_of_a_base(lint, desk, tmp_path):
     assert (said.returncode, said.stdout) == (0, "")
 
 
-def test_no_byte_of_a_text_rules_a_terminal(lint, desk, tmp_path):
+def test_no_byte_of_a_text_rules_a_terminal(lint: Run, desk: str, tmp_path: Path) -> None:
     texts = {"r.toml": '"\\e[2J\\u009b" x = 1\n\x9b = 2\n', "m.json": '{"\\u001b": "\x1b[2J"}\n', "b.sudo": "ann \x1b[2J = ALL\n"}
     for name, text in texts.items():
         (tmp_path / name).write_text(text)
@@ -426,7 +438,7 @@ def test_no_byte_of_a_text_rules_a_terminal(lint, desk, tmp_path):
         assert all(line.isprintable() for line in lint(*words).stderr.splitlines())
 
 
-def crowd(person, needs=2):
+def crowd(person: Callable[[int], str], needs: int = 2) -> str:
     """A roster of 4,096 people and 1,024 ceilings, all of the same two duties."""
     head = 'relays=["chat"]\nhosts=["h"]\nduties=["a","b"]\nconflicts=[]\n[people]\n'
     ceiling = 'ask="a"\napprove="b"\nhosts=["h"]\nrunas=["root"]\ncommands=["/opt/t"]\nlongest=60\n'
@@ -434,13 +446,13 @@ def crowd(person, needs=2):
     return head + people + "".join(f"[ceilings.c{it}]\nneeds={needs}\n{ceiling}" for it in range(1024))
 
 
-def dated(number):
+def dated(number: int) -> str:
     days = f'from="2026{number % 12 + 1:02}{number % 28 + 1:02}",until="20{27 + number % 60}{number % 12 + 1:02}01"'
     return f'{{duty="a",{days}}},{{duty="b",{days}}}'
 
 
 @pytest.mark.parametrize("person", [lambda _: '"a","b"', dated])
-def test_big_rosters_in_seconds(lint, tmp_path, person):
+def test_big_rosters_in_seconds(lint: Run, tmp_path: Path, person: Callable[[int], str]) -> None:
     """Of processor time, since others may use the machine."""
     (tmp_path / "r.toml").write_text(crowd(person))
     before = resource.getrusage(resource.RUSAGE_CHILDREN)

@@ -1,6 +1,8 @@
 """desk-used by its words: what it reads of sudo's logs, and what it tells of grants and of the
 base. Beside real runs of sudo: beside_sudo_logs.py."""
 
+from __future__ import annotations
+
 import gzip
 import json
 import os
@@ -9,17 +11,22 @@ import resource
 import subprocess
 import sys
 import tomllib
+from collections.abc import Callable
+from pathlib import Path
+from typing import Any
 
 import jsonschema
 import pytest
 
 from desk_tools.decisions import Desk, Invocation, Question
 from desk_tools.sudo_logs import Logs, Run, read_log, without_exits
-from desk_tools.use import done_of, grants_of, seconds
-from tests.conftest import ROOT
+from desk_tools.use import Done, done_of, grants_of, seconds
+from tests.conftest import ROOT, Run as Program
 
 BESIDE = os.path.join(ROOT, "tools", "tests", "beside_sudo_logs.py")
 EXAMPLES = os.path.join(ROOT, "examples")
+# what desk-used tells of a log, and its status
+Tell = Callable[..., tuple[Any, int]]
 ROSTER, BASE = (os.path.join(EXAMPLES, it) for it in ("roster.toml", "site.sudo"))
 # the window of ann 7 on db1, which was revoked, is from 09:15:00 to 10:29:59
 WAS = "TTY=pts/0 ; PWD=/ ; USER=root ; COMMAND=/usr/bin/id -u"
@@ -59,7 +66,7 @@ ENTRY = {
     "SYSLOG_IDENTIFIER": "sudo",
     "MESSAGE": f"     ann : {WAS}",
 }
-OBJECTS = (
+OBJECTS: tuple[tuple[dict[str, Any], int], ...] = (
     ({"accept": EVENT}, 0),
     ({"sudo": {"accept": EVENT}}, 0),
     (ENTRY, 0),
@@ -73,13 +80,13 @@ OBJECTS = (
 )
 
 
-def pretty(*events):
+def pretty(*events: tuple[str, dict[str, Any]]) -> str:
     """A file of sudo's JSON."""
     texts = [json.dumps({kind: event}, indent=4)[2:-2] for kind, event in events]
     return "{\n" + ",\n".join(texts) + "\n}\n"
 
 
-def read(path, text, host="", year=2026):
+def read(path: Path, text: str | bytes, host: str = "", year: int = 2026) -> Logs:
     path.write_bytes(text if isinstance(text, bytes) else text.encode())
     logs = Logs()
     read_log(logs, str(path), host, year)
@@ -87,12 +94,12 @@ def read(path, text, host="", year=2026):
     return logs
 
 
-def ran(logs):
+def ran(logs: Logs) -> list[tuple[Done, list[int]]]:
     return [(done_of(Run(*it)), list(at)) for it, at in logs.runs.items()]
 
 
 @pytest.fixture
-def audit(desk, tmp_path):
+def audit(desk: str, tmp_path: Path) -> str:
     """What desk-audit tells of the examples."""
     folder, name = os.path.split(desk)
     program = os.path.join(folder, name.replace("desk", "desk-audit", 1))
@@ -105,10 +112,10 @@ def audit(desk, tmp_path):
 
 
 @pytest.fixture
-def used(desk, audit, tmp_path):
+def used(desk: str, audit: str, tmp_path: Path) -> Tell:
     """What desk-used tells of a log, as JSON, and its status."""
 
-    def run(text, *options, base=BASE):
+    def run(text: str | bytes, *options: str, base: str = BASE) -> tuple[Any, int]:
         log = tmp_path / "told.log"
         log.write_bytes(text if isinstance(text, bytes) else text.encode())
         words = [os.path.join(ROOT, "tools", "desk-used"), "--desk", desk, "--json", "--year=2026"]
@@ -119,7 +126,7 @@ def used(desk, audit, tmp_path):
     return run
 
 
-def test_each_form_of_a_line(tmp_path):
+def test_each_form_of_a_line(tmp_path: Path) -> None:
     for head in HEADS:
         logs = read(tmp_path / "log", f"{head}{WAS}\n")
         ((done, moments),) = ran(logs)
@@ -134,14 +141,14 @@ def test_each_form_of_a_line(tmp_path):
         assert logs.count_unread == unread, told
 
 
-def test_a_log_server_may_be_late(tmp_path):
+def test_a_log_server_may_be_late(tmp_path: Path) -> None:
     late = EVENT | {"peeraddr": "10.0.0.1", "server_time": {"seconds": seconds("20260107000000Z")}}
     logs = read(tmp_path / "log", pretty(("accept", EVENT), ("accept", late)))
     moments = [seconds("20260105092000Z"), seconds("20260105091900Z")]
     assert [at for _, at in ran(logs)] == [moments]
 
 
-def test_a_log_that_is_cut_anywhere(tmp_path):
+def test_a_log_that_is_cut_anywhere(tmp_path: Path) -> None:
     """It never has a run that the whole log has not, and says what it lost."""
     classic = "".join(f"{head}{WAS}{no}\n" for no, head in enumerate(HEADS))
     wrapped = "Jan  5 09:20:00 2026 : ann : HOST=db1 ; PWD=/ ; USER=root ;\n    COMMAND=/bin/id a\n"
@@ -158,7 +165,7 @@ def test_a_log_that_is_cut_anywhere(tmp_path):
             assert is_whole or any(it.count_unread for it in parts), text[:cut]
 
 
-def test_random_bytes_are_read(tmp_path):
+def test_random_bytes_are_read(tmp_path: Path) -> None:
     """A damaged log never stops the reader."""
     rng = random.Random(5)
     texts = [pretty(("accept", EVENT)), "".join(f"{it}{WAS}\n" for it in HEADS)]
@@ -170,7 +177,7 @@ def test_random_bytes_are_read(tmp_path):
         read(tmp_path / "log", bytes(data))
 
 
-def test_rotated_logs(tmp_path, used, desk, audit):
+def test_rotated_logs(tmp_path: Path, used: Tell, desk: str, audit: str) -> None:
     """A folder of them, packed and not, one of them cut off."""
     folder = tmp_path / "logs"
     folder.mkdir()
@@ -187,7 +194,7 @@ def test_rotated_logs(tmp_path, used, desk, audit):
     assert told["grants"][0]["runs"] >= 10, told
 
 
-def test_the_year_and_the_zone(tmp_path, used):
+def test_the_year_and_the_zone(tmp_path: Path, used: Tell) -> None:
     line = f"Jan  5 10:20:00 db1 sudo: ann : {WAS}\n"
     told, _ = used(line, "--zone", "Europe/Berlin")
     assert told["runs"][0]["first"] == "20260105092000Z" and told["runs"][0]["ground"] == "grant"
@@ -199,12 +206,12 @@ def test_the_year_and_the_zone(tmp_path, used):
     assert [list(it) for it in logs.runs.values()] == [[seconds("20240105102000Z")]]
 
 
-def line(at, text, user="ann", host="db1"):
+def line(at: str, text: str, user: str = "ann", host: str = "db1") -> str:
     day = f"{at[:4]}-{at[4:6]}-{at[6:8]}T{at[8:10]}:{at[10:12]}:{at[12:14]}Z"
     return f"{day} {host} sudo: {user} : PWD=/ ; USER={text}\n"
 
 
-def test_windows_and_clocks(used):
+def test_windows_and_clocks(used: Tell) -> None:
     """The window's bounds belong to it; a clock that is off is borne with --skew."""
     ids = "root ; COMMAND=/usr/bin/id"
     at = ("20260105091459Z", "20260105091500Z", "20260105102959Z", "20260105103000Z")
@@ -226,7 +233,7 @@ def test_windows_and_clocks(used):
     assert [(it["runs"], it["first"]) for it in told["runs"]] == [(1, at[1])]
 
 
-def test_grounds(used):
+def test_grounds(used: Tell) -> None:
     """The base, another target, another's name in capitals, a group, and root itself."""
     at = "20260105092000Z"
     rows = (
@@ -251,7 +258,7 @@ def test_grounds(used):
     assert used(line(at, rows[0][1], rows[0][0]))[1] == 0
 
 
-def test_a_grant_without_a_log_is_not_unused(used):
+def test_a_grant_without_a_log_is_not_unused(used: Tell) -> None:
     told, _ = used(line("20260105092000Z", "root ; COMMAND=/usr/bin/id", host="web1"))
     assert [it["status"] for it in told["grants"]] == ["no log"]
     told, _ = used(line("20260105092000Z", "root ; COMMAND=/usr/bin/ls"))
@@ -259,7 +266,7 @@ def test_a_grant_without_a_log_is_not_unused(used):
     assert told["grants"][0]["never"] == ["/usr/bin/id", "/usr/bin/systemctl restart postgresql"]
 
 
-def test_hostile_words(used):
+def test_hostile_words(used: Tell) -> None:
     """Whatever a user writes, nothing that a terminal obeys is printed."""
     event = EVENT | {"runargv": ["id", "\x1b[2J", "a\nb", "\u202e", "\x9b", "\udcff"]}
     event |= {"submituser": "an\x1bn", "submithost": "db\x071"}
@@ -269,7 +276,7 @@ def test_hostile_words(used):
     assert all(it["by"].isprintable() and it["host"].isprintable() for it in told["runs"])
 
 
-def test_json_is_by_its_schema(used):
+def test_json_is_by_its_schema(used: Tell) -> None:
     with open(os.path.join(ROOT, "tools", "schemas", "used.schema.json"), "rb") as file:
         schema = json.load(file)
     options = ("--unused-for", "30", "--baseline", "/dev/null", "--roster", ROSTER)
@@ -280,7 +287,7 @@ def test_json_is_by_its_schema(used):
         jsonschema.validate(told | {"runs": [{}]}, schema)
 
 
-def test_standing_rights(used, tmp_path):
+def test_standing_rights(used: Tell, tmp_path: Path) -> None:
     """Which rule decided, by the last one that speaks; and what each user has beyond none."""
     listed = "ann db1 = (root) /usr/bin/ls"
     rules = ["OPS ALL = (op) ALL", listed, f"{listed} -l", "ann db1 = !/bin/x"]
@@ -299,7 +306,7 @@ def test_standing_rights(used, tmp_path):
     assert found["ann"] == "ann db1 root 19700101000000Z /usr/bin/ls", found
 
 
-def test_a_narrower_ceiling(used, lint, tmp_path):
+def test_a_narrower_ceiling(used: Tell, lint: Program, tmp_path: Path) -> None:
     """The proposal, in the ceiling's place, is a roster without faults."""
     text = line("20260105092000Z", "root ; COMMAND=/usr/bin/id")
     options = ("--roster", ROSTER, "--until", "20260201000000Z")
@@ -319,19 +326,20 @@ def test_a_narrower_ceiling(used, lint, tmp_path):
     assert told["proposal"].startswith("# No grant of db-care was used")
 
 
-def test_what_stands_for_others_is_decided_alike(desk, tmp_path):
+def test_what_stands_for_others_is_decided_alike(desk: str, tmp_path: Path) -> None:
     """A word that a policy does not have is decided as any other such word."""
     program, rng = Desk(desk, str(tmp_path)), random.Random(4)
     policy = program.policy(program.canonical(os.path.join(EXAMPLES, "team.sudo")))
     users, hosts, targets = ("olga", "omar", "kim"), ("db1", "web2", "mail"), ("root", "www", "op")
     paths = ("/usr/bin/uptime", "/usr/bin/systemctl", "/usr/local/sbin/x", "/usr/local/sbin", "/x")
     args = ((), ("-n", "50"), ("restart", "nginx"), ("-x", "a,b"))
-    rows = [
+    parts: tuple[Any, ...] = (users, hosts, targets, paths, args)
+    rows: list[Any] = [
         ("olga", "mail", "root", "/usr/local/sbin/any", ("-x",)),
         ("omar", "mail", "www", "/usr/bin/uptime", ()),
         ("omar", "mail", "www", "/usr/bin/uptime", ("-x",)),
         ("olga", "web2", "root", "/usr/bin/systemctl", ("restart", "nginx")),
-        *(map(rng.choice, (users, hosts, targets, paths, args)) for _ in range(12)),
+        *([rng.choice(part) for part in parts] for _ in range(12)),
     ]
     seen = set()
     for row in rows:
@@ -343,7 +351,7 @@ def test_what_stands_for_others_is_decided_alike(desk, tmp_path):
     assert seen == {True, False}
 
 
-def test_wrong_words(desk, audit, tmp_path):
+def test_wrong_words(desk: str, audit: str, tmp_path: Path) -> None:
     words = [os.path.join(ROOT, "tools", "desk-used"), "--desk", desk]
     log = tmp_path / "log"
     log.write_text("")
@@ -360,7 +368,7 @@ def test_wrong_words(desk, audit, tmp_path):
         assert ran.returncode == 2 and not ran.stdout and said in ran.stderr, (rest, ran)
 
 
-def test_a_hundred_thousand_lines(desk, audit, tmp_path):
+def test_a_hundred_thousand_lines(desk: str, audit: str, tmp_path: Path) -> None:
     """As many lines take a tenth of what a million may: three seconds, on a machine that is not
     busy with others; and a busy one takes twice that."""
     log = tmp_path / "log"
@@ -380,20 +388,20 @@ def test_a_hundred_thousand_lines(desk, audit, tmp_path):
     assert sum(it["runs"] for it in told["runs"]) == 100_000 and took < 10, took
 
 
-def test_beside_sudo(desk):
+def test_beside_sudo(desk: str) -> None:
     """Real runs on two hosts, in each way that sudo logs."""
     ran = subprocess.run([sys.executable, BESIDE], capture_output=True, text=True)
     print(ran.stdout[-300:])
     assert ran.returncode == 0, ran.stdout[-6000:] + ran.stderr[-2000:]
 
 
-def test_grants_are_those_of_the_audit(audit):
+def test_grants_are_those_of_the_audit(audit: str) -> None:
     with open(audit, encoding="utf-8") as file:
         (grant,) = grants_of(json.load(file))
     assert (grant.by, grant.no, grant.revoked) == ("ann", 7, seconds("20260105103000Z"))
 
 
-def test_a_command_that_syslog_splits(tmp_path):
+def test_a_command_that_syslog_splits(tmp_path: Path) -> None:
     """Its pieces are joined, whatever comes between of others; a piece alone is no run."""
     text = line("20260105092000Z", "root ; COMMAND=/usr/bin/id a").rstrip("\n")
     more = text.partition(" : ")[0] + " : (command continued) "

@@ -120,7 +120,7 @@ def revalued(chance: random.Random, document: dict[str, Any]) -> None:
     elif kind == 3 and isinstance(holder, list):
         holder.append(chance.choice([old, *WORDS[:20], *ENTRIES]))
     elif kind == 4 and isinstance(holder, list) and len(holder) > 1:
-        holder[last] = holder[last - 1]
+        holder[int(last)] = holder[int(last) - 1]
     elif isinstance(old, bool | int):
         holder[last] = chance.choice(NUMBERS)
     elif kind == 5 and isinstance(old, list) and old:
@@ -171,7 +171,7 @@ def at(document: dict[str, Any], path: str, value: Any) -> str:
 
 def limits() -> list[tuple[str, str]]:
     """A small roster with each of its values at a limit, or just past it."""
-    ceiling = {"ask": "ask", "approve": "ok", "needs": 1, "hosts": ["db1"], "runas": ["root"], "commands": ["ALL"], "longest": 60}
+    ceiling: dict[str, Any] = {"ask": "ask", "approve": "ok", "needs": 1, "hosts": ["db1"], "runas": ["root"], "commands": ["ALL"], "longest": 60}
     document: dict[str, Any] = {"relays": ["chat"], "hosts": ["db1"], "duties": ["ask", "ok"], "conflicts": []}
     document |= {"people": {"ann": ["ask"]}, "ceilings": {"c": ceiling}}
     names = ["a" * 32, "a" * 33, "a-", "-a", "A", "1a", "a1", "a.b", "a_b", "_a", "é", "sudoedit", "sha224", "sha512", "sha1", "a b", "", "a\n"]
@@ -201,7 +201,7 @@ def limits() -> list[tuple[str, str]]:
     return [(f"{path} = {str(value)[:60]}", at(document, path, value)) for path, value in rows]
 
 
-VALUES = [0, 7, -1, 10**9, 999_999_999, 7.0, True, None, [], {}, "", "request", "approve", "revoke", "20260230090000Z"]
+VALUES: list[Any] = [0, 7, -1, 10**9, 999_999_999, 7.0, True, None, [], {}, "", "request", "approve", "revoke", "20260230090000Z"]
 VALUES += [[["db1"]], ["db1", "db1"], ["db2", "db1"], ["db1", "db2"]]
 VALUES += ["20260105090000Z", "2026010509Z", "20260105096000Z", "20991231235959Z", "21000101000000Z", "20260105090000z", "db-care", "db-emergency"]
 STAMPS = ["20260105060000Z", "20260105090000Z", "20260105103000Z", "20260105110000Z", "20260105110001Z", "20260106000000Z"]

@@ -1,0 +1,44 @@
+#!/usr/bin/env bash
+# Looks through the relays, the broker's programs and the tools, with their tests: mypy in its
+# strictest form (pyproject.toml), and flake8, for Debian 12 has no ruff. It installs what it needs
+# of Debian, where this is root. The last line is 'N programs and modules: types and style fit'.
+set -euo pipefail
+cd "$(dirname "$0")/.."
+
+# (mypy reads the types of what is imported, so all of that has to be there)
+bash relays/install.sh mypy python3-typeshed python3-flake8 \
+    python3-aiosmtpd python3-flask python3-jsonschema python3-pika python3-pytest \
+    python3-requests python3-requests-unixsocket python3-selenium python3-waitress
+
+# The files of a folder that are Python, with those programs that have no .py in their names.
+python_of() {
+    find "$@" -name '*.py'
+    find "$@" -maxdepth 1 -type f ! -name '*.*' -exec grep -lE '^#!.*python' {} +
+}
+
+# Runs mypy over these files; the first word names what it keeps for the next time.
+typed() {
+    local kept=$1
+    shift
+    /usr/bin/mypy --python-executable /usr/bin/python3 --cache-dir "build/types/$kept" \
+        --no-error-summary "$@"
+}
+
+mapfile -t relays < <(python_of relays)
+mapfile -t others < <(python_of broker tools)
+mkdir -p build/types
+# (two at once: the tests of the relays and of the others name the scripts in two ways)
+typed relays "${relays[@]}" > build/types/relays.said 2>&1 &
+relays_ended=$!
+status=0
+MYPYPATH=broker:broker/tests:scripts:tools typed others "${others[@]}" || status=1
+wait "$relays_ended" || status=1
+cat build/types/relays.said
+# (a line may have more than flake8's 79 columns, and a slice a blank before its colon)
+/usr/bin/python3 -m flake8 --extend-ignore=E203,E501 "${relays[@]}" "${others[@]}" || status=1
+count=$((${#relays[@]} + ${#others[@]}))
+if [ "$status" != 0 ] || [ "$count" -lt 100 ]; then
+    echo "$count programs and modules: FAILED"
+    exit 1
+fi
+echo "$count programs and modules: types and style fit"
