@@ -15,6 +15,7 @@ ASK = "ask db-care --on db1 --as root --for 1h --why disk full --yes /usr/bin/id
 FOLDER = "/var/lib/desk-relay"
 OUTBOX, KEYS = f"{FOLDER}/outbox.db", f"{FOLDER}/.ssh/authorized_keys"
 PAGE_KEYS = ("page.secret", "page.key", "page.front", "page.apache")
+FRONTS = ("desk-page.conf", "desk-page-gssapi.conf", "desk-page-openidc.conf")
 AS_RELAY = ["setpriv", "--reuid", "desk-relay", "--regid", "desk-relay", "--init-groups"]
 NOTIFY = """
 [notify]
@@ -57,7 +58,7 @@ def installed(trial: "Trial") -> None:
     for page in ("man1/desk-relay.1", "man5/desk-relay.toml.5", "man8/desk-relay-person.8"):
         trial.does(page, "test", "-s", f"/usr/share/man/{page}.gz")
     mime = trial.run("sh", "-c", "ls /usr/share/doc/steelnewt-relay/examples").stdout
-    for name in ("desk-page.conf", "desk-page-gssapi.conf", "front-ca.sh"):
+    for name in (*FRONTS, "front-ca.sh"):
         trial.check(f"the example {name}", f"{name}\n" in mime, mime)
 
 

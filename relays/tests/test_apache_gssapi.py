@@ -7,12 +7,13 @@ import os
 import re
 import subprocess
 from collections.abc import Iterator
+from contextlib import ExitStack
 from dataclasses import dataclass
 
 import pytest
 
-from relays.tests.apache import ACCOUNT, Apache, FrontedSite
-from relays.tests.kerberos import OTHER, OURS, Kerberos
+from relays.tests.apache import ACCOUNT, FAKETIME, Apache, FrontedSite, Recorder
+from relays.tests.kerberos import OTHER, OURS, PASSWORD, Kerberos
 from relays.tests.site import SECRET
 from relays.tests.test_page import ASKED, token
 
@@ -37,7 +38,7 @@ class Fronted:
         return self.asked(["--negotiate", "-u", ":", *more], path, tickets)
 
     def asked(self, words: list[str], path: str, tickets: dict[str, str]) -> tuple[int, str]:
-        ran = self.apache.curl(*words, self.apache.url(path), **tickets)
+        ran = self.apache.curl([*words, self.apache.url(path)], tickets)
         assert ran.returncode == 0, ran
         text, _, status = ran.stdout.rpartition("\n")
         return int(status), text
@@ -55,9 +56,11 @@ class Fronted:
 
 @pytest.fixture(scope="module")
 def fronted() -> Iterator[Fronted]:
-    site = FrontedSite()
-    kerberos = Kerberos(site.folder / "kerberos")
-    try:
+    with ExitStack() as ends:
+        site = FrontedSite()
+        ends.callback(site.close)
+        kerberos = Kerberos(site.folder / "kerberos")
+        ends.callback(kerberos.stop)
         for name in ("ann", "bob", "mallory", "ann/admin", "Ann"):
             kerberos.make(f"{name}@{OURS}")
         kerberos.make(f"ann@{OTHER}", OTHER)
@@ -65,11 +68,8 @@ def fronted() -> Iterator[Fronted]:
         site.start_desk()
         site.start_page()
         apache = Apache(site, "apache-gssapi.example.conf", {"/etc/desk/http.keytab": keytab})
-        with apache.running(**kerberos.settings):
-            yield Fronted(site, apache, kerberos)
-    finally:
-        kerberos.stop()
-        site.close()
+        ends.enter_context(apache.running(kerberos.settings))
+        yield Fronted(site, apache, kerberos)
 
 
 def test_a_grants_life(fronted: Fronted) -> None:
@@ -124,14 +124,16 @@ def test_a_person_whom_the_roster_does_not_have(fronted: Fronted) -> None:
 
 
 def test_without_a_ticket(fronted: Fronted) -> None:
-    for words in ([], ["--negotiate", "-u", ":"], ["-u", "ann:secret"]):
+    given: list[list[str]] = [[], ["--negotiate", "-u", ":"], ["-u", f"ann:{PASSWORD}"]]
+    for words in given:
         status, text = fronted.asked(["-i", *words], "/", fronted.kerberos.settings)
         assert status == 401 and "asks for a Kerberos ticket" in text and "You are" not in text
         assert re.findall("(?i)www-authenticate: (.*)", text) == ["Negotiate"]
 
 
 def test_a_ticket_for_another_service(fronted: Fronted) -> None:
-    fronted.kerberos.make(f"ftp/desk.example@{OURS}")
+    """(its key is in the same keytab)"""
+    fronted.kerberos.keytab(f"ftp/desk.example@{OURS}", ACCOUNT)
     status, text = fronted.get("ann", "/", "--service-name", "ftp")
     assert status == 401 and "You are" not in text
 
@@ -139,20 +141,46 @@ def test_a_ticket_for_another_service(fronted: Fronted) -> None:
 def test_a_ticket_that_was_overheard(fronted: Fronted) -> None:
     tickets = fronted.kerberos.sign_on("ann")
     words = ["--negotiate", "-u", ":", "-v", fronted.apache.url()]
-    ran = fronted.apache.curl(*words, **tickets)
+    ran = fronted.apache.curl(words, tickets)
     found = re.search("> (Authorization: Negotiate .+)", ran.stderr)
     assert found and ran.stdout.endswith("\n200")
     status, text = fronted.asked(["-H", found[1].strip()], "/", {})
     assert status == 401 and "You are" not in text
 
 
+def another(fronted: Fronted) -> Apache:
+    places = {"/etc/desk/http.keytab": str(fronted.kerberos.folder / "http.keytab")}
+    return Apache(fronted.site, "apache-gssapi.example.conf", places)
+
+
 def test_a_ticket_that_has_ended(fronted: Fronted) -> None:
     """(to a front whose clock is eleven hours later)"""
-    places = {"/etc/desk/http.keytab": str(fronted.kerberos.folder / "http.keytab")}
-    later = Apache(fronted.site, "apache-gssapi.example.conf", places)
-    with later.running("faketime", "-f", "+11h", **fronted.kerberos.settings):
+    shifted, later = {"LD_PRELOAD": FAKETIME, "FAKETIME": "+11h"}, another(fronted)
+    with later.running(fronted.kerberos.settings | shifted):
         status, text = Fronted(fronted.site, later, fronted.kerberos).get("ann")
         assert status == 401 and "You are" not in text
+
+
+@pytest.mark.parametrize("realm", ["EXAMPLE.CO.", "EXAMPLE.CO", "XAMPLE.COM", "example.com"])
+def test_a_front_of_another_realm(fronted: Fronted, realm: str) -> None:
+    other = another(fronted)
+    other.text = other.text.replace(f"Define desk_realm {OURS}", f"Define desk_realm {realm}")
+    with other.running(fronted.kerberos.settings):
+        status, text = Fronted(fronted.site, other, fronted.kerberos).get("ann")
+        assert status == 401 and f"a Kerberos ticket of a person of {realm}" in text
+
+
+@pytest.mark.parametrize("headers", [[], *FORGED])
+def test_what_the_page_gets(fronted: Fronted, headers: list[str]) -> None:
+    """One name, one secret of the front's, and not the ticket."""
+    recorder, front = Recorder(fronted.site), another(fronted)
+    front.before(recorder.path)
+    given = [word for header in headers for word in ("-H", header)]
+    with front.running(fronted.kerberos.settings):
+        status, _ = Fronted(fronted.site, front, fronted.kerberos).get("ann", "/", *given)
+    assert status == 200 and len(recorder.heads) == 1
+    assert recorder.fields("X-Desk-Front") == [SECRET] and not recorder.fields("Authorization")
+    assert recorder.fields("X-Desk-Person") == ["ann"], recorder.heads
 
 
 def test_an_account_of_this_machine(fronted: Fronted) -> None:
