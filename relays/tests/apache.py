@@ -106,8 +106,7 @@ class Apache:
         places = {
             "Listen 8443": f"Listen 127.0.0.1:{self.port}",
             "*:8443": f"127.0.0.1:{self.port}",
-            "/etc/desk/front.pem": str(site.ca / "server.pem"),
-            "/etc/desk/front.key": str(site.ca / "server.key"),
+            "/etc/desk/front/": f"{site.ca}/",
             "/run/desk-relay/page.sock": str(site.socket),
             **more,
             "/etc/desk": str(site.folder),

@@ -192,20 +192,22 @@ def test_a_session_of_another_browsers(place: Place) -> None:
     assert ann.get(place.url, allow_redirects=False, timeout=60).status_code == 302
 
 
-@pytest.mark.parametrize("headers", [{}, *FORGED])
-def test_what_the_page_gets(fronted: Fronted, headers: dict[str, str]) -> None:
+def test_what_the_page_gets(fronted: Fronted) -> None:
     """One name, one secret of the front's; no session, and no claim of the provider's."""
-    recorder, more = Recorder(fronted.site), {**headers}
+    recorder = Recorder(fronted.site)
     with false_one(fronted, page=recorder.path) as found:
         person, reply = came(found)
-        cookies = [f"{it.name}={it.value}" for it in person.cookies]
-        more["Cookie"] = "; ".join([*cookies, more.get("Cookie", "a=b")])
-        reply = requests.get(reply.url, headers=more, verify=fronted.authority, timeout=60)
-    assert reply.text == "kept" and len(recorder.heads) == 2
-    assert recorder.fields("X-Desk-Front") == [FRONT_SECRET] and not recorder.fields("Cookie")
-    assert recorder.fields("X-Desk-Person") == ["ann"], recorder.heads
-    told = [line for line in recorder.heads[-1].splitlines() if "oidc" in line.lower()]
-    assert all("bob" in line for line in told), told
+        session = "; ".join(f"{it.name}={it.value}" for it in person.cookies)
+        none: list[dict[str, str]] = [{}]
+        for headers in none + FORGED:
+            given = headers | {"Cookie": f"{session}; {headers.get('Cookie', 'a=b')}"}
+            reply = requests.get(reply.url, headers=given, verify=fronted.authority, timeout=60)
+            assert reply.text == "kept"
+            assert recorder.fields("X-Desk-Front") == [FRONT_SECRET], recorder.heads
+            assert recorder.fields("X-Desk-Person") == ["ann"], recorder.heads
+            told = [line for line in recorder.heads[-1].splitlines() if "oidc" in line.lower()]
+            assert not recorder.fields("Cookie") and all("bob" in line for line in told), told
+    assert len(recorder.heads) == len(FORGED) + 2
 
 
 @contextmanager
