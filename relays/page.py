@@ -40,6 +40,10 @@ FRONT_HEADER = "X-Desk-Front"
 # A Host that an address can be made of, as a redirection does. A request may have none.
 HOST = re.compile(r"([A-Za-z0-9._-]*|\[[0-9A-Fa-f:.]+\])(:[0-9]{0,5})?")
 TOKEN_HOURS = 12
+NOBODY = (
+    "The front does not say who you are: it takes a person's certificate, or a sign-on by a name"
+    " that a roster can have."
+)
 EXPOSED = (
     "EVERY ACCOUNT OF THIS MACHINE REACHES THE PAGE HERE, and while it is stopped any of them can"
     " take its place, and is given the front's secret; listen at unix:/run/desk-relay/page.sock"
@@ -103,7 +107,7 @@ def caller(secret: str) -> str:
         flask.abort(403, "This page is reached through its front alone.")
     person = flask.request.headers.get(PERSON_HEADER, "")
     if not re.fullmatch(PERSON, person):
-        flask.abort(403, "The front does not say who you are: is your certificate a person's?")
+        flask.abort(403, NOBODY)
     if flask.request.headers.get("Sec-Fetch-Site", "none") not in ("none", "same-origin"):
         if flask.request.method != "GET":
             flask.abort(403, "The form came from another site.")
@@ -123,7 +127,10 @@ def create_app(config: Config) -> flask.Flask:
             flask.abort(400, "The request names no host that a page can have.")
         person = caller(secret)
         if flask.request.endpoint != "static":
-            flask.g.visit = Visit(config, tokens, person)
+            flask.g.visit = visit = Visit(config, tokens, person)
+            if person not in visit.roster.people:
+                # (whoever can sign on at the site sees nothing here for that alone)
+                flask.abort(403, f"The roster has nobody whose name is {person}.")
 
     @app.teardown_request
     def end(_: BaseException | None) -> None:

@@ -10,6 +10,8 @@ export DESK="${DESK:-$PWD/build/desk}"
 packages=(
     openssh-server openssh-client openssl nginx-light tzdata sudo faketime util-linux
     chromium chromium-driver fonts-dejavu-core curl msmtp msmtp-mta python3-aiosmtpd
+    apache2 libapache2-mod-auth-gssapi krb5-kdc krb5-admin-server krb5-user
+    libapache2-mod-auth-openidc glewlwyd dbconfig-sqlite3 python3-authlib
     python3-flask python3-requests python3-requests-unixsocket python3-waitress
     python3-pytest python3-pytest-xdist python3-selenium
 )

@@ -72,6 +72,10 @@ for name in notify-mail notify-webhook; do
 done
 put 0755 packaging/relay/make-keys "$libexec/make-page-keys"
 put 0644 relays/front.example.conf "$PREFIX/share/doc/steelnewt-relay/examples/desk-page.conf"
+for kind in gssapi openidc; do
+    put 0644 "relays/apache-$kind.example.conf" \
+        "$PREFIX/share/doc/steelnewt-relay/examples/desk-page-$kind.conf"
+done
 put 0755 examples/front-ca.sh "$PREFIX/share/doc/steelnewt-relay/examples/front-ca.sh"
 [ -e "$root/etc/desk/relay.toml" ] || put 0644 relays/relay.example.toml /etc/desk/relay.toml
 for unit in packaging/units/*; do

@@ -14,7 +14,8 @@ if TYPE_CHECKING:
 ASK = "ask db-care --on db1 --as root --for 1h --why disk full --yes /usr/bin/id"
 FOLDER = "/var/lib/desk-relay"
 OUTBOX, KEYS = f"{FOLDER}/outbox.db", f"{FOLDER}/.ssh/authorized_keys"
-PAGE_KEYS = ("page.secret", "page.key", "page.front")
+PAGE_KEYS = ("page.secret", "page.key", "page.front", "page.apache")
+FRONTS = ("desk-page.conf", "desk-page-gssapi.conf", "desk-page-openidc.conf")
 AS_RELAY = ["setpriv", "--reuid", "desk-relay", "--regid", "desk-relay", "--init-groups"]
 NOTIFY = """
 [notify]
@@ -43,7 +44,13 @@ def installed(trial: "Trial") -> None:
     said = modes(trial, FOLDER, f"{FOLDER}/.ssh", *(f"/etc/desk/{it}" for it in PAGE_KEYS))
     wanted = f"{FOLDER} desk-relay:desk-relay 700\n{FOLDER}/.ssh root:root 755\n"
     wanted += "".join(f"/etc/desk/page.{it} desk-relay:root 600\n" for it in ("secret", "key"))
-    trial.check("whose it is", said == wanted + "/etc/desk/page.front root:root 600\n", said)
+    wanted += "".join(f"/etc/desk/page.{it} root:root 600\n" for it in ("front", "apache"))
+    trial.check("whose it is", said == wanted, said)
+    secret = trial.read("/etc/desk/page.secret").strip()
+    lines = [trial.read(f"/etc/desk/page.{it}") for it in ("front", "apache")]
+    is_right = lines[0] == f"proxy_set_header X-Desk-Front {secret};\n"
+    is_right &= lines[1] == f"RequestHeader set X-Desk-Front {secret}\n"
+    trial.check("the front's lines", is_right)
     for name in ("ann", "bob"):
         trial.run("ssh-keygen", "-q", "-t", "ed25519", "-N", "", "-f", f"/tmp/{name}")
         add = ["desk-relay-person", "add", name, f"/tmp/{name}.pub"]
@@ -51,7 +58,8 @@ def installed(trial: "Trial") -> None:
     for page in ("man1/desk-relay.1", "man5/desk-relay.toml.5", "man8/desk-relay-person.8"):
         trial.does(page, "test", "-s", f"/usr/share/man/{page}.gz")
     mime = trial.run("sh", "-c", "ls /usr/share/doc/steelnewt-relay/examples").stdout
-    trial.check("the example of a front", "desk-page.conf" in mime, mime)
+    for name in (*FRONTS, "front-ca.sh"):
+        trial.check(f"the example {name}", f"{name}\n" in mime, mime)
 
 
 def used(trial: "Trial") -> None:

@@ -86,6 +86,14 @@ class Authority:
         words = ["openssl", "x509", "-noout", "-subject", "-nameopt", "RFC2253", "-in"]
         return [path for path in paths if desk.run([*words, path]).stdout[8:].strip() == subject]
 
+    def serials(self, subject: str) -> set[str]:
+        return {serial(path) for path in self.signed(subject)}
+
+    def listed(self) -> set[str]:
+        """The serials of the list of revoked ones."""
+        ran = desk.run(["openssl", "crl", "-in", self.path("crl.pem"), "-noout", "-text"])
+        return set(re.findall(r"Serial Number: ([0-9A-F]+)", ran.stdout))
+
     def fits(self, files: str) -> bool:
         """Whether a certificate and its key belong together, or neither is there."""
         pem, key = (self.path(f"{files}.{end}") for end in ("pem", "key"))
@@ -197,6 +205,43 @@ def at_once(folder: str) -> Iterator[Row]:
     yield "key and certificate", it.fits("host-db1"), ""
     it.run("revoke", "host-db1")
     yield "all are revoked", not any(map(it.holds, made)), made
+
+
+def people(folder: str) -> Iterator[Row]:
+    """A person's certificate is a client's and nothing more; it ends and is revoked for itself."""
+    it = Authority(folder, "people")
+    made = it.make("person", "ann", "ann")
+    others = [it.make(kind, "ann", f"{kind}-ann") for kind in ("relay", "host", "auditor")]
+    words = ["openssl", "x509", "-noout", "-subject", "-nameopt", "RFC2253", "-in", made]
+    subject = desk.run(words)
+    yield "the subject", subject.stdout == "subject=CN=ann,OU=person\n", subject
+    verify = ["openssl", "verify", "-CAfile", it.path("ca.pem"), "-purpose"]
+    for purpose, is_fit in (("sslclient", True), ("sslserver", False)):
+        ran = desk.run([*verify, purpose, made])
+        yield f"for {purpose}", (ran.returncode == 0) == is_fit, ran
+    minted = os.path.join(it.copies, "minted.pem")
+    words = ["openssl", "req", "-x509", "-newkey", "ec", "-pkeyopt", "ec_paramgen_curve:P-256"]
+    words += ["-nodes", "-subj", "/OU=relay/CN=chat", "-keyout", f"{minted}.key", "-out", minted]
+    desk.run([*words, "-CA", made, "-CAkey", it.path("person-ann.key")])
+    ran = desk.run([*verify, "sslclient", "-untrusted", made, minted])
+    is_right = os.path.exists(minted) and "invalid CA certificate" in ran.stderr
+    yield "what a person signs", ran.returncode != 0 and is_right, ran
+    for older in ("revoke-older", "revoke"):
+        it.run("person", "ann")
+        ran = it.run(older, "person-ann")
+        yield f"{older}: the older one", not it.holds(made) and ran.returncode == 0, ran
+        is_held = it.holds(it.path("person-ann.pem"))
+        yield f"{older}: the newest one", is_held == (older == "revoke-older"), ran
+        yield f"{older}: nobody else's", all(map(it.holds, others)), ran
+    it.run("revoke", "relay-ann")
+    again = it.make("person", "ann", "again")
+    yield "a relay of that name is revoked", it.holds(again) and not it.holds(others[0]), ""
+    gone = it.serials("CN=ann,OU=person") - {serial(again)} | {serial(others[0])}
+    yield "one list has both", len(gone) == 4 and it.listed() == gone, (it.listed(), gone)
+    dates = {"FROM": "20260101000000Z", "UNTIL": "20260102000000Z"}
+    it.run("person", "bob", **dates)
+    ran = desk.run([*verify, "sslclient", it.path("person-bob.pem")])
+    yield "one that has ended", "certificate has expired" in ran.stderr, ran
 
 
 # stands before a program of the script's, and kills the script before that program or after it
@@ -340,12 +385,15 @@ def published(folder: str) -> Iterator[Row]:
         yield f"it fails: {words[0]}", is_right, ran
 
 
+PARTS = (made_again, revoked, names, people, at_once, ended, lost, full, published)
+
+
 def main() -> None:
     for tool in ("openssl", "strace", "flock"):
         desk.tool(tool)
     checks = wrong = 0
     with tempfile.TemporaryDirectory(dir=desk.MEMORY) as folder:
-        for part in (made_again, revoked, names, at_once, ended, lost, full, published):
+        for part in PARTS:
             for what, is_right, said in part(folder):
                 checks += 1
                 if not is_right:

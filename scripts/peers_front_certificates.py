@@ -97,6 +97,17 @@ CLIENTS = [
     ["person", "ann"],
     ["person", "ann9"],
     ["person", "a.b_c-d"],
+    ["person", "db1"],
+    ["person", "chat"],
+    ["person", "carol"],
+]
+# what a certificate may ask the desk's front, and a person's of the same name may not
+RIGHTS = [
+    ("host", "db1", b"GET /v1/hosts/db1/sudoers"),
+    ("host", "db1", b"GET /v1/count"),
+    ("relay", "chat", b"POST /v1/relays/chat/messages"),
+    ("auditor", "carol", b"GET /v1/messages"),
+    ("auditor", "carol", b"GET /v1/reviews/20260105093000Z"),
 ]
 
 
@@ -111,6 +122,10 @@ class Behind(http.server.BaseHTTPRequestHandler):
         self.send_header("Content-Length", str(len(body)))
         self.end_headers()
         self.wfile.write(body)
+
+    def do_POST(self) -> None:
+        self.rfile.read(int(self.headers["Content-Length"]))
+        self.do_GET()
 
     def log_message(self, *_: object) -> None:
         pass
@@ -158,15 +173,7 @@ def page_words(folder: str, port: int, address: str) -> list[str]:
     ca = os.path.join(folder, "ca")
     text = desk.read("relays", "front.example.conf").replace("listen 8443", f"listen {port}")
     text = re.sub(r"proxy_pass [^;]+;", f"proxy_pass http://{address};", text)
-    for named, file in (
-        ("front.pem", "server.pem"),
-        ("front.key", "server.key"),
-        ("people-ca.pem", "ca.pem"),
-    ):
-        text = text.replace(f"/etc/desk/{named}", os.path.join(ca, file))
-    # (where the list of revoked ones is named, but not asked for)
-    text = re.sub(r"# ssl_crl +/etc/desk/\S+;", f"ssl_crl {ca}/crl.pem;", text)
-    text = text.replace("/etc/desk", folder)
+    text = text.replace("/etc/desk/front/", f"{ca}/").replace("/etc/desk", folder)
     desk.write(folder, "page.front", "proxy_set_header X-Desk-Front secret;\n")
     temp = "".join(
         f"{name}_temp_path {folder}/{name};"
@@ -222,6 +229,18 @@ def subjects(it: Front) -> Iterator[Row]:
         yield "a person's name", NAMED.findall(person) == [b"a.b_c-d"], person
     else:
         yield "a person at the desk", not it.takes("person-ann"), it.once("person-ann")
+
+
+def people(it: Front) -> Iterator[Row]:
+    """A person has no right of a relay, a host or an auditor of that name."""
+    for kind, name, asked in RIGHTS if it.kind != "page" else []:
+        head = b"%s HTTP/1.1\r\nHost: desk\r\nContent-Length: %d\r\nConnection: close\r\n\r\n"
+        body = b"{}" if asked.startswith(b"POST") else b""
+        for client, is_right in ((kind, True), ("person", False)):
+            made = front.context(it.folder, f"{client}-{name}")
+            reply = front.exchange(made, it.port, head % (asked, len(body)) + body)
+            status = b"200" if is_right else b"403"
+            yield f"{asked!r} as {client}", reply.startswith(b"HTTP/1.1 " + status), reply
 
 
 def requests(it: Front) -> Iterator[Row]:
@@ -388,7 +407,7 @@ def rows(folder: str, kind: str) -> list[Row]:
         front.certify(ca, *words)
     it, found = Front(folder, kind), []
     with front.front(it.words, it.port):
-        for part in (subjects, http2, sessions, outlived, requests):
+        for part in (subjects, people, http2, sessions, outlived, requests):
             found += part(it)
     found += revoked(it)
     it.behind.shutdown()

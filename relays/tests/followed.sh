@@ -8,9 +8,9 @@ import fcntl, socket, struct
 with socket.socket() as peer:  # (loopback goes up)
     fcntl.ioctl(peer, 0x8914, struct.pack("16sh14x", b"lo", 1 | 64))
 P
-# The block of a heading, with the number of its lines.
+# The first block after a heading, or after a line that begins so.
 block() {
-    awk -v heading="## $1" '$0 == heading {on = 1} on && /^```$/ {exit} on && show {print}
+    awk -v from="$1" 'index($0, from) == 1 {on = 1} on && /^```$/ {exit} on && show {print}
         on && /^```sh$/ {show = 1}' docs/RELAYS.md
 }
 until_answers() {
@@ -29,8 +29,8 @@ setpriv --regid desk-front --clear-groups ./desk serve /etc/desk/roster.toml exa
 for person in ann bob carol mallory; do
     ssh-keygen -q -t ed25519 -N '' -f "$person"
 done
-block "By ssh" > ssh.block
-block "The page" > page.block
+block "## By ssh" > ssh.block
+block "## The page" > page.block
 echo "lines: $(wc -l < ssh.block) $(wc -l < page.block)"
 bash -eu ssh.block
 until_answers --unix-socket /run/desk/desk.sock http://desk/v1/parked
@@ -57,8 +57,11 @@ bash -eu carol.block || echo "carol.pub is refused"
 ask mallory id || echo "mallory is refused"
 bash -eu page.block
 page() {
-    curl -s --cacert /etc/desk/people-ca.pem --cert "/etc/desk/$1.pem" --key "/etc/desk/$1.key" \
-        --resolve desk.example:8443:127.0.0.1 https://desk.example:8443/
+    (
+        cd /etc/desk/front
+        curl -s --cacert ca.pem --cert "person-$1.pem" --key "person-$1.key" \
+            --resolve desk.example:8443:127.0.0.1 https://desk.example:8443/
+    )
 }
 until_answers --unix-socket /run/desk-relay/page.sock http://page/
 until_answers -k https://127.0.0.1:8443/
@@ -66,6 +69,7 @@ page bob | grep -o "You are <strong>[a-z]*</strong>"
 page ann | grep -o "It is in force from" | head -n 1
 curl -s --unix-socket /run/desk-relay/page.sock http://page/ -H 'X-Desk-Person: bob' |
     grep -o "through its front alone"
+(. relays/tests/signed_on.sh)
 # Another account of the machine: past the front, and in the page's place while that is stopped.
 place=$(sed -n 's,^ *proxy_pass http://\(.*\);$,\1,p' /etc/nginx/conf.d/desk-page.conf)
 as_nobody() {
@@ -85,4 +89,4 @@ for left in "its folder left" "its folder gone"; do
     rm -rf /run/desk-relay
 done
 cat /tmp/desk-relay-post.log
-ls -l /etc/desk /var/lib/desk-relay
+ls -l /etc/desk /etc/desk/front /var/lib/desk-relay

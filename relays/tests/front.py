@@ -11,6 +11,7 @@ from relays.tests.site import ROOT, SECRET, Site, wait_for_port
 from scripts.ports import free_port
 
 NGINX = "/usr/sbin/nginx"
+AUTHORITY = str(ROOT / "examples" / "front-ca.sh")
 EXAMPLE = ROOT / "relays" / "front.example.conf"
 CONFIG = """\
 daemon off;
@@ -53,24 +54,13 @@ class Front:
     def __init__(self, site: Site, people: list[str]) -> None:
         self.folder, self.tls = site.folder, free_port()
         self.ports = {person: free_port() for person in people}
-        self.authority("people")
-        self.authority("others")
-        self.certificate("front", "people", "/CN=127.0.0.1", "subjectAltName=IP:127.0.0.1")
-        for person in people:
-            self.certificate(person, "people", f"/CN={person}")
-        self.certificate("stranger", "others", "/CN=bob")
-        self.certificate("joined", "people", "/O=site/CN=bob")
-        # (a certificate for bob that ann makes with hers, and brings hers along)
-        self.certificate("minted", people[0], "/CN=bob")
-        with open(self.path("minted.pem"), "a", encoding="ascii") as file:
-            file.write((self.folder / f"{people[0]}.pem").read_text())
+        self.certificates(people)
         values = {"folder": self.folder, "page": site.socket, "secret": SECRET}
         (self.folder / "page.front").write_text(f"proxy_set_header X-Desk-Front {SECRET};\n")
         shipped = EXAMPLE.read_text().replace("8443", f"127.0.0.1:{self.tls}")
         shipped = shipped.replace("/run/desk-relay/page.sock", str(site.socket))
-        shipped = shipped.replace("people-ca.pem", "people.pem").replace(
-            "/etc/desk", str(self.folder)
-        )
+        shipped = shipped.replace("/etc/desk/front/", f"{self.folder}/ca/")
+        shipped = shipped.replace("/etc/desk", str(self.folder))
         servers = "".join(
             SERVER.format(port=port, person=person, **values) for person, port in self.ports.items()
         )
@@ -81,8 +71,32 @@ class Front:
         )
         wait_for_port(self.tls)
 
+    def certificates(self, people: list[str]) -> None:
+        """Those of the people, by the authority of examples/, and some that nobody may have."""
+        self.ca("init")
+        self.ca("server", "127.0.0.1", "127.0.0.1")
+        for person in people:
+            self.ca("person", person)
+            for end in ("pem", "key"):
+                made = self.folder / "ca" / f"person-{person}.{end}"
+                (self.folder / f"{person}.{end}").write_bytes(made.read_bytes())
+        self.authority("others")
+        self.certificate("stranger", "others", "/CN=bob")
+        self.certificate("joined", "ca/ca", "/O=site/CN=bob")
+        # (as a site's own authority makes them)
+        self.certificate("plain", "ca/ca", f"/CN={people[0]}")
+        # (a certificate for bob that ann makes with hers, and brings hers along)
+        self.certificate("minted", people[0], "/CN=bob")
+        with open(self.path("minted.pem"), "a", encoding="ascii") as file:
+            file.write((self.folder / f"{people[0]}.pem").read_text())
+
     def path(self, name: str) -> str:
         return str(Path(self.folder) / name)
+
+    def ca(self, *words: str) -> None:
+        """The authority of examples/, as RELAYS.md has it."""
+        made = ["sh", AUTHORITY, self.path("ca"), *words]
+        subprocess.run(made, check=True, capture_output=True)
 
     def authority(self, name: str) -> None:
         new = ["req", "-x509", "-newkey", "ec", "-pkeyopt", "ec_paramgen_curve:P-256", "-nodes"]

@@ -104,9 +104,13 @@ class Site:
         """A job of the relay's program, which ends with the site."""
         log = open(self.folder / f"{words[0]}.log", "ab")
         with log:
-            job = subprocess.Popen([RELAY, "--config", str(self.config), *words], stderr=log)
+            job = subprocess.Popen(self.job(*words), stderr=log)
         self.started.append(job)
         return job
+
+    def job(self, *words: str) -> list[str]:
+        """What starts a job of the relay's program."""
+        return [RELAY, "--config", str(self.config), *words]
 
     def start_page(self) -> subprocess.Popen[bytes]:
         """The page, once it listens."""

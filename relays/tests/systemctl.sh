@@ -17,5 +17,6 @@ case $1 in
             $line > "/tmp/$3.log" 2>&1 < /dev/null &
         echo $! > "/tmp/$3.pid"
         ;;
+    restart) setsid "${2}ctl" restart < /dev/null > /dev/null 2>&1 ;;
     reload) setsid "$2" < /dev/null > /dev/null 2>&1 & ;;
 esac

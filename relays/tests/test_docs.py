@@ -33,11 +33,13 @@ def test_a_new_reader_follows_it(tmp_path: Path) -> None:
     assert "carol.pub is refused" in said and "mallory is refused" in said, said
     assert "uid=" not in said, said
     assert "You are <strong>bob</strong>" in said and "through its front alone" in said
+    assert "a ticket of ann\nasks for a Kerberos ticket of a person of EXAMPLE.COM\n" in said, said
+    assert "/etc/desk/openidc.secret root 600\nwithout its provider: 500\n" in said, said
     # nobody else gets past the front, or into the page's place
     assert said.count("thief at unix:/run/desk-relay/page.sock as 65534: not reached") == 3, said
     assert said.count("thief takes nothing: PermissionError") == 3, said
     assert "thief took" not in said and "thief has" not in said, said
-    secrets = ("page.secret", "page.key", "page.front", "people-ca.key")
+    secrets = ("page.secret", "page.key", "page.front", "page.apache", "ca.key", "person-ann.key")
     for secret in (*secrets, "outbox.db", "outbox.db-wal"):
         assert re.search(rf"^-rw------- .* {re.escape(secret)}$", said, re.MULTILINE), said
 

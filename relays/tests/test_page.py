@@ -69,18 +69,19 @@ def test_who_is_calling_is_the_certificates_name(fronted: tuple[Site, Front]) ->
         return requests.get(
             f"https://127.0.0.1:{front.tls}/",
             cert=pair,
-            verify=front.path("people.pem"),
+            verify=front.path("ca/ca.pem"),
             headers={"X-Desk-Person": "bob", "X_Desk_Person": "bob"},
             timeout=60,
         )
 
     assert "You are <strong>ann</strong>" in called("ann").text
+    assert "You are <strong>ann</strong>" in called("plain").text
     assert called("stranger").status_code == 400
     assert called("minted").status_code == 400
     joined = called("joined")
     assert joined.status_code == 403 and "does not say who you are" in joined.text
     bare = requests.get(
-        f"https://127.0.0.1:{front.tls}/", verify=front.path("people.pem"), timeout=60
+        f"https://127.0.0.1:{front.tls}/", verify=front.path("ca/ca.pem"), timeout=60
     )
     assert bare.status_code == 400 and "You are" not in bare.text
 
