@@ -133,8 +133,8 @@ def table_members(path: str, duty: str) -> set[str]:
 def on_call(path: str, person: str, today: str, weeks: int) -> dict[str, list[Days]]:
     """Who is on call on which days from today on, by the events of an iCalendar file."""
     try:
-        import icalendar
-        import recurring_ical_events
+        import icalendar  # type: ignore[import]
+        import recurring_ical_events  # type: ignore[import]
     except ImportError:
         said = "python3-icalendar and python3-recurring-ical-events"
         raise Unsure(f"it needs Debian's packages {said}") from None

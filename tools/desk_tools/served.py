@@ -165,7 +165,7 @@ def run(words: Sequence[str], keep: tuple[int, ...] = (), owner: str | None = No
     if ran.returncode:
         said = ran.stderr.decode("utf-8", "replace").strip() or f"status {ran.returncode}"
         raise Failed(f"{os.path.basename(words[0])} {words[1]}: {said}")
-    return ran.stdout.decode("utf-8", "replace")
+    return str(ran.stdout.decode("utf-8", "replace"))
 
 
 def audit(program: str, roster: str, base: str, store: str, told: bytes) -> dict[str, Any]:
