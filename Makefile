@@ -99,7 +99,7 @@ types:
 relays-test:
 	bash relays/test.sh
 
-# The tools (docs/LINT.md, docs/IMPORT.md, docs/USED.md, docs/EVIDENCE.md): desk-lint beside the desk, desk-import and desk-used beside sudo itself, over build/desk or the program that DESK names.
+# The tools (docs/LINT.md, docs/IMPORT.md, docs/USED.md, docs/EVIDENCE.md, docs/CHANGING.md, docs/PEOPLE.md): desk-lint beside the desk, desk-import and desk-used beside sudo itself, over build/desk or the program that DESK names.
 tools-test:
 	bash tools/test.sh
 

@@ -4,9 +4,10 @@ is run as it stands there, and what the page says of it is compared.
 
 It is done in a root of its own, this machine's under an overlay that is thrown away, with
 namespaces for mounts, processes and network. The service is `desk-serve` as the unit's account;
-`systemctl`, `ssh db1`, `apt install` and the editor are stand-ins (STAND_INS), all else is
-Debian's: a block that the page has and nothing here runs is a fault. Needs root, and Debian's
-packages sudo, faketime, curl, nginx-light, openssl and iproute2.
+`systemctl`, `ssh db1`, `ssh desk`, `sendmail`, `apt install` and the editor are stand-ins
+(STAND_INS), all else is Debian's: a block that the page has and nothing here runs is a fault. Needs
+root, and Debian's packages sudo, faketime, curl, nginx-light, openssl and iproute2; what the relay
+needs it installs.
 """
 
 from __future__ import annotations
@@ -65,7 +66,15 @@ halt() {
     [ ! -e /run/nginx.pid ] || nginx -s stop
     for _ in $(seq 600); do [ -e /run/nginx.pid ] || break; sleep 0.1; done
 }
+relay() { # a job of the relay's
+    [ ! -e "/run/relay-$1.pid" ] || kill "$(cat "/run/relay-$1.pid")"
+    setsid setpriv --reuid desk-relay --regid desk-relay --init-groups env -i PATH=/usr/bin:/bin \\
+        /usr/local/bin/desk-relay "$1" --every 0.2 >> /tmp/relay.log 2>&1 < /dev/null &
+    echo $! > "/run/relay-$1.pid"
+}
 case $* in
+    'start desk-relay-post') relay post ;;
+    'restart desk-relay-notify') relay notify ;;
     'stop desk') stop ;;
     'start desk') start ;;
     'restart desk') stop; start ;;
@@ -76,8 +85,19 @@ case $* in
     *) echo "systemctl: it is not known here: $*" >&2; exit 9 ;;
 esac
 """,
-    # the host db1 is this machine
+    # the host db1 is this machine; at desk, the relay is called as sshd does by the person's key
     "ssh": """#!/bin/bash
+key=/root/ann
+[ "$1" != -i ] || { key=$2; shift 2; }
+if [ "$1" = desk ]; then
+    shift
+    keys=/var/lib/desk-relay/.ssh/authorized_keys
+    line=$(grep -F "$(cut -d ' ' -f 2 "$key.pub")" "$keys") || { echo denied; exit 255; }
+    command=${line#*command=\\"}
+    SSH_ORIGINAL_COMMAND="$*" setpriv --reuid desk-relay --regid desk-relay --init-groups \\
+        sh -c "${command%%\\"*}"
+    exit
+fi
 [ "$1" = db1 ] || exit 9
 shift
 if [ "$1" = sudo ]; then shift; exec /usr/bin/sudo -h db1 "$@"; fi
@@ -208,7 +228,29 @@ def change(room: Room, roster: str) -> tuple[desk.Run, desk.Run]:
     """The runbook of a changed roster: what would change, and the change."""
     room.write(f"{BOOK}/new.toml", roster)
     heading = "A roster is changed"
-    return room.follow(heading, 0), room.follow(heading, 1)
+    return room.follow(heading, 1), room.follow(heading, 2)
+
+
+def by_one_command(room: Room) -> None:
+    """The runbook's one command, and a person who says yes."""
+    heading = "A roster is changed"
+    asked, approved = granted_now()
+    room.begin(asked, approved)
+    new = with_lines("bob = []")
+    room.write(f"{BOOK}/new.toml", new)
+    says_yes = 'desk-change-roster() { echo y | command desk-change-roster "$@"; }\n'
+    room.says(heading, "it shows which grants change, asks, rebuilds, starts the desk")
+    done = room.follow(heading, 0, says_yes)
+    room.holds("it is changed", done.returncode == 0, done)
+    shown = re.search(r"ENDS\nann 7 .*\n(?s:.*) bob counts no more \(duty\)\n", done.stdout)
+    room.holds("what ends", shown is not None, done)
+    room.holds("it is there", room.read(FILES[0]) == new)
+    room.holds("it is not granted", room.text(f"/v1/grants/{near(0)}") == "")
+    kept = room.run("ls -l /var/lib/desk; cat /etc/desk/rosters/*Z.toml | cmp - /etc/desk/roster.toml")
+    others = [line for line in kept.stdout.splitlines()[1:] if " desk desk" not in line]
+    room.holds("the desk's own store", not others, kept)
+    room.holds("a copy by its moment", kept.returncode == 0, kept)
+    room.run("rm -r /etc/desk/rosters")
 
 
 def roster_changed(room: Room) -> None:
@@ -311,6 +353,63 @@ def revoked(room: Room) -> None:
     moments = [time.strptime(it[1], "%Y%m%d%H%M%SZ") for it in (at, ends) if it]
     apart = [time.mktime(it) for it in moments]
     room.holds("a second before it", len(apart) == 2 and apart[0] - apart[1] == 1, (at, ends))
+
+
+def mails(room: Room, *subjects: str) -> str:
+    """The mails, once there is one of each subject."""
+    text, until = "", time.monotonic() + PATIENCE
+    while time.monotonic() < until:
+        if os.path.exists(room.path("/tmp/mails")):
+            text = room.read("/tmp/mails")
+        if all(f"Subject: [desk] {it}" in text for it in subjects):
+            break
+        time.sleep(0.1)
+    return text
+
+
+def with_relay(room: Room) -> None:
+    """The desk of examples/break-glass.toml, and a relay that rings the bells."""
+    heading = "Nobody can approve"
+    part, notify = blocks(section(heading), "toml")
+    room.holds("the example has its part", part in desk.read("examples", "break-glass.toml"))
+    shutil.copy(f"{desk.EXAMPLES}/break-glass.toml", room.path(FILES[0]))
+    settings = desk.read("relays", "relay.example.toml")
+    room.write("/etc/desk/relay.toml", settings.partition("[page]")[0] + notify)
+    room.write("/etc/desk/bells", "# all\nbob robert@site\ndave dave@site\nann ann@site\n")
+    made = room.run(
+        f"systemctl stop desk; rm {HERE}/*; systemctl start desk; systemctl start desk-relay-post;"
+        " ssh-keygen -q -t ed25519 -N '' -f /root/ann && desk-relay-person add ann /root/ann.pub"
+    )
+    room.holds("the relay", made.returncode == 0, made)
+
+
+def no_approver(room: Room) -> None:
+    heading = "Nobody can approve"
+    room.begin()
+    with_relay(room)
+    done = room.follow(heading, 0)
+    room.holds("the envelope", re.search(r"for the envelope: \S{24}\n", done.stdout), done)
+    # (it tells what comes from its first round on)
+    told = "grep -q told_from <(sqlite3 /var/lib/desk-relay/outbox.db .dump)"
+    room.run(f"for _ in $(seq 600); do {told} && break; sleep 0.1; done")
+    room.says(heading, "its use rings every bell", "An asker's own approval counts under no ceiling")
+    done = room.follow(heading, 1)
+    room.holds("the key approves", "It is in force from" in done.stdout, done)
+    room.holds("everything on the host", room.may("/usr/bin/env"), done)
+    subjects = ("ann asks.", "glass approved ann 1.", "ann 1 is granted.")
+    rung = mails(room, *(f"BREAK-GLASS: {it}" for it in subjects))
+    for subject in subjects:
+        part = rung.partition(f"Subject: [desk] BREAK-GLASS: {subject}")[0].split("To: ")[-1]
+        everybody = all(f"{it}@site" in part for it in ("ann", "dave", "robert"))
+        room.holds(f"every bell: {subject}", everybody, rung)
+    done = room.follow(heading, 2)
+    room.holds("it ends", done.returncode == 0 and not room.may("/usr/bin/env"), done)
+    done = room.follow(heading, 3)
+    reviewed = re.search(r"approve +\d+Z glass counts\n(?s:.*)nobody answers", done.stdout)
+    room.holds("it is reviewed", reviewed is not None, done)
+    gone = room.run("ssh -i /root/glass desk approve ann 2 --yes")
+    room.holds("the key is gone", gone.stdout == "denied\n", gone)
+    room.run("kill $(cat /run/relay-*.pid); rm /var/lib/desk-relay/outbox.db*")
 
 
 def break_glass(room: Room) -> None:
@@ -577,11 +676,13 @@ def authority_lost(room: Room) -> None:
 
 
 BOOKS = (
+    by_one_command,
     roster_changed,
     leaver,
     on_call,
     revoked,
     break_glass,
+    no_approver,
     key_lost,
     disk_full,
     upgrade,
@@ -601,6 +702,25 @@ def make_front(room: Room, *more: str) -> None:
     room.holds("the front", made.returncode == 0, made)
 
 
+def prepare_tools(room: Room) -> None:
+    """The tools and the relay, as they are installed, and a sendmail that keeps the mails."""
+    folder, name = os.path.split(PROGRAM)
+    audit = os.path.join(folder, name.replace("desk", "desk-audit", 1))
+    shutil.copy(audit, room.path("/usr/local/bin/desk-audit"))
+    for source, target in (("tools", "tools"), ("relays", "relay/relays")):
+        place = f"/usr/local/share/{target}"
+        shutil.copytree(os.path.join(desk.ROOT, source), room.path(place), dirs_exist_ok=True)
+        programs = ("desk-relay", "desk-relay-person", "desk-change-roster", "desk-lint")
+        for program in programs:
+            if os.path.exists(room.path(f"{place}/{program}")):
+                room.run(f"ln -sfn {place}/{program} /usr/local/bin/{program}")
+    os.makedirs(room.path("/usr/libexec/steelnewt"), exist_ok=True)
+    room.run("cp /usr/local/share/relay/relays/notify-mail /usr/libexec/steelnewt/")
+    # (it may be a link to elsewhere)
+    room.run("rm -f /usr/sbin/sendmail")
+    room.write("/usr/sbin/sendmail", "#!/bin/sh\numask 0\ncat >> /tmp/mails\n", 0o755)
+
+
 def prepare(room: Room) -> None:
     """The stand-ins, the programs and the accounts."""
     os.mkdir(room.path(BOOK))
@@ -618,6 +738,8 @@ def prepare(room: Room) -> None:
         os.makedirs(room.path(folder), exist_ok=True)
     for name in ("front-ca.sh", "feed-desk.sh"):
         shutil.copy(os.path.join(desk.EXAMPLES, name), room.path(DOC))
+    shutil.copy(f"{desk.EXAMPLES}/ring-bells.py", room.path(DOC))
+    prepare_tools(room)
     room.write("/etc/nginx/conf.d/desk.conf", desk.read("examples", "nginx", "desk.conf"))
     room.write("/etc/desk/fetch.conf", desk.read("packaging", "fetch.conf"))
     names = f"localhost desk.example desk2.example {socket.gethostname()}"
@@ -626,6 +748,10 @@ def prepare(room: Room) -> None:
         shutil.copy(source, room.path(name))
     room.run("useradd --system desk; groupadd --system desk-front; useradd ann")
     room.run("usermod --append --groups desk-front www-data")
+    room.run("id desk-relay || useradd --system --user-group --shell /bin/sh desk-relay")
+    room.run("usermod --append --groups desk-front desk-relay; rm -rf /var/lib/desk-relay")
+    room.run("install -d -o desk-relay -g desk-relay -m 0700 /var/lib/desk-relay")
+    room.run("install -d -m 0755 /var/lib/desk-relay/.ssh")
     make_front(room)
 
 
@@ -646,12 +772,19 @@ def inside() -> None:
     sys.exit(1 if room.wrong else 0)
 
 
+def in_a_root(script: str) -> int:
+    """Runs a script again with the word --inside, where all that it does is thrown away."""
+    words = ["unshare", "--mount", "--net", "--pid", "--ipc", "--fork", "--kill-child"]
+    words += ["--propagation", "private", sys.executable, os.path.abspath(script)]
+    return subprocess.run([*words, "--inside"], check=False).returncode
+
+
 def main() -> None:
     if os.geteuid() != 0:
         sys.exit("check_runbooks.py needs root: it follows the page in a root of its own")
-    words = ["unshare", "--mount", "--net", "--pid", "--ipc", "--fork", "--kill-child"]
-    words += ["--propagation", "private", sys.executable, os.path.abspath(__file__)]
-    sys.exit(subprocess.run([*words, "--inside"], check=False).returncode)
+    installs = [os.path.join(desk.ROOT, "relays", "install.sh"), "python3-requests"]
+    subprocess.run(["bash", *installs, "python3-requests-unixsocket", "openssh-client"], check=True)
+    sys.exit(in_a_root(__file__))
 
 
 if __name__ == "__main__":

@@ -39,14 +39,14 @@ put 0755 examples/monitoring/check_desk.py "$PREFIX/lib/nagios/plugins/check_des
 for page in build/pages/*.[1-8]; do
     put 0644 "$page" "$PREFIX/share/man/man${page##*.}/$(basename "$page")"
 done
-for name in desk desk-audit desk-lint desk-import desk-used desk-evidence desk-relay \
-    desk-relay-person; do
+for name in desk desk-audit desk-lint desk-import desk-used desk-evidence desk-change-roster \
+    desk-roster desk-relay desk-relay-person; do
     put 0644 "build/pages/$name.bash" "$PREFIX/share/bash-completion/completions/$name"
     put 0644 "build/pages/_$name" "$PREFIX/share/zsh/$zsh/_$name"
 done
 # The tools stand in a folder of their own, with the schemas and the codes that they explain.
 share=$PREFIX/share/steelnewt
-for tool in desk-lint desk-import desk-used desk-evidence; do
+for tool in desk-lint desk-import desk-used desk-evidence desk-change-roster desk-roster; do
     put 0755 "tools/$tool" "$share/$tool"
     mkdir -p "$root$PREFIX/bin"
     ln -sfn "../share/steelnewt/$tool" "$root$PREFIX/bin/$tool"
@@ -88,7 +88,8 @@ for conf in serve.conf fetch.conf; do
 done
 for text in README.md CHANGELOG.md \
     docs/{OPERATING,RUNBOOKS,HTTP,RELAYS,AUDITING,ROSTER,SUDOERS,MESSAGES,STORE}.md \
-    docs/{CODES,PROOFS,LINT,IMPORT,SECURITY,HOSTS,USED,EVIDENCE,CONTROLS}.md; do
+    docs/{CODES,PROOFS,LINT,IMPORT,SECURITY,HOSTS,USED,EVIDENCE,CONTROLS,CHANGING}.md \
+    docs/{PEOPLE,TEAM}.md; do
     put 0644 "$text" "$doc/$(basename "$text")"
 done
 files=$(cd examples && find . -type f ! -path './peers/*' ! -name 'demo.expected' ! -name '*.pyc')

@@ -31,6 +31,8 @@ DOCUMENTS = [
     ("desk-audit", 1, "AUDITING.md", "tell what became of each request that a desk holds"),
     ("desk-used", 1, "USED.md", "tell which grants of a desk were used"),
     ("desk-evidence", 1, "EVIDENCE.md", "put together what an audit rests on"),
+    ("desk-change-roster", 1, "CHANGING.md", "change the roster of a running desk"),
+    ("desk-roster", 1, "PEOPLE.md", "bring the people of a roster up to date"),
 ]
 
 

@@ -18,6 +18,8 @@ PAGES = {
     "AUDITING.md": "desk-audit(1)",
     "USED.md": "desk-used(1)",
     "EVIDENCE.md": "desk-evidence(1)",
+    "CHANGING.md": "desk-change-roster(1)",
+    "PEOPLE.md": "desk-roster(1)",
 }
 INSTALLED = (
     "README.md",
@@ -29,6 +31,7 @@ INSTALLED = (
     "RELAYS.md",
     "PROOFS.md",
     "CONTROLS.md",
+    "TEAM.md",
 )
 
 

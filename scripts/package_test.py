@@ -32,6 +32,7 @@ NEEDED += ",python3-jsonschema,sqlite3,openssh-client,tzdata,python3-flask,pytho
 NEEDED += ",python3-requests-unixsocket,python3-waitress"
 NEEDED += ",strace,sudo,systemd"
 DOC = "/usr/share/doc/steelnewt"
+TOOLS = ("desk-lint", "desk-import", "desk-used", "desk-change-roster", "desk-roster")
 NAMES = ("steelnewt", "steelnewt-host", "steelnewt-tools")
 RELAY = "steelnewt-relay"
 PATIENCE = 120  # the seconds after which something hangs
@@ -176,7 +177,7 @@ def tools(trial: Trial) -> None:
     said = "\ndb1 eve as root  once"
     told = trial.does("desk-used", "sh", "-c", AUDITED, status=1, says=said)
     trial.check("a grant that was used", "  used twice\n" in told, told)
-    for page in ("desk-lint", "desk-import", "desk-used", "desk-evidence"):
+    for page in (*TOOLS, "desk-evidence"):
         trial.does(f"{page}(1)", "test", "-s", f"/usr/share/man/man1/{page}.1.gz")
     trial.does("the schemas", "test", "-s", "/usr/share/steelnewt/schemas/roster.schema.json")
 

@@ -1,14 +1,16 @@
 #!/usr/bin/env bash
 # Tests the tools over build/desk or what DESK names: desk-lint beside the desk on random rosters and messages, desk-import beside sudo itself on random
-# sudoers files and on those of Debian's packages, which are fetched the first time; desk-used beside what sudo logs, and desk-evidence. It installs what
-# it needs of Debian, where this is root. With WHOLE=1 nothing is left out.
+# sudoers files and on those of Debian's packages, which are fetched the first time; desk-used beside what sudo logs, and desk-evidence;
+# desk-change-roster over a desk that is served, and desk-roster beside a real slapd. It installs what it needs of Debian, where this is root. With
+# WHOLE=1 nothing is left out.
 # Words are passed on to pytest: --rosters 10000 --messages 10000 --sudoers 1000 asks for more.
 set -euo pipefail
 cd "$(dirname "$0")/.."
 export PATH="$PATH:/usr/sbin:/sbin"
 export DESK="${DESK:-$PWD/build/desk}" PYTHONPATH=$PWD/tools
 bash relays/install.sh python3-jsonschema python3-pytest python3-pytest-xdist sudo faketime util-linux \
-    iproute2 jq openssh-client tzdata
+    iproute2 jq openssh-client tzdata procps sqlite3 python3-requests python3-requests-unixsocket \
+    slapd ldap-utils python3-icalendar python3-recurring-ical-events
 if [ ! -x "$DESK" ]; then
     echo "there is no program $DESK: run make desk"
     exit 1

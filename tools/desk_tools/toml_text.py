@@ -37,11 +37,13 @@ class Refused(Exception):
 @dataclass
 class Node:
     """A value or a table, the place of its key, and what made it: a `value`, an `array` of tables, or a table by a `header`, by one that passed
-    through it, or by a `dotted` key."""
+    through it, or by a `dotted` key. A value's text is from `start` to `end`."""
 
     origin: str
     held: Any
     at: int
+    start: int = 0
+    end: int = 0
 
 
 @dataclass
@@ -232,6 +234,11 @@ class Reader:
     # ---- values
 
     def value(self, at: int, depth: int) -> tuple[Node, int]:
+        node, end = self.bare_value(at, depth)
+        node.start, node.end = at, end
+        return node, end
+
+    def bare_value(self, at: int, depth: int) -> tuple[Node, int]:
         mark = self.text[at : at + 1]
         if mark and mark in "[{":
             if depth == 0:
@@ -325,8 +332,14 @@ class Reader:
             raise Refused(at, "the line goes on behind its value")
 
     def document(self) -> Document:
-        root: dict[str, Node] = {}
         found = Document()
+        root = self.tree(found)
+        found.value = self.closed(root, (), found.lines)
+        return found
+
+    def tree(self, found: Document) -> dict[str, Node]:
+        """The values and tables, with their places; what is no TOML is a fault of the document."""
+        root: dict[str, Node] = {}
         section: list[str] = []
         at = 1 if self.text.startswith("\ufeff") else 0
         while True:
@@ -339,8 +352,7 @@ class Reader:
                 place = min(fault.at, len(self.text))
                 found.faults.append(Fault(self.line_of(place), fault.said))
                 at = self.next_fresh(at)
-        found.value = self.closed(root, (), found.lines)
-        return found
+        return root
 
     def next_fresh(self, at: int) -> int:
         """The next line that looks like a header or a key."""

@@ -1,0 +1,184 @@
+"""A desk that is served: its settings, what it answers, its store and the programs over it."""
+
+from __future__ import annotations
+
+import hashlib
+import http.client
+import json
+import os
+import shlex
+import shutil
+import socket
+import sqlite3
+import subprocess
+from collections.abc import Sequence
+from contextlib import closing
+from typing import Any, NamedTuple
+
+CONF = "/etc/desk/serve.conf"
+# what packaging/desk-serve takes where the file says nothing
+DEFAULTS = {
+    "ROSTER": "/etc/desk/roster.toml",
+    "BASE": "/etc/desk/base.sudo",
+    "STORE": "/var/lib/desk/desk.db",
+    "ADDR": "unix:/run/desk/desk.sock",
+}
+READINGS = 20
+ANSWERS_IN = 60.0  # seconds: it reads all its messages to count them
+
+
+class Failed(Exception):
+    """Why something about a served desk could not be done."""
+
+
+class Settings(NamedTuple):
+    """What serve.conf says."""
+
+    roster: str
+    base: str
+    store: str
+    address: str
+
+
+def settings(path: str) -> Settings:
+    """The settings of the service, from a file of lines NAME=VALUE as systemd reads it."""
+    found = dict(DEFAULTS)
+    try:
+        with open(path, encoding="utf-8") as file:
+            lines = file.read().splitlines()
+    except FileNotFoundError:
+        lines = []
+    for line in lines:
+        name, equals, value = line.strip().partition("=")
+        if equals and name in found:
+            found[name] = "".join(shlex.split(value)[:1])
+    if found["STORE"] == "-":
+        raise Failed(f"{path}: the desk has no store, so its roster needs no rebuild")
+    return Settings(*(found[name] for name in DEFAULTS))
+
+
+def digest(text: bytes) -> str:
+    return hashlib.sha256(text).hexdigest()
+
+
+def file_digest(path: str) -> str:
+    with open(path, "rb") as file:
+        return hashlib.file_digest(file, "sha256").hexdigest()
+
+
+class Socket(http.client.HTTPConnection):
+    """A connection to a desk's socket."""
+
+    def __init__(self, path: str) -> None:
+        super().__init__("desk", timeout=ANSWERS_IN)
+        self.path = path
+
+    def connect(self) -> None:
+        self.sock = socket.socket(socket.AF_UNIX)
+        self.sock.settimeout(ANSWERS_IN)
+        self.sock.connect(self.path)
+
+
+def connection(address: str) -> http.client.HTTPConnection:
+    if address.startswith("unix:"):
+        return Socket(address.removeprefix("unix:"))
+    return http.client.HTTPConnection(address, timeout=ANSWERS_IN)
+
+
+def serves(address: str) -> str | None:
+    """The digest of the roster with which a desk answers there; None where none answers."""
+    try:
+        with closing(connection(address)) as peer:
+            peer.request("GET", "/v1/count")
+            reply = peer.getresponse()
+            words = reply.read().decode("ascii", "replace").split()
+    except (OSError, http.client.HTTPException):
+        return None
+    return words[1] if reply.status == 200 and len(words) == 3 else None
+
+
+def parts(store: str) -> list[str]:
+    """A store's file and its log, where they are."""
+    return [path for path in (store, f"{store}-wal") if os.path.exists(path)]
+
+
+def copy_store(store: str, folder: str) -> str:
+    """Copies a store that may be written to: two readings in a row that are the same are what it
+    was at one moment."""
+    if not os.path.exists(store):
+        raise Failed(f"there is no store {store}: start the desk first")
+    target = os.path.join(folder, "desk.db")
+    for _ in range(READINGS):
+        before = parts(store)
+        copies = [target + path.removeprefix(store) for path in before]
+        for path, copy in zip(before, copies, strict=True):
+            shutil.copyfile(path, copy)
+        read_again = [file_digest(path) for path in before]
+        if parts(store) == before and read_again == [file_digest(copy) for copy in copies]:
+            return target
+        for path in parts(target):
+            os.unlink(path)
+    raise Failed(f"the store is written to without a pause: {store}")
+
+
+def rows(copy: str, question: str) -> list[bytes]:
+    try:
+        with closing(sqlite3.connect(copy)) as base:
+            base.text_factory = bytes
+            return [bytes(row[0]) for row in base.execute(question)]
+    except sqlite3.Error as fault:
+        raise Failed(f"the store is no desk's: {fault}") from None
+
+
+def recorded(copy: str) -> bytes:
+    """The roster that a copy of a store has, byte for byte."""
+    found = rows(copy, "SELECT roster FROM desk WHERE id = 1")
+    if len(found) != 1:
+        raise Failed("the store is no desk's: it has no roster")
+    return found[0]
+
+
+def messages(copy: str) -> bytes:
+    """The messages that a copy of a store has, one a line."""
+    return b"".join(it + b"\n" for it in rows(copy, "SELECT body FROM messages ORDER BY body"))
+
+
+def run(words: Sequence[str], keep: tuple[int, ...] = (), owner: str | None = None) -> str:
+    """What a program prints; with `owner`, as the account that owns that file. (What is typed at
+    the terminal does not end it.)"""
+    account: dict[str, Any] = {}
+    if owner is not None and os.geteuid() == 0:
+        held = os.stat(owner)
+        account = {"user": held.st_uid, "group": held.st_gid, "extra_groups": []}
+    try:
+        ran = subprocess.run(
+            words,
+            stdin=subprocess.DEVNULL,
+            capture_output=True,
+            pass_fds=keep,
+            start_new_session=True,
+            check=False,
+            **account,
+        )
+    except OSError as fault:
+        raise Failed(f"{words[0]}: {fault.strerror}") from None
+    if ran.returncode:
+        said = ran.stderr.decode("utf-8", "replace").strip() or f"status {ran.returncode}"
+        raise Failed(f"{os.path.basename(words[0])} {words[1]}: {said}")
+    return str(ran.stdout.decode("utf-8", "replace"))
+
+
+def audit(program: str, roster: str, base: str, store: str, told: bytes) -> dict[str, Any]:
+    """What desk-audit tells of a store with these messages.
+
+    It is asked about the messages alone, which is quick; what the roster does not admit of them
+    is left out there, so then it is asked about the store."""
+    words = [program, roster, base, "-", "--json"]
+    ran = subprocess.run(words, input=told, capture_output=True, check=False)
+    if ran.returncode == 0 and not ran.stderr:
+        found = json.loads(ran.stdout)
+    else:
+        found = json.loads(run([program, roster, base, store, "--json"]))
+    if not isinstance(found, dict):
+        raise Failed("desk-audit prints something else than is expected")
+    return found

@@ -1,0 +1,47 @@
+#!/bin/bash
+# What systemd would do of desk.service, in a test: stops and starts packaging/desk-serve of the
+# folder that ROOM names. A file `kill` there says before or behind which verb the program that
+# asks is killed (as `before stop`), and a file `fail` which verb fails.
+set -u
+pid=$ROOM/pid log=$ROOM/desk.log
+runs() { [ "$(ps -o stat= -p "$1" | cut -c 1)" != Z ] && kill -0 "$1" 2> /dev/null; }
+killed() {
+    [ "$(cat "$ROOM/kill" 2> /dev/null)" = "$1" ] || return 0
+    rm "$ROOM/kill"
+    kill -KILL "$PPID"
+}
+stop() {
+    [ -e "$pid" ] || return 0
+    kill -TERM "$(cat "$pid")" 2> /dev/null
+    for _ in $(seq 1200); do runs "$(cat "$pid")" || break; sleep 0.05; done
+    rm "$pid"
+}
+start() {
+    stop
+    : > "$log"
+    setsid env -i PATH="$PATH" DESK="$REAL" ROSTER="$ROOM/etc/roster.toml" BASE="$ROOM/etc/base.sudo" \
+        STORE="$ROOM/store/desk.db" ADDR="unix:$ROOM/desk.sock" \
+        "$SERVE" > "$log" 2>&1 < /dev/null &
+    echo $! > "$pid"
+    for _ in $(seq 1200); do
+        grep -q 'listening at' "$log" && return 0
+        runs "$(cat "$pid")" || break
+        sleep 0.05
+    done
+    cat "$log" >&2
+    return 1
+}
+[ "$2" = desk ] || exit 9
+killed "before $1"
+if [ "$(cat "$ROOM/fail" 2> /dev/null)" = "$1" ]; then
+    rm "$ROOM/fail"
+    echo "systemctl: $1 fails" >&2
+    exit 1
+fi
+case $1 in
+    stop) stop ;;
+    start) start || exit 1 ;;
+    *) exit 9 ;;
+esac
+killed "behind $1"
+exit 0

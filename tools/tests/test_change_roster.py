@@ -1,0 +1,206 @@
+"""desk-change-roster, over a desk that is served and a relay that posts meanwhile."""
+
+from __future__ import annotations
+
+import hashlib
+import json
+import random
+import re
+import shutil
+import signal
+import subprocess
+import threading
+import time
+from collections.abc import Iterator
+from pathlib import Path
+
+import pytest
+
+from tests.running import Running, until
+
+# a person is struck out, and another one joins
+WITHOUT_CAROL = ('carol = ["approve-db", "operate-db"]\n', "")
+WITH_KIM = ("[people]\n", '[people]\nkim = ["operate-db"]\n')
+
+
+def digest(path: Path) -> str:
+    return hashlib.sha256(path.read_bytes()).hexdigest()
+
+
+def moment(hours: float) -> str:
+    return time.strftime("%Y%m%d%H%M%SZ", time.gmtime(time.time() + hours * 3600))
+
+
+@pytest.fixture
+def running(tmp_path: Path, desk: str) -> Iterator[Running]:
+    found = Running(tmp_path, desk)
+    yield found
+    found.close()
+
+
+def asked(running: Running, number: int = 7, hours: float = 1.5) -> None:
+    """ann asks for a time around now, and bob approves."""
+    request = {"cmnds": ["/usr/bin/id"], "hosts": ["db1"], "runas": "root", "ceiling": "db-care"}
+    span = {"from": moment(-0.2), "until": moment(hours)}
+    running.post(at=moment(-1), by="ann", kind="request", no=number, **request, **span)
+    running.post(at=moment(-0.5), by="bob", kind="approve", no=number, of="ann")
+
+
+def revoked(running: Running, number: int = 7) -> None:
+    running.post(at=moment(-0.1), by="carol", kind="revoke", no=number, of="ann")
+
+
+def test_a_roster_is_changed(running: Running) -> None:
+    asked(running)
+    before, old = running.messages(), running.roster.read_text()
+    new = running.new(WITH_KIM, ("longest = 7200", "longest = 3600"))
+    ran = running.change(new, given="y\n")
+    assert ran.returncode == 0, ran
+    assert "ENDS\nann 7  as root on db1, ceiling db-care\n" in ran.stdout
+    assert "granted, then lapsed (A7 WindowTooLong)" in ran.stdout, ran.stdout
+    assert running.serves() == digest(new) == digest(running.roster)
+    assert running.messages() == before and not running.pending()
+    assert running.dated() == [new.read_text()]
+    (kept,) = [it for it in (running.folder / "kept").iterdir() if it.is_dir()]
+    assert (kept / "old.toml").read_text() == old and (kept / "desk.db").stat().st_size
+    again = running.change(new, given="")
+    assert again.stdout.endswith("The desk has this roster.\n") and again.returncode == 0, again
+
+
+def test_nobody_says_yes(running: Running) -> None:
+    asked(running)
+    before = running.serves()
+    ran = running.change(running.new(("bob = [", "bob = [] #")), given="\n")
+    assert ran.returncode == 1 and ran.stdout.endswith("[y/N] Nothing was changed.\n"), ran
+    assert re.search(r"approve   \d+Z bob counts no more \(duty\)\n", ran.stdout), ran
+    assert running.serves() == before and running.dated() == []
+    shutil.rmtree(running.folder / "kept")
+    ran = running.change(running.new(('ask = "operate-db"', 'ask = "operate"')), "--yes")
+    assert ran.returncode == 2 and "O5 UnknownName" in ran.stdout, ran
+    assert running.serves() == before and not (running.folder / "kept").exists()
+
+
+def test_rights_come_back(running: Running) -> None:
+    """Who revoked is struck out: it says so, and --yes alone does not do it."""
+    asked(running)
+    revoked(running)
+    new = running.new(WITHOUT_CAROL)
+    ran = running.change(new, "--yes")
+    assert ran.returncode == 1 and "GIVEN BACK" in ran.stdout, ran
+    said = r"revoke    \d+Z carol counts no more \(duty\): carol is not among the new roster's peo"
+    assert re.search(said, ran.stdout), ran.stdout
+    assert "not in force\n  after     2" in ran.stdout, ran.stdout
+    assert running.ask("GET", f"/v1/grants/{moment(0)}") == ""
+    ran = running.change(new, given="y\n")
+    assert "Rights come back. Change the roster and restart the desk?" in ran.stdout, ran
+    assert ran.returncode == 0, ran
+    assert running.ask("GET", f"/v1/grants/{moment(0)}").startswith("ann 7 ")
+    # an earlier roster did not admit it: so it comes back, too
+    shorter = running.new(("longest = 7200", "longest = 3600"))
+    assert running.change(shorter, "--yes").returncode == 0
+    longer = running.new(("longest = 3600", "longest = 7200"))
+    ran = running.change(longer, "--show")
+    assert ran.returncode == 0 and "GIVEN BACK" in ran.stdout and "lapsed (A7 WindowTooLong), then granted" in ran.stdout, ran
+
+
+def test_what_comes_meanwhile_is_looked_at(running: Running) -> None:
+    """carol revokes between the question and the yes: what was shown is another change."""
+    asked(running)
+    new, before = running.new(WITHOUT_CAROL), running.serves()
+    call = subprocess.Popen(
+        running.words(new),
+        env=running.environment,
+        stdin=subprocess.PIPE,
+        stdout=subprocess.PIPE,
+        stderr=subprocess.PIPE,
+        text=True,
+    )
+    assert call.stdout and call.stdin
+    said = ""
+    while not said.endswith("[y/N] "):
+        said += call.stdout.read(1)
+    assert "No grant changes from now on." in said
+    revoked(running)
+    _, fault = call.communicate("y\n", timeout=120)
+    assert call.returncode == 2 and "look again: all is as before" in fault, fault
+    assert running.serves() == before and not running.pending() and running.dated() == []
+    assert len(running.messages()) == 3 and running.ask("GET", f"/v1/grants/{moment(0)}") == ""
+
+
+@pytest.mark.parametrize("step", ["stop", "start", "spoil"])
+def test_a_step_fails(running: Running, step: str) -> None:
+    """Whatever fails, the old roster and the old store are served again."""
+    asked(running)
+    messages, before = running.messages(), running.serves()
+    name = "fail" if step in ("stop", "start") else "kill-rebuild"
+    said = {"rebuild": "fail"}.get(step, step)
+    (running.folder / name).write_text(said)
+    ran = running.change(running.new(WITH_KIM), "--yes")
+    assert ran.returncode == 2 and ran.stderr.endswith(": all is as before\n"), ran
+    assert running.serves() == before == digest(running.roster) and not running.pending()
+    assert running.messages() == messages and running.dated() == []
+    assert running.ask("GET", f"/v1/grants/{moment(0)}").startswith("ann 7 ")
+
+
+KILLS = [(it, "kill") for it in ("behind stop", "before start", "behind start")]
+KILLS += [("behind", "kill-rebuild")]
+
+
+@pytest.mark.parametrize("point", KILLS, ids=lambda it: f"{it[1]} {it[0]}".replace(" ", "-"))
+def test_killed(running: Running, point: tuple[str, str]) -> None:
+    """Killed there, it leaves the old state or the new one, and the next run repairs it."""
+    asked(running)
+    messages, old = running.messages(), running.serves()
+    said, name = point
+    (running.folder / name).write_text(said)
+    new = running.new(WITH_KIM)
+    ran = running.change(new, "--yes")
+    assert ran.returncode == -signal.SIGKILL and running.pending(), ran
+    ran, is_new = running.change(new, given="no\n"), "start" in said
+    which = "new" if is_new else "old"
+    repaired = f"stopped halfway: it is repaired, and the desk has its {which} roster.\n"
+    assert repaired in ran.stdout and ran.returncode == (0 if is_new else 1), ran
+    assert running.serves() == (digest(new) if is_new else old) == digest(running.roster)
+    assert running.messages() == messages and not running.pending()
+    assert running.dated() == ([new.read_text()] if is_new else [])
+
+
+def test_a_relay_posts_meanwhile(running: Running) -> None:
+    """Two changes, one of them killed at any moment: each word that the relay confirmed comes to
+    the desk once, and nobody is asked again."""
+    running.relay("post", "--every", "0.1")
+    confirmed: list[str] = []
+    is_over = threading.Event()
+
+    def people() -> None:
+        while not is_over.is_set():
+            line = "ask db-care --on db1 --as root --for 1h --yes --again /usr/bin/id"
+            ran = running.says("ann", line)
+            assert ran.returncode in (0, 3), ran
+            confirmed.append(re.findall(r"Kept as (ann [0-9]+)\.", ran.stdout)[0])
+
+    thread = threading.Thread(target=people)
+    thread.start()
+    chance = random.Random(7)
+    try:
+        for number in range(2):
+            new = running.new(("longest = 7200", f"longest = 7200 # {number}\n"))
+            call = subprocess.Popen(
+                running.words(new, "--yes"), env=running.environment, stdout=subprocess.DEVNULL
+            )
+            if number % 2:
+                time.sleep(chance.uniform(0.5, 6))
+                call.kill()
+            call.wait(timeout=120)
+            if number % 2:
+                assert running.change(new, "--yes").returncode == 0
+            assert running.serves() == digest(new)
+    finally:
+        is_over.set()
+        thread.join(timeout=120)
+    until(lambda: all(state != "kept" for _, state in running.kept()), "it is still kept")
+    there = [json.loads(it) for it in running.messages()]
+    names = [f"{it['by']} {it['no']}" for it in there]
+    assert len(confirmed) > 5 and sorted(set(confirmed)) == sorted(confirmed)
+    assert sorted(names) == sorted(confirmed) and not running.pending()
+    assert {state for _, state in running.kept()} == {"acked"}
