@@ -245,7 +245,7 @@ FALSE: list[tuple[dict[str, object], str]] = [
     ({"aud": ["desk", "other"], "azp": "other"}, "azp"),
     ({"aud": None}, "aud"),
     ({"exp": LONG_AGO}, "exp"),
-    ({"iat": LONG_AGO}, "iat"),
+    ({"iat": int(time.time()) - 300}, "iat"),
     ({"iat": None}, "iat"),
     ({"iss": "https://other.example"}, "issuer"),
     ({"nonce": "of another way here"}, "nonce"),
@@ -362,3 +362,17 @@ def test_a_session_ends(fronted: Fronted, minutes: int, rounds: int) -> None:
         clock.write_text(f"+{(rounds + 1) * minutes + 1}m")
         last = person.get(reply.url, timeout=60, allow_redirects=False)
         assert last.status_code == 302 and last.headers["Location"].startswith(found[0].issuer)
+
+
+def test_a_restart_ends_sessions(fronted: Fronted) -> None:
+    provider = FalseProvider(fronted.pair)
+    apache = fronted.apache(f"{provider.issuer}/.well-known/openid-configuration", provider.issuer)
+    try:
+        with apache.running({}):
+            person, reply = came((provider, apache))
+            assert "You are <strong>ann</strong>" in person.get(reply.url, timeout=60).text
+        with apache.running({}):
+            last = person.get(reply.url, timeout=60, allow_redirects=False)
+            assert last.status_code == 302 and last.headers["Location"].startswith(provider.issuer)
+    finally:
+        provider.stop()
