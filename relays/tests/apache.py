@@ -133,6 +133,8 @@ class Apache:
         config = self.folder / "apache.conf"
         config.write_text(head + self.text)
         words = [APACHE, "-D", "FOREGROUND", "-f", str(config)]
+        # (an Apache that does not start would be waited for)
+        subprocess.run([APACHE, "-t", "-f", str(config)], check=True, env=os.environ | variables)
         with subprocess.Popen(words, env=os.environ | variables) as server:
             try:
                 wait_for_port(self.port)

@@ -1,6 +1,7 @@
 # Types the lines of docs/RELAYS.md, 'Sign-on', over Debian's Apache with a KDC of its own. It is
 # part of followed.sh, and takes the port of its nginx for a while.
 kill "$(cat /run/nginx.pid)"
+while [ -e /run/nginx.pid ]; do sleep 0.1; done
 cat > /etc/krb5.conf <<'K'
 [libdefaults]
 default_realm = EXAMPLE.COM
@@ -37,5 +38,5 @@ until_answers -k https://127.0.0.1:8443/
 # (there is no provider here)
 signed_on -o /dev/null -w 'without its provider: %{http_code}\n'
 apache2ctl stop
-until ! kill -0 "$(cat /run/apache2/apache2.pid 2> /dev/null)" 2> /dev/null; do sleep 0.1; done
+while [ -e /run/apache2/apache2.pid ]; do sleep 0.1; done
 nginx

@@ -1,6 +1,6 @@
 #!/bin/sh
 # What systemd would do of a unit, in a test: starts its ExecStart as its User and Group, with its
-# RuntimeDirectory.
+# RuntimeDirectory; restarts Apache; reloads nginx.
 set -eu
 case $1 in
     enable)
@@ -17,6 +17,10 @@ case $1 in
             $line > "/tmp/$3.log" 2>&1 < /dev/null &
         echo $! > "/tmp/$3.pid"
         ;;
-    restart) setsid "${2}ctl" restart < /dev/null > /dev/null 2>&1 ;;
+    restart)
+        pid=$(cat "/run/$2/$2.pid" 2> /dev/null) && kill "$pid"
+        while [ -e "/run/$2/$2.pid" ]; do sleep 0.1; done
+        setsid "${2}ctl" start < /dev/null > /dev/null
+        ;;
     reload) setsid "$2" < /dev/null > /dev/null 2>&1 & ;;
 esac

@@ -5,10 +5,12 @@ from __future__ import annotations
 
 import os
 import re
+import socket
+import ssl
 import subprocess
 import time
 from collections.abc import Callable, Iterator
-from contextlib import contextmanager
+from contextlib import contextmanager, suppress
 from dataclasses import dataclass
 from pathlib import Path
 from urllib.parse import parse_qs, urlencode, urlsplit
@@ -245,7 +247,7 @@ FALSE: list[tuple[dict[str, object], str]] = [
     ({"aud": ["desk", "other"], "azp": "other"}, "azp"),
     ({"aud": None}, "aud"),
     ({"exp": LONG_AGO}, "exp"),
-    ({"iat": LONG_AGO}, "iat"),
+    ({"iat": int(time.time()) - 300}, "iat"),
     ({"iat": None}, "iat"),
     ({"iss": "https://other.example"}, "issuer"),
     ({"nonce": "of another way here"}, "nonce"),
@@ -347,6 +349,53 @@ def test_another_issuer(fronted: Fronted, kind: str) -> None:
         assert "asks you to sign on as a person of" in reply.text
 
 
+# heads, and what comes after them, by which a name could get past the front
+SMUGGLED = b"GET / HTTP/1.1\r\nHost: desk\r\nConnection: close\r\nX-Desk-Person: bob\r\n\r\n"
+ODD: dict[str, tuple[bytes, bytes]] = {
+    "a blank before the colon": (b"X-Desk-Person : bob\r\n", b""),
+    "a tab before the colon": (b"X-Desk-Person\t: bob\r\n", b""),
+    "a folded value": (b"X-Desk-Person:\r\n bob\r\n", b""),
+    "a folded field": (b"A: b\r\n X-Desk-Person: bob\r\n", b""),
+    "a line that ends with LF": (b"A: b\nX-Desk-Person: bob\r\n", b""),
+    "a line that ends with CR": (b"A: b\rX-Desk-Person: bob\r\n", b""),
+    "a NUL": (b"A: \0\r\nX-Desk-Person: bob\0\r\n", b""),
+    "underscores": (b"X_Desk_Person: bob\r\nX_Desk-Person: bob\r\n", b""),
+    "for the front alone": (b"Connection: X-Desk-Person\r\nX_Desk_Person: bob\r\n", b""),
+    "a trailer": (b"Transfer-Encoding: chunked\r\n", b"0\r\nX-Desk-Person: bob\r\n\r\n"),
+    "two lengths": (
+        b"Content-Length: 5\r\nTransfer-Encoding: chunked\r\n",
+        b"0\r\n\r\n" + SMUGGLED,
+    ),
+    "a second request": (b"Content-Length: 0\r\n", SMUGGLED),
+}
+
+
+def said_to(apache: Apache, given: bytes) -> bytes:
+    """What comes back for these bytes, until the front ends the connection or says no more."""
+    whole, client = b"", ssl.create_default_context(cafile=str(apache.authority))
+    with suppress(OSError), socket.create_connection(("127.0.0.1", apache.port)) as plain:
+        with client.wrap_socket(plain, server_hostname="127.0.0.1") as peer:
+            peer.settimeout(60)
+            peer.sendall(given)
+            while piece := peer.recv(65536):
+                whole += piece
+    return whole
+
+
+@pytest.mark.parametrize("kind", ODD)
+def test_an_odd_request(false: tuple[FalseProvider, Apache], kind: str) -> None:
+    person, _ = came(false)
+    cookies = "; ".join(f"{it.name}={it.value}" for it in person.cookies).encode()
+    head = b"GET / HTTP/1.1\r\nHost: 127.0.0.1:%d\r\nCookie: %s\r\n" % (false[1].port, cookies)
+    more, body = ODD[kind]
+    last = b"" if kind == "a second request" else b"Connection: close\r\n"
+    plain = said_to(false[1], head + b"Connection: close\r\n\r\n")
+    assert b"You are <strong>ann</strong>" in plain
+    reply = said_to(false[1], head + more + last + b"\r\n" + body)
+    assert reply.startswith(b"HTTP/1.1 ") and b"<strong>bob" not in reply
+    assert reply.count(b"You are <strong>") <= 1
+
+
 @pytest.mark.parametrize(("minutes", "rounds"), [(20, 0), (10, 5)])
 def test_a_session_ends(fronted: Fronted, minutes: int, rounds: int) -> None:
     """After a quarter of an hour in which nothing is asked, and after an hour of asking."""
@@ -362,3 +411,17 @@ def test_a_session_ends(fronted: Fronted, minutes: int, rounds: int) -> None:
         clock.write_text(f"+{(rounds + 1) * minutes + 1}m")
         last = person.get(reply.url, timeout=60, allow_redirects=False)
         assert last.status_code == 302 and last.headers["Location"].startswith(found[0].issuer)
+
+
+def test_a_restart_ends_sessions(fronted: Fronted) -> None:
+    provider = FalseProvider(fronted.pair)
+    apache = fronted.apache(f"{provider.issuer}/.well-known/openid-configuration", provider.issuer)
+    try:
+        with apache.running({}):
+            person, reply = came((provider, apache))
+            assert "You are <strong>ann</strong>" in person.get(reply.url, timeout=60).text
+        with apache.running({}):
+            last = person.get(reply.url, timeout=60, allow_redirects=False)
+            assert last.status_code == 302 and last.headers["Location"].startswith(provider.issuer)
+    finally:
+        provider.stop()

@@ -110,6 +110,15 @@ def test_a_header_from_beside_the_front(
         assert status == 403 and "You are" not in text
 
 
+@pytest.mark.parametrize("path", ["/", "/history", "/verdict?kind=approve&of=ann&no=1", "/send"])
+def test_a_person_whom_the_roster_does_not_have(fronted: tuple[Site, Front], path: str) -> None:
+    site, _ = fronted
+    given = {"X-Desk-Person": "mallory", "X-Desk-Front": SECRET}
+    status, text = site.ask_page(path, given)
+    assert status == 403 and "The roster has nobody whose name is mallory" in text
+    assert "/usr/bin/id" not in text and "db-care" not in text
+
+
 def test_the_header_twice(fronted: tuple[Site, Front]) -> None:
     site, _ = fronted
     head = f"GET / HTTP/1.1\r\nHost: a\r\nX-Desk-Front: {SECRET}\r\nConnection: close\r\n"

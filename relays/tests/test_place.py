@@ -128,5 +128,8 @@ def test_the_examples_name_one_socket(tmp_path: Path) -> None:
     front = (relays / "front.example.conf").read_text()
     assert page["listen"] == "unix:/run/desk-relay/page.sock"
     assert f"proxy_pass http://{page['listen']};" in front
+    for kind in ("gssapi", "openidc"):
+        apache = (relays / f"apache-{kind}.example.conf").read_text()
+        assert f'ProxyPass "/" "{page["listen"]}|http://desk/"' in apache
     assert "RuntimeDirectory=desk-relay\n" in unit and "Group=desk-front\n" in unit
     assert read_config(str(relays / "relay.example.toml")).page_place() == page["listen"][5:]
