@@ -1,16 +1,18 @@
 -- What is known of a desk's messages, as they grow.
-use Rattle.std.proofs.Common.{◌≡◌, List, [], ◌∷◌, ◌++◌, Option, Some, None, refl, sym, subst, inl, inr}
+use Rattle.std.proofs.Common.{◌≡◌, ◌∙◌, ℕ, List, [], ◌∷◌, ◌++◌, Option, Some, None, refl, sym, subst, inl, inr}
 use Rattle.std.specs.List.{Contains}
 use Rattle.std.specs.Option.{IfSome}
 use Rattle.std.proofs.lemmas.List.Elements.{Contains-append_left, Contains-push, Contains-push_cases}
 use Rattle.messages.specs.declared.message.Message.{Message}
 use Rattle.desk_tables.specs.Sets.{IsNothing, IsWith, Lists, SameSet}
-use Rattle.outcomes.specs.declared.gathering.Gathered.{Gathered}
-use Rattle.outcomes.specs.Gathered.{AreGathered}
 use Rattle.outcomes.proofs.Membership.{no_member}
+use Rattle.desk.specs.Count.{IsCount}
+use Rattle.desk.proofs.CountLemmas.{count_of_set}
+use Rattle.desk.proofs.QueryLemmas.{same_listed}
 use Rattle.desk.specs.declared.opening.Origin.{Origin}
 use Rattle.desk.specs.declared.opening.Origin.TheVariants.{Made}
-use Rattle.desk.specs.private.Known.{IsKnown, IsKnownAtFirst}
+use Rattle.desk.specs.declared.loading.Known.{Known}
+use Rattle.desk.specs.private.Known.{IsKnown, IsKnownAtFirst, IsKnownIn, IsKnownOfUp}
 
 pub lists_still : (S T : Message → Type 0) (list : List Message) → SameSet S T → Lists S list → Lists T list
 lists_still S T list same lists n = (λ held. (lists n).0 ((same n).1 held), λ among. (same n).0 ((lists n).1 among))
@@ -33,25 +35,62 @@ with_lists S T m list grown lists = λ n. (there n, back n)
         ]
 
 -- the same is held
-pub known_still : (Up Later : Type 0) (S T : Message → Type 0) (o : Option Gathered) → IsKnown Up S o → (Later → Up) → (Later → SameSet S T) → IsKnown Later T o
+pub known_still : (Up Later : Type 0) (S T : Message → Type 0) (o : Option Known) → IsKnown Up S o → (Later → Up) → (Later → SameSet S T) → IsKnown Later T o
 known_still Up Later S T None known was same = tt
 known_still Up Later S T (Some g) known was same = λ later.
     let k = known (was later) in (k.0, lists_still S T k.0 (same later) k.1, k.2)
 
 -- a message more is held
-pub known_more : (Up Later : Type 0) (S T : Message → Type 0) (m : Message) (old new : Option Gathered)
+pub known_more : (Up Later : Type 0) (S T : Message → Type 0) (m : Message) (old new : Option Known)
     → IsKnown Up S old → (Later → Up) → (Later → IsWith S m T)
-    → ((set : List Message) → IfSome old (AreGathered set) → IfSome new (AreGathered (set ++ m ∷ []))) → (old ≡ None → new ≡ None) → IsKnown Later T new
+    → ((set : List Message) → IfSome old (IsKnownIn set) → IfSome new (IsKnownIn (set ++ m ∷ []))) → (old ≡ None → new ≡ None) → IsKnown Later T new
 known_more Up Later S T m None None known was grown more nothing = tt
 known_more Up Later S T m None (Some g) known was grown more nothing =
-    let wrong : ◌≡◌ {A = Option Gathered} (Some g) None = nothing refl in absurd cc
+    let wrong : ◌≡◌ {A = Option Known} (Some g) None = nothing refl in absurd cc
 known_more Up Later S T m (Some g) None known was grown more nothing = tt
 known_more Up Later S T m (Some g) (Some h) known was grown more nothing = λ later.
     let k = known (was later) in (k.0 ++ m ∷ [], with_lists S T m k.0 (grown later) k.1, more k.0 k.2)
 
 -- what is known at first is known of what is held: a desk that was made holds nothing
-pub at_first : (Up : Type 0) (S : Message → Type 0) (origin : Origin) (o : Option Gathered)
+pub at_first : (Up : Type 0) (S : Message → Type 0) (origin : Origin) (o : Option Known)
     → IsKnownAtFirst origin o → (Up → origin ≡ Made → IsNothing S) → IsKnown Up S o
 at_first Up S origin None first nothing = tt
 at_first Up S origin (Some g) first nothing = λ up.
     ([], λ n. (λ held. absurd (nothing up first.0 n held), λ among. absurd (no_member n among)), first.1)
+
+-- what is held is the same, and so is its set
+pub known_with : (Up : Type 0) (S : Message → Type 0) (old new : Option Known) → IsKnown Up S old
+    → ((set : List Message) → Lists S set → Up → IfSome old (IsKnownIn set) → IfSome new (IsKnownIn set))
+    → (old ≡ None → new ≡ None) → IsKnown Up S new
+known_with Up S None None known more nothing = tt
+known_with Up S None (Some k) known more nothing =
+    let wrong : ◌≡◌ {A = Option Known} (Some k) None = nothing refl in absurd cc
+known_with Up S (Some k) None known more nothing = tt
+known_with Up S (Some k) (Some l) known more nothing = λ up.
+    let it = known up in (it.0, it.1, more it.0 it.1 up it.2)
+
+-- and it is known only where it was
+pub known_of_up_with : (Clean Up : Type 0) (old new : Option Known) → IsKnownOfUp Clean Up old → (old ≡ None → new ≡ None) → IsKnownOfUp Clean Up new
+known_of_up_with Clean Up None None live nothing = tt
+known_of_up_with Clean Up None (Some k) live nothing =
+    let wrong : ◌≡◌ {A = Option Known} (Some k) None = nothing refl in absurd cc
+known_of_up_with Clean Up (Some k) None live nothing = tt
+known_of_up_with Clean Up (Some k) (Some l) live nothing = live
+
+-- how many messages are held, if something is known of them and they were counted
+pub count_known : (Up : Type 0) (S : Message → Type 0) (known : Option Known) (count : Option ℕ) → IsKnown Up S known
+    → ((set : List Message) → IfSome known (IsKnownIn set) → IfSome count (IsCount set)) → (known ≡ None → count ≡ None)
+    → Up → (set : List Message) → Lists S set → IfSome count (IsCount set)
+count_known Up S known None is counted nothing up set lists = tt
+count_known Up S None (Some n) is counted nothing up set lists =
+    let wrong : ◌≡◌ {A = Option ℕ} (Some n) None = nothing refl in absurd cc
+count_known Up S (Some k) (Some n) is counted nothing up set lists =
+    let it = is up in
+    count_of_set it.0 set n (same_listed S it.0 set it.1 lists) (counted it.0 it.2)
+
+-- and then the keeper is up
+pub up_where_counted : (Clean Up : Type 0) (known : Option Known) (count : Option ℕ) (n : ℕ) → IsKnownOfUp Clean Up known
+    → (known ≡ None → count ≡ None) → count ≡ Some n → Clean → Up
+up_where_counted Clean Up None count n live nothing is =
+    let wrong : ◌≡◌ {A = Option ℕ} (Some n) None = sym is ∙ nothing refl in absurd cc
+up_where_counted Clean Up (Some k) count n live nothing is = live

@@ -5,7 +5,6 @@ use Rattle.std.proofs.lemmas.List.Elements.{Contains-append_left, Contains-push}
 use Rattle.sudo_words.specs.declared.cmnd.Cmnd.{Cmnd}
 use Rattle.messages.specs.declared.message.Message.{Message}
 use Rattle.roster.specs.Fields.{RosterFields}
-use Rattle.outcomes.specs.declared.gathering.Gathered.{Gathered}
 use Rattle.desk_tables.specs.Sets.{SameSet, With}
 use Rattle.desk_store.specs.Keeping.{IsSomeDesk}
 use Rattle.desk_store.specs.Left.{Left, AddsOnly, IsDeskOf, LeavesOnly}
@@ -22,6 +21,7 @@ use Rattle.desk.specs.declared.ack.Ack.{Ack}
 use Rattle.desk.specs.declared.refusal.Refusal.{Refusal}
 use Rattle.desk.specs.declared.refusal.Refusal.TheVariants.{UnknownHost}
 use Rattle.desk.specs.Serving.{OnlyAsks}
+use Rattle.desk.specs.declared.loading.Known.{Known}
 use Rattle.desk.specs.private.Known.{IsKnownOfUp}
 use Rattle.desk.proofs.DeliveryLemmas.{among_before, among_cases, among_last}
 use Rattle.desk.proofs.FailureLemmas.{wanting_before, wanting_now}
@@ -56,7 +56,7 @@ is_desk f text is = subst IsSomeDesk (sym is) tt
 pub is_old_desk : (f : Found) → f ≡ found.OldDesk → IsSomeDesk f
 is_old_desk f is = subst IsSomeDesk (sym is) tt
 
-pub known_of_up : (Clean Up : Type 0) (o : Option Gathered) → (Clean → Up) → IsKnownOfUp Clean Up o
+pub known_of_up : (Clean Up : Type 0) (o : Option Known) → (Clean → Up) → IsKnownOfUp Clean Up o
 known_of_up Clean Up None live = tt
 known_of_up Clean Up (Some g) live = live
 

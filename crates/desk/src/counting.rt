@@ -12,11 +12,12 @@ ghost use Rattle.desk.specs.Serving.{OnlyAsks, ServesAnswer};
 ghost use Rattle.desk.specs.Texts.{AreTexts};
 
 use crate::desk::Desk;
+use crate::loading::{count_of, with_count};
 use crate::refusal::Refusal;
 use desk_store::Keeper;
 
 impl<K: Keeper> Desk<K> {
-    /// How many messages the desk holds.
+    /// How many messages the desk holds. They are counted once, and again after a delivery.
     pub fn count(&mut self) -> Result<usize, Refusal>
         ensures count { (set : List AnyMessage) → K.is_up self.new.keeper
             → Lists (K.holds self.old.keeper) set → IfOk result (IsCount set) }
@@ -28,10 +29,13 @@ impl<K: Keeper> Desk<K> {
         ensures served { ServesAnswer K.Keeper self.old.keeper self.new.keeper result }
         ensures asks { OnlyAsks K.Keeper self.old.keeper self.new.keeper result }
     {
-        match self.texts() {
-            Ok(texts) => Ok(texts.len()),
-            Err(refusal) => Err(refusal),
+        if let Some(count) = count_of(&self.known) {
+            return Ok(count);
         }
+        let texts = self.texts()?;
+        let count = texts.len();
+        self.known = with_count(self.known.take(), count);
+        Ok(count)
     }
 }
 

@@ -18,13 +18,13 @@ ghost use Rattle.desk.specs.declared.refusal.Refusal.TheVariants as refusal;
 
 use crate::ack::Ack;
 use crate::delivery::{admitted, text_of};
-use crate::loading::with_message;
+use crate::loading::{Known, with_message};
 use crate::opening::{find_or_make, known_at_first};
 use crate::refusal::Refusal;
 use desk_store::Keeper;
 use grants::fits_base;
 use messages::MessageReader;
-use outcomes::{Base, Gathered};
+use outcomes::Base;
 use roster::Roster;
 use std::alloc::Global;
 use std::marker::Model;
@@ -41,7 +41,7 @@ pub struct Desk<K: Keeper> {
     pub(crate) roster: Roster,
     pub(crate) base: Base,
     pub(crate) keeper: K,
-    pub(crate) known: Option<Gathered>,
+    pub(crate) known: Option<Known>,
     pub(crate) reader: MessageReader,
 }
 

@@ -1,10 +1,10 @@
 //! What is known of a desk's messages, kept from one call to the next.
 
-ghost use Rattle.std.specs.Prelude.{◌≡◌, List, [], ◌∷◌, ◌++◌, IfErr};
+ghost use Rattle.std.specs.Prelude.{◌≡◌, ℕ, List, [], ◌∷◌, ◌++◌, IfErr};
 ghost use Rattle.std.specs.Prelude.{IfOk, OnOk, IsErr, IfSome, Err, None, Some};
 ghost use Rattle.messages.specs.declared.message.Message.{Message as AnyMessage};
-ghost use Rattle.outcomes.specs.Gathered.{AreGathered};
-ghost use Rattle.desk.specs.private.Known.{IsKnown, IsKnownOfUp};
+ghost use Rattle.desk.specs.Count.{IsCount};
+ghost use Rattle.desk.specs.private.Known.{IsKnown, IsKnownIn, IsKnownOfUp};
 ghost use Rattle.desk.specs.Refusals.{IsWant};
 ghost use Rattle.desk.specs.declared.refusal.Refusal.TheVariants as refusal;
 ghost use Rattle.desk_store.specs.Left.{AddsOnly, IsDeskOf, LeavesOnly};
@@ -16,11 +16,20 @@ use desk_store::{Keeper, KeeperError};
 use messages::Message;
 use outcomes::Gathered;
 
+/// What is known of a set of messages.
+#[derive(Drop)]
+pub(crate) struct Known {
+    /// What its messages come to.
+    pub(crate) gathered: Gathered,
+    /// How many they are, if that was counted.
+    pub(crate) count: Option<usize>,
+}
+
 /// The keeper's messages. The desk stays as it is, and so does what a crash leaves of it. What is
 /// known of the messages stays known; it is an argument for the proof alone.
 pub(crate) fn listed<K: Keeper>(
     keeper: &mut K,
-    _known: &Option<Gathered>,
+    _known: &Option<Known>,
 ) -> Result<Vec<Message>, KeeperError>
     requires desk { K.is_up keeper.old → K.is_desk keeper.old }
     requires known { IsKnown (K.is_up keeper.old) (K.holds keeper.old) _known.now }
@@ -43,10 +52,7 @@ pub(crate) fn listed<K: Keeper>(
 
 /// What is known of the messages: what was known already, or else the keeper gathers it. The desk
 /// stays as it is, and so does what a crash leaves of it.
-pub(crate) fn known_of<K: Keeper>(
-    known: Option<Gathered>,
-    keeper: &mut K,
-) -> Result<Gathered, Refusal>
+pub(crate) fn known_of<K: Keeper>(known: Option<Known>, keeper: &mut K) -> Result<Known, Refusal>
     requires desk { K.is_up keeper.old → K.is_desk keeper.old }
     requires known { IsKnown (K.is_up keeper.old) (K.holds keeper.old) known }
     requires live { IsKnownOfUp (K.is_clean keeper.old) (K.is_up keeper.old) known }
@@ -69,22 +75,51 @@ pub(crate) fn known_of<K: Keeper>(
         (IsDeskOf (K.roster keeper.new) (K.holds keeper.new)) }
 {
     match known {
-        Some(gathered) => Ok(gathered),
-        None => Ok(keeper.gather()?),
+        Some(known) => Ok(known),
+        None => Ok(Known {
+            gathered: keeper.gather()?,
+            count: None,
+        }),
     }
 }
 
-/// What is known with one message more; nothing, where memory runs out.
-pub(crate) fn with_message(known: Option<Gathered>, message: &Message) -> Option<Gathered>
-    ensures more { (set : List AnyMessage) → IfSome known (AreGathered set)
-        → IfSome result (AreGathered (set ++ message.now ∷ [])) }
+/// What is known with one message more, which is not counted; nothing, where memory runs out.
+pub(crate) fn with_message(known: Option<Known>, message: &Message) -> Option<Known>
+    ensures more { (set : List AnyMessage) → IfSome known (IsKnownIn set)
+        → IfSome result (IsKnownIn (set ++ message.now ∷ [])) }
     ensures nothing { known ≡ None → result ≡ None }
 {
-    let Some(mut gathered) = known else {
+    let Some(mut known) = known else {
         return None;
     };
-    match gathered.take(message) {
-        Ok(()) => Some(gathered),
+    known.count = None;
+    match known.gathered.take(message) {
+        Ok(()) => Some(known),
         Err(_) => None,
+    }
+}
+
+/// What is known, with the count of the messages.
+pub(crate) fn with_count(known: Option<Known>, count: usize) -> Option<Known>
+    ensures counted { (set : List AnyMessage) → IsCount set count → IfSome known (IsKnownIn set)
+        → IfSome result (IsKnownIn set) }
+    ensures nothing { known ≡ None → result ≡ None }
+{
+    let Some(mut known) = known else {
+        return None;
+    };
+    known.count = Some(count);
+    Some(known)
+}
+
+/// How many messages there are, if they were counted.
+pub(crate) fn count_of(known: &Option<Known>) -> Option<usize>
+    ensures counted { (set : List AnyMessage) → IfSome known.now (IsKnownIn set)
+        → IfSome result (IsCount set) }
+    ensures nothing { known.now ≡ None → result ≡ None }
+{
+    match known {
+        Some(known) => known.count,
+        None => None,
     }
 }

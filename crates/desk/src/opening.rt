@@ -11,6 +11,7 @@ ghost use Rattle.desk.specs.Serving.{ServesAnswer};
 ghost use Rattle.desk.specs.declared.opening.Origin.TheVariants as origins;
 ghost use Rattle.desk.specs.declared.refusal.Refusal.TheVariants as refusal;
 
+use crate::loading::Known;
 use crate::refusal::Refusal;
 use desk_store::{Found, Keeper};
 use outcomes::Gathered;
@@ -27,11 +28,14 @@ pub(crate) enum Origin {
 
 /// What is known of a desk's messages at first: a desk that was made has none, and for one that was
 /// found it is gathered when it is asked for.
-pub(crate) fn known_at_first(alloc: Global, origin: Origin) -> Option<Gathered>
+pub(crate) fn known_at_first(alloc: Global, origin: Origin) -> Option<Known>
     ensures { IsKnownAtFirst origin result }
 {
     match origin {
-        Origin::Made => Some(Gathered::new(alloc)),
+        Origin::Made => Some(Known {
+            gathered: Gathered::new(alloc),
+            count: Some(0),
+        }),
         Origin::Found => None,
     }
 }

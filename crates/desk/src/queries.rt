@@ -39,7 +39,7 @@ impl<K: Keeper> Desk<K> {
         ensures asks { OnlyAsks K.Keeper self.old.keeper self.new.keeper result }
     {
         let known = known_of(self.known.take(), &mut self.keeper)?;
-        let status = status_in(&self.roster, &known, name);
+        let status = status_in(&self.roster, &known.gathered, name);
         self.known = Some(known);
         Ok(status)
     }
@@ -57,7 +57,7 @@ impl<K: Keeper> Desk<K> {
         ensures asks { OnlyAsks K.Keeper self.old.keeper self.new.keeper result }
     {
         let known = known_of(self.known.take(), &mut self.keeper)?;
-        let list = live_in(self.alloc, &self.roster, &known, at);
+        let list = live_in(self.alloc, &self.roster, &known.gathered, at);
         self.known = Some(known);
         Ok(list?)
     }
@@ -75,7 +75,7 @@ impl<K: Keeper> Desk<K> {
         ensures asks { OnlyAsks K.Keeper self.old.keeper self.new.keeper result }
     {
         let known = known_of(self.known.take(), &mut self.keeper)?;
-        let texts = parked_in(self.alloc, &known);
+        let texts = parked_in(self.alloc, &known.gathered);
         self.known = Some(known);
         Ok(texts?)
     }
@@ -96,7 +96,7 @@ impl<K: Keeper> Desk<K> {
         ensures asks { OnlyAsks K.Keeper self.old.keeper self.new.keeper result }
     {
         let known = known_of(self.known.take(), &mut self.keeper)?;
-        let list = summaries_in(self.alloc, &known);
+        let list = summaries_in(self.alloc, &known.gathered);
         self.known = Some(known);
         Ok(list?)
     }
@@ -118,7 +118,7 @@ impl<K: Keeper> Desk<K> {
         ensures asks { OnlyAsks K.Keeper self.old.keeper self.new.keeper result }
     {
         let known = known_of(self.known.take(), &mut self.keeper)?;
-        let held = holdings_in(self.alloc, &known);
+        let held = holdings_in(self.alloc, &known.gathered);
         self.known = Some(known);
         Ok(held?)
     }
@@ -226,7 +226,7 @@ impl<K: Keeper> Desk<K> {
             self.alloc,
             &self.roster,
             &mut self.base,
-            &known,
+            &known.gathered,
             host,
             after,
         );

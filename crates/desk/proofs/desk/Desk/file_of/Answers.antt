@@ -24,7 +24,7 @@ returns-in_err-file-clause-few g c =
     → length (lines_left c.args.after ls) ≤ 8_192 → (p.0 ≡ UnknownHost) ⊎ IsWant p.0 = λ set ls up lists are few.
     let same = same_listed (K.holds old) (known up).0 set (known up).1 lists in
     let there = lines_alike f set (known up).0 (turned f (known up).0 set (alike_sets f (known up).0 set same)) host ls are in
-    let memory = c.in_err-file.ensures.few (known up).0 ls (known up).2 there few in
+    let memory = c.in_err-file.ensures.few (known up).0 ls (known up).2.0 there few in
     rw (p.2, memory) (inr (inl refl)) in
     rw (← c.self.view_is, p.1) answer
 
@@ -40,7 +40,7 @@ returns-clause-file g c =
     let answer : (set : List Message) → K.is_up new → Lists (K.holds old) set → IsFileLeft f c.self.inside.base set c.args.host.now after text = λ set up lists.
     let same = same_listed (K.holds old) (known up).0 set (known up).1 lists in
     left_alike f (known up).0 set (alike_sets f (known up).0 set same) c.self.inside.base c.args.host.now after text
-    (c.in_ok-file.ensures.file (known up).0 (known up).2) in
+    (c.in_ok-file.ensures.file (known up).0 (known up).2.0) in
     rw (← c.self.view_is) answer
 
 pub returns-clause-many : goal.returns-clause-many
@@ -54,6 +54,6 @@ returns-clause-many g c =
     let answer : (set : List Message) (ls : List Line) → K.is_up new → Lists (K.holds old) set
     → AreLines f set host ls → 8_192 < length (lines_left c.args.after ls) → ⊥ = λ set ls up lists are past.
     let same = same_listed (K.holds old) (known up).0 set (known up).1 lists in
-    c.in_ok-file.ensures.many (known up).0 ls (known up).2
+    c.in_ok-file.ensures.many (known up).0 ls (known up).2.0
     (lines_alike f set (known up).0 (turned f (known up).0 set (alike_sets f (known up).0 set same)) host ls are) past in
     rw (← c.self.view_is) answer

@@ -18,7 +18,7 @@ returns-clause-summaries g c =
     let list = c.in_ok-held.field-0.summaries.items in
     let answer : (set : List Message) → K.is_up new → Lists (K.holds old) set → AreSummaries set list = λ set up lists.
     let same = same_listed (K.holds old) (known up).0 set (known up).1 lists in
-    summaries_of_set (known up).0 set list same (c.in_ok-held.ensures.summaries (known up).0 (known up).2) in
+    summaries_of_set (known up).0 set list same (c.in_ok-held.ensures.summaries (known up).0 (known up).2.0) in
     rw (← c.self.view_is) answer
 
 pub returns-clause-parked : goal.returns-clause-parked
@@ -30,5 +30,5 @@ returns-clause-parked g c =
     let texts = map string_bytes c.in_ok-held.field-0.parked.items in
     let answer : (set : List Message) → K.is_up new → Lists (K.holds old) set → AreParked set texts = λ set up lists.
     let same = same_listed (K.holds old) (known up).0 set (known up).1 lists in
-    parked_of_set (known up).0 set texts same (c.in_ok-held.ensures.parked (known up).0 (known up).2) in
+    parked_of_set (known up).0 set texts same (c.in_ok-held.ensures.parked (known up).0 (known up).2.0) in
     rw (← c.self.view_is) answer

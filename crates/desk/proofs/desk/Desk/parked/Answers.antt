@@ -15,5 +15,5 @@ returns-clause-parked g c =
     let known = c.in_ok-known.ensures.known in
     let answer : (set : List Message) → K.is_up new → Lists (K.holds old) set → AreParked set (map string_bytes c.in_ok-texts.field-0.items) = λ set up lists.
     let same = same_listed (K.holds old) (known up).0 set (known up).1 lists in
-    parked_of_set (known up).0 set (map string_bytes c.in_ok-texts.field-0.items) same (c.in_ok-texts.ensures (known up).0 (known up).2) in
+    parked_of_set (known up).0 set (map string_bytes c.in_ok-texts.field-0.items) same (c.in_ok-texts.ensures (known up).0 (known up).2.0) in
     rw (← c.self.view_is) answer

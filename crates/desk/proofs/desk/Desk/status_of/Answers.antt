@@ -16,5 +16,5 @@ returns-clause-status g c =
     let answer : (set : List Message) → K.is_up new → Lists (K.holds old) set → ComesTo f set c.args.name.now c.status_in-status.result = λ set up lists.
     let same = same_listed (K.holds old) (known up).0 set (known up).1 lists in
     outcome_alike f (known up).0 set (alike_sets f (known up).0 set same) c.args.name.now c.status_in-status.result
-    (c.status_in-status.ensures (known up).0 (known up).2) in
+    (c.status_in-status.ensures (known up).0 (known up).2.0) in
     rw (← c.self.view_is) answer

@@ -14,5 +14,5 @@ returns-clause-summaries g c =
     let known = c.in_ok-known.ensures.known in
     let answer : (set : List Message) → K.is_up new → Lists (K.holds old) set → AreSummaries set c.in_ok-list.field-0.items = λ set up lists.
     let same = same_listed (K.holds old) (known up).0 set (known up).1 lists in
-    summaries_of_set (known up).0 set c.in_ok-list.field-0.items same (c.in_ok-list.ensures (known up).0 (known up).2) in
+    summaries_of_set (known up).0 set c.in_ok-list.field-0.items same (c.in_ok-list.ensures (known up).0 (known up).2.0) in
     rw (← c.self.view_is) answer
