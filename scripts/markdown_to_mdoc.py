@@ -18,6 +18,7 @@ PAGES = {
     "AUDITING.md": "desk-audit(1)",
     "USED.md": "desk-used(1)",
     "EVIDENCE.md": "desk-evidence(1)",
+    "SEVERAL.md": "desk-broker(7)",
 }
 INSTALLED = (
     "README.md",
@@ -162,7 +163,7 @@ def body(text: str, doc: str) -> Iterator[str]:
         elif kind == "code":
             yield from code(lines)
         else:
-            is_list = lines[0].startswith(("|", "- "))
+            is_list = re.match(r"\||- |\d+\. ", lines[0])
             if not is_first and not is_list:
                 yield ".Pp"
             yield from block(lines, doc)

@@ -5,7 +5,8 @@ certificates, upgraded, removed.
 The root is this machine's, under an overlay that is thrown away, with namespaces of its own for
 mounts, processes and network; with FRESH=FOLDER it is debootstrap's, made there where the folder
 is empty. The service runs as its unit says, without systemd (scripts/service.py). Needs root, and
-Debian's packages sudo, faketime, nginx-light, haproxy, openssl, curl, sqlite3, strace and iproute2.
+Debian's packages sudo, faketime, nginx-light, haproxy, openssl, curl, sqlite3, strace, iproute2 and
+rabbitmq-server.
 """
 
 import contextlib
@@ -21,6 +22,7 @@ import time
 
 import desk
 import outsider
+import package_broker
 import package_relay
 import service
 import store_files
@@ -29,11 +31,11 @@ import syscalls
 DEBS = os.path.join(desk.BUILD, "deb")
 NEEDED = "adduser,ca-certificates,curl,faketime,haproxy,nginx-light,openssl,python3"
 NEEDED += ",python3-jsonschema,sqlite3,openssh-client,tzdata,python3-flask,python3-requests"
-NEEDED += ",python3-requests-unixsocket,python3-waitress"
+NEEDED += ",python3-requests-unixsocket,python3-waitress,python3-pika"
 NEEDED += ",strace,sudo,systemd"
 DOC = "/usr/share/doc/steelnewt"
 NAMES = ("steelnewt", "steelnewt-host", "steelnewt-tools")
-RELAY = "steelnewt-relay"
+RELAY, BROKER = "steelnewt-relay", "steelnewt-broker"
 PATIENCE = 120  # the seconds after which something hangs
 STORE = "/var/lib/desk/desk.db"
 SOCKET = "unix:/run/desk/desk.sock"
@@ -130,6 +132,7 @@ def install(trial: Trial) -> None:
         "-V",
         *NAMES,
         RELAY,
+        BROKER,
         says="^$",
     )
     trial.does(
@@ -684,6 +687,18 @@ def relay(trial: Trial) -> None:
     empty(trial)
 
 
+def broker(trial: Trial) -> None:
+    """A relay's messages through a broker to a desk that serves, and the package's life."""
+    package_broker.installed(trial)
+    running = Service(trial)
+    running.wait_ready()
+    package_broker.used(trial)
+    running.stop()
+    later = remade(trial, BROKER, "etc/desk/broker.conf", "# Where", "# This is where")
+    package_broker.later_on(trial, the_deb(BROKER), later)
+    empty(trial)
+
+
 def the_deb(package: str = "steelnewt") -> str:
     """A package's file."""
     return next(
@@ -839,7 +854,7 @@ def inside(fresh: str) -> None:
     with tempfile.TemporaryDirectory() as folder:
         trial = Trial(furnish(folder, fresh))
         try:
-            for part in (install, tools, tour, bad_starts, relay, traced, served, later_on):
+            for part in (install, tools, tour, bad_starts, relay, broker, traced, served, later_on):
                 began = time.monotonic()
                 part(trial)
                 print(f"{part.__name__}: {time.monotonic() - began:.1f} s", flush=True)
@@ -862,7 +877,8 @@ def main() -> None:
     if os.geteuid() != 0:
         sys.exit("package-test needs root: it installs packages in a root of its own")
     words = ["unshare", "--mount", "--net", "--pid", "--ipc", "--fork", "--kill-child"]
-    words += ["--propagation", "private", sys.executable, os.path.abspath(__file__)]
+    # (the broker finds its own process below /proc)
+    words += ["--mount-proc", "--propagation", "private", sys.executable, os.path.abspath(__file__)]
     sys.exit(subprocess.run([*words, "--inside", fresh_root()], check=False).returncode)
 
 
