@@ -776,8 +776,28 @@ def later_on(trial: Trial) -> None:
                 said,
             )
     empty(trial)
+    purged(trial)
+
+
+def purged(trial: Trial) -> None:
+    """Nothing is left but what sudo reads, and each file of that is named, with what it gives."""
+    other = "/etc/sudoers.d/site-desk"
+    rows = ["User_Alias A = ann", "A db1 = (root) NOTAFTER=20260105110000Z /usr/bin/id", "# no"]
+    trial.write(other, "\n".join([*rows, "dba ALL = (postgres) ALL", ""]))
+    conf = trial.read("/etc/desk/fetch.conf")
+    trial.write("/etc/desk/fetch.conf", re.sub("(?m)^FILE=.*", f"FILE={other}", conf))
+    trial.write(f"/etc/sudoers.d/desk.new.{'a' * 16}", "killed")
+    trial.write("/etc/sudoers.d/desk.new.ours", "an administrator's")
     said = trial.does("purge of a desk without messages", *DPKG, "-P", *NAMES)
-    trial.check("it says that the host's file stays", "/etc/sudoers.d/desk stays" in said, said)
+    rules = [it for it in trial.read("/etc/sudoers.d/desk").splitlines() if it[:1] not in ("", "#")]
+    ends = sum("NOTAFTER=" in it for it in rules)
+    is_told = "/etc/sudoers.d/desk stays" in said and f" {ends} of its {len(rules)} rules" in said
+    trial.check("it says that the host's file stays", is_told and 0 < ends < len(rules), said)
+    is_told = f"{other} stays" in said and " 1 of its 2 rules end by their dates" in said
+    trial.check("and where the settings had it", is_told, said)
+    trial.check("and sudo's settings", "/etc/sudoers.d/desk-defaults stays" in said, said)
+    left = {it for it in os.listdir(trial.path("/etc/sudoers.d")) if it.startswith("desk")}
+    trial.check("what is left", left == {"desk", "desk-defaults", "desk.new.ours"}, str(left))
     pam = [trial.read(f"/etc/pam.d/common-{it}") for it in ("account", "session-noninteractive")]
     trial.check("the step of PAM is gone", not any("desk-host" in text for text in pam), str(pam))
     trial.check("its folder is gone", not os.path.exists(trial.path("/var/lib/desk")))
