@@ -101,6 +101,10 @@ for text in README.md CHANGELOG.md \
     docs/{CODES,PROOFS,LINT,IMPORT,SECURITY,HOSTS,USED,EVIDENCE,CONTROLS,SEVERAL}.md; do
     put 0644 "$text" "$doc/$(basename "$text")"
 done
+# What the desk answers to messages, for the tests of a relay.
+for file in deliver deliver-admission print-messages; do
+    put 0644 "cases/$file.toml" "$doc/cases/$file.toml"
+done
 files=$(cd examples && find . -type f ! -path './peers/*' ! -name 'demo.expected' ! -name '*.pyc')
 printf '%s\n' "$files" | while read -r file; do
     mode=0644

@@ -47,6 +47,7 @@ def escaped(text: str) -> str:
 def renamed(text: str, doc: str) -> str:
     """A text with the repository's paths as an installed desk has them."""
     text = re.sub(r"\[[^\]]*\]\((?:docs/)?(\w+\.md)\)", lambda it: document(it[1], doc), text)
+    text = re.sub(r"\[[^\]]*\]\(\.\./(cases/[\w.-]+)\)", r"\1", text)
     text = re.sub(r"`?docs/(\w+\.md)`?", lambda it: document(it[1], doc), text)
     text = re.sub(r"(?<![\w/])build/(desk|desk-audit)(?= )", "\\1", text)
     text = re.sub(
@@ -54,7 +55,7 @@ def renamed(text: str, doc: str) -> str:
         f"{os.path.dirname(os.path.dirname(doc))}/steelnewt/\\1/",
         text,
     )
-    return re.sub(r"(?<![\w/])examples/", f"{doc}/examples/", text)
+    return re.sub(r"(?<![\w/])(examples|cases)/", rf"{doc}/\1/", text)
 
 
 def inline(text: str) -> str:
