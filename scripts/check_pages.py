@@ -50,6 +50,8 @@ TYPED: list[tuple[list[str], set[str]]] = [
     (["desk-relay", "--p"], {"--person"}),
     (["desk-relay-person", "re"], {"remove"}),
     (["desk-relay-person", "--k"], {"--keys"}),
+    (["desk-compare", "me"], {"messages"}),
+    (["desk-publish", "--p"], {"--patience"}),
     (["desk-audit", "ros"], {"roster.toml"}),
     (["desk-audit", "--p"], {"--person"}),
     (["desk-audit", "--host", ""], set()),
@@ -126,6 +128,19 @@ def check_help(commands: list[dict]) -> tuple[int, list[str]]:
                 f"packaging/commands.toml: {command['name']} is another than the program's: {text}"
             )
     return 1 + 2 * len(commands), wrong
+
+
+def check_tools(tools: list[dict]) -> tuple[int, list[str]]:
+    """The table's options of each program that has a page of its entry, beside its own help."""
+    wrong = []
+    for tool in (each for each in tools if "says" in each):
+        path = os.path.join(desk.ROOT, "broker", tool["name"])
+        words = [[path, *word, "--help"] for word in ([], *([it] for it in tool.get("words", [])))]
+        texts = [subprocess.run(each, capture_output=True, text=True).stdout for each in words]
+        found = set(re.findall(r"^  (?:-h, )?(--[a-z]+)", "\n".join(texts), re.MULTILINE))
+        if found != {name for name, _ in tool["options"]}:
+            wrong.append(f"packaging/commands.toml: {tool['name']} has the options {found}")
+    return sum("says" in each for each in tools), wrong
 
 
 def check_examples(commands: list[dict]) -> tuple[int, list[str]]:
@@ -234,8 +249,10 @@ def check_completions() -> tuple[int, list[str]]:
 
 
 def main() -> None:
-    commands = tomllib.loads(desk.read("packaging", "commands.toml"))["command"]
-    parts = [check_pages(), check_help(commands), check_examples(commands), check_completions()]
+    table = tomllib.loads(desk.read("packaging", "commands.toml"))
+    commands, tools = table["command"], table["tool"]
+    parts = [check_pages(), check_help(commands), check_tools(tools)]
+    parts += [check_examples(commands), check_completions()]
     wrong = [line for _, lines in parts for line in lines]
     checks = sum(count for count, _ in parts)
     print("".join(f"{line}\n" for line in wrong), end="")

@@ -1,7 +1,7 @@
 #!/usr/bin/env bash
 # Makes Debian's packages of what `make install` installs, in build/deb: steelnewt (the desk),
-# steelnewt-host (what fetches a host's file) and steelnewt-tools. Nothing is proved or built: the
-# program is build/desk, byte for byte.
+# steelnewt-host (what fetches a host's file), steelnewt-tools, steelnewt-relay and
+# steelnewt-broker. Nothing is proved or built: the program is build/desk, byte for byte.
 set -euo pipefail
 cd "$(dirname "$0")/.."
 for tool in dpkg-buildpackage dh; do

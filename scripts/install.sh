@@ -39,8 +39,9 @@ put 0755 examples/monitoring/check_desk.py "$PREFIX/lib/nagios/plugins/check_des
 for page in build/pages/*.[1-8]; do
     put 0644 "$page" "$PREFIX/share/man/man${page##*.}/$(basename "$page")"
 done
+broker=(consume publish fill refused snapshot compare check-queues broker-definitions)
 for name in desk desk-audit desk-lint desk-import desk-used desk-evidence desk-change-roster \
-    desk-roster desk-relay desk-relay-person; do
+    desk-roster desk-relay desk-relay-person "${broker[@]/#/desk-}"; do
     put 0644 "build/pages/$name.bash" "$PREFIX/share/bash-completion/completions/$name"
     put 0644 "build/pages/_$name" "$PREFIX/share/zsh/$zsh/_$name"
 done
@@ -78,6 +79,19 @@ for kind in gssapi openidc; do
 done
 put 0755 examples/front-ca.sh "$PREFIX/share/doc/steelnewt-relay/examples/front-ca.sh"
 [ -e "$root/etc/desk/relay.toml" ] || put 0644 relays/relay.example.toml /etc/desk/relay.toml
+# Several desks behind a broker: what hands its messages on, and what looks after it.
+share=$PREFIX/share/steelnewt-broker
+for file in broker/desk_broker/*.py; do
+    put 0644 "$file" "$share/${file#broker/}"
+done
+for name in "${broker[@]/#/desk-}"; do
+    put 0755 "broker/$name" "$share/$name"
+    ln -sfn "../share/steelnewt-broker/$name" "$root$PREFIX/bin/$name"
+done
+for file in rabbitmq.conf tls.conf; do
+    put 0644 "examples/broker/$file" "$PREFIX/share/doc/steelnewt-broker/examples/$file"
+done
+[ -e "$root/etc/desk/broker.conf" ] || put 0644 packaging/broker.conf /etc/desk/broker.conf
 for unit in packaging/units/*; do
     fill "$unit" 0644 "$units/$(basename "$unit")"
 done
@@ -89,8 +103,12 @@ done
 for text in README.md CHANGELOG.md \
     docs/{OPERATING,RUNBOOKS,HTTP,RELAYS,AUDITING,ROSTER,SUDOERS,MESSAGES,STORE}.md \
     docs/{CODES,PROOFS,LINT,IMPORT,SECURITY,HOSTS,USED,EVIDENCE,CONTROLS,CHANGING}.md \
-    docs/{PEOPLE,TEAM}.md; do
+    docs/{PEOPLE,TEAM,SEVERAL}.md; do
     put 0644 "$text" "$doc/$(basename "$text")"
+done
+# What the desk answers to messages, for the tests of a relay.
+for file in deliver deliver-admission print-messages; do
+    put 0644 "cases/$file.toml" "$doc/cases/$file.toml"
 done
 files=$(cd examples && find . -type f ! -path './peers/*' ! -name 'demo.expected' ! -name '*.pyc')
 printf '%s\n' "$files" | while read -r file; do

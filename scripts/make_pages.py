@@ -33,6 +33,7 @@ DOCUMENTS = [
     ("desk-evidence", 1, "EVIDENCE.md", "put together what an audit rests on"),
     ("desk-change-roster", 1, "CHANGING.md", "change the roster of a running desk"),
     ("desk-roster", 1, "PEOPLE.md", "bring the people of a roster up to date"),
+    ("desk-broker", 7, "SEVERAL.md", "several desks behind a message broker"),
 ]
 
 
@@ -175,6 +176,40 @@ package installs.
 """
 
 
+TOOL = """\
+.Dd {date}
+.Dt {title} 1
+.Os
+.Sh NAME
+.Nm {name}
+.Nd {about}
+.Sh SYNOPSIS
+.Nm {name}
+{synopsis}
+.Sh DESCRIPTION
+{says}
+.Sh EXIT STATUS
+{exits}
+.Sh SEE ALSO
+.Xr desk 1 ,
+.Xr desk-broker 7
+"""
+
+
+def tool_page(tool: dict) -> str:
+    """The page of a program whose entry says all of it."""
+    ends = [f"{status} where {said}" for status, said in tool["exits"].items()]
+    return TOOL.format(
+        date=DATE,
+        title=tool["name"].upper(),
+        name=tool["name"],
+        about=tool["about"],
+        synopsis="\n".join(guarded(escaped(word)) for word in tool["synopsis"] or ["[--help]"]),
+        says="\n".join(sentences(tool["says"], DOC)),
+        exits="\n".join(sentences("; ".join(ends) + ".", DOC)),
+    )
+
+
 def settings_page(example: str) -> str:
     """The example's comments as paragraphs, and its settings as they stand."""
     lines = []
@@ -211,6 +246,8 @@ def main() -> None:
     for tool in table["tool"]:
         made[f"{tool['name']}.bash"] = completions.tool_bash(tool)
         made[f"_{tool['name']}"] = completions.tool_zsh(tool)
+        if "says" in tool:
+            made[f"{tool['name']}.1"] = tool_page(tool)
     made["desk-relay.toml.5"] = settings_page(desk.read("relays", "relay.example.toml"))
     os.makedirs(folder, exist_ok=True)
     for name, text in made.items():

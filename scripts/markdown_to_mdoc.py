@@ -20,6 +20,7 @@ PAGES = {
     "EVIDENCE.md": "desk-evidence(1)",
     "CHANGING.md": "desk-change-roster(1)",
     "PEOPLE.md": "desk-roster(1)",
+    "SEVERAL.md": "desk-broker(7)",
 }
 INSTALLED = (
     "README.md",
@@ -49,6 +50,7 @@ def escaped(text: str) -> str:
 def renamed(text: str, doc: str) -> str:
     """A text with the repository's paths as an installed desk has them."""
     text = re.sub(r"\[[^\]]*\]\((?:docs/)?(\w+\.md)\)", lambda it: document(it[1], doc), text)
+    text = re.sub(r"\[[^\]]*\]\(\.\./(cases/[\w.-]+)\)", r"\1", text)
     text = re.sub(r"`?docs/(\w+\.md)`?", lambda it: document(it[1], doc), text)
     text = re.sub(r"(?<![\w/])build/(desk|desk-audit)(?= )", "\\1", text)
     text = re.sub(
@@ -56,7 +58,7 @@ def renamed(text: str, doc: str) -> str:
         f"{os.path.dirname(os.path.dirname(doc))}/steelnewt/\\1/",
         text,
     )
-    return re.sub(r"(?<![\w/])examples/", f"{doc}/examples/", text)
+    return re.sub(r"(?<![\w/])(examples|cases)/", rf"{doc}/\1/", text)
 
 
 def inline(text: str) -> str:
@@ -165,7 +167,7 @@ def body(text: str, doc: str) -> Iterator[str]:
         elif kind == "code":
             yield from code(lines)
         else:
-            is_list = lines[0].startswith(("|", "- "))
+            is_list = re.match(r"\||- |\d+\. ", lines[0])
             if not is_first and not is_list:
                 yield ".Pp"
             yield from block(lines, doc)

@@ -28,8 +28,9 @@ cd "$room/lib/systemd/system"
 sed -i "s,=/usr/\(bin\|libexec\|sbin\),=$room/usr/\1,; /^Documentation=/d" ./*.service
 cp desk-fetch@.service desk-fetch@db1.service
 cp desk-fetch@.timer desk-fetch@db1.timer
+cp desk-consume@.service desk-consume@a.service
 for unit in desk.service desk-fetch@db1.service desk-fetch@db1.timer desk-sessions.service \
-    desk-relay-{post,page,notify}.service; do
+    desk-relay-{post,page,notify}.service desk-consume@a.service; do
     status=0
     said=$(SYSTEMD_LOG_LEVEL=warning systemd-analyze verify --man=no "./$unit" 2>&1) || status=1
     # what the machine's own units say is not ours
@@ -37,7 +38,8 @@ for unit in desk.service desk-fetch@db1.service desk-fetch@db1.timer desk-sessio
     [ -z "$said" ] || { echo "$said"; status=1; }
     verdict "systemd-analyze verify $unit" $status
 done
-for unit in desk.service desk-fetch@db1.service desk-relay-{post,page,notify}.service; do
+for unit in desk.service desk-fetch@db1.service desk-relay-{post,page,notify}.service \
+    desk-consume@a.service; do
     line=$(systemd-analyze security --offline=yes --no-pager "./$unit" | grep 'Overall exposure')
     echo "$line" | sed 's/[^ -~]//g; s/^ *//'
     figure=$(printf '%s\n' "$line" | sed 's/.*: \([0-9.]*\) .*/\1/')
@@ -48,8 +50,9 @@ done
 # `systemctl enable`, as docs/OPERATING.md has it, starts each with the machine
 wants=$room/etc/systemd/system
 status=0
-systemctl --root="$room" -q enable desk.service desk-fetch@db1.timer || status=1
+systemctl --root="$room" -q enable desk.service desk-fetch@db1.timer desk-consume@b || status=1
 [ -L "$wants/multi-user.target.wants/desk.service" ] || status=1
+[ -L "$wants/multi-user.target.wants/desk-consume@b.service" ] || status=1
 [ -L "$wants/timers.target.wants/desk-fetch@db1.timer" ] || status=1
 verdict "systemctl enable" $status
 echo "lintian and systemd on the packages: $checks checks, $wrong wrong"

@@ -5,7 +5,8 @@ certificates, upgraded, removed.
 The root is this machine's, under an overlay that is thrown away, with namespaces of its own for
 mounts, processes and network; with FRESH=FOLDER it is debootstrap's, made there where the folder
 is empty. The service runs as its unit says, without systemd (scripts/service.py). Needs root, and
-Debian's packages sudo, faketime, nginx-light, haproxy, openssl, curl, sqlite3, strace and iproute2.
+Debian's packages sudo, faketime, nginx-light, haproxy, openssl, curl, sqlite3, strace, iproute2 and
+rabbitmq-server.
 """
 
 import contextlib
@@ -21,6 +22,7 @@ import time
 
 import desk
 import outsider
+import package_broker
 import package_relay
 import service
 import store_files
@@ -29,12 +31,12 @@ import syscalls
 DEBS = os.path.join(desk.BUILD, "deb")
 NEEDED = "adduser,ca-certificates,curl,faketime,haproxy,nginx-light,openssl,python3"
 NEEDED += ",python3-jsonschema,sqlite3,openssh-client,tzdata,python3-flask,python3-requests"
-NEEDED += ",python3-requests-unixsocket,python3-waitress"
+NEEDED += ",python3-requests-unixsocket,python3-waitress,python3-pika"
 NEEDED += ",strace,sudo,systemd"
 DOC = "/usr/share/doc/steelnewt"
 TOOLS = ("desk-lint", "desk-import", "desk-used", "desk-change-roster", "desk-roster")
 NAMES = ("steelnewt", "steelnewt-host", "steelnewt-tools")
-RELAY = "steelnewt-relay"
+RELAY, BROKER = "steelnewt-relay", "steelnewt-broker"
 PATIENCE = 120  # the seconds after which something hangs
 STORE = "/var/lib/desk/desk.db"
 SOCKET = "unix:/run/desk/desk.sock"
@@ -131,6 +133,7 @@ def install(trial: Trial) -> None:
         "-V",
         *NAMES,
         RELAY,
+        BROKER,
         says="^$",
     )
     trial.does(
@@ -685,6 +688,18 @@ def relay(trial: Trial) -> None:
     empty(trial)
 
 
+def broker(trial: Trial) -> None:
+    """A relay's messages through a broker to a desk that serves, and the package's life."""
+    package_broker.installed(trial)
+    running = Service(trial)
+    running.wait_ready()
+    package_broker.used(trial)
+    running.stop()
+    later = remade(trial, BROKER, "etc/desk/broker.conf", "# Where", "# This is where")
+    package_broker.later_on(trial, the_deb(BROKER), later)
+    empty(trial)
+
+
 def the_deb(package: str = "steelnewt") -> str:
     """A package's file."""
     return next(
@@ -762,8 +777,28 @@ def later_on(trial: Trial) -> None:
                 said,
             )
     empty(trial)
+    purged(trial)
+
+
+def purged(trial: Trial) -> None:
+    """Nothing is left but what sudo reads, and each file of that is named, with what it gives."""
+    other = "/etc/sudoers.d/site-desk"
+    rows = ["User_Alias A = ann", "A db1 = (root) NOTAFTER=20260105110000Z /usr/bin/id", "# no"]
+    trial.write(other, "\n".join([*rows, "dba ALL = (postgres) ALL", ""]))
+    conf = trial.read("/etc/desk/fetch.conf")
+    trial.write("/etc/desk/fetch.conf", re.sub("(?m)^FILE=.*", f"FILE={other}", conf))
+    trial.write(f"/etc/sudoers.d/desk.new.{'a' * 16}", "killed")
+    trial.write("/etc/sudoers.d/desk.new.ours", "an administrator's")
     said = trial.does("purge of a desk without messages", *DPKG, "-P", *NAMES)
-    trial.check("it says that the host's file stays", "/etc/sudoers.d/desk stays" in said, said)
+    rules = [it for it in trial.read("/etc/sudoers.d/desk").splitlines() if it[:1] not in ("", "#")]
+    ends = sum("NOTAFTER=" in it for it in rules)
+    is_told = "/etc/sudoers.d/desk stays" in said and f" {ends} of its {len(rules)} rules" in said
+    trial.check("it says that the host's file stays", is_told and 0 < ends < len(rules), said)
+    is_told = f"{other} stays" in said and " 1 of its 2 rules end by their dates" in said
+    trial.check("and where the settings had it", is_told, said)
+    trial.check("and sudo's settings", "/etc/sudoers.d/desk-defaults stays" in said, said)
+    left = {it for it in os.listdir(trial.path("/etc/sudoers.d")) if it.startswith("desk")}
+    trial.check("what is left", left == {"desk", "desk-defaults", "desk.new.ours"}, str(left))
     pam = [trial.read(f"/etc/pam.d/common-{it}") for it in ("account", "session-noninteractive")]
     trial.check("the step of PAM is gone", not any("desk-host" in text for text in pam), str(pam))
     trial.check("its folder is gone", not os.path.exists(trial.path("/var/lib/desk")))
@@ -840,7 +875,7 @@ def inside(fresh: str) -> None:
     with tempfile.TemporaryDirectory() as folder:
         trial = Trial(furnish(folder, fresh))
         try:
-            for part in (install, tools, tour, bad_starts, relay, traced, served, later_on):
+            for part in (install, tools, tour, bad_starts, relay, broker, traced, served, later_on):
                 began = time.monotonic()
                 part(trial)
                 print(f"{part.__name__}: {time.monotonic() - began:.1f} s", flush=True)
@@ -863,7 +898,8 @@ def main() -> None:
     if os.geteuid() != 0:
         sys.exit("package-test needs root: it installs packages in a root of its own")
     words = ["unshare", "--mount", "--net", "--pid", "--ipc", "--fork", "--kill-child"]
-    words += ["--propagation", "private", sys.executable, os.path.abspath(__file__)]
+    # (the broker finds its own process below /proc)
+    words += ["--mount-proc", "--propagation", "private", sys.executable, os.path.abspath(__file__)]
     sys.exit(subprocess.run([*words, "--inside", fresh_root()], check=False).returncode)
 
 

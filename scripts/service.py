@@ -7,6 +7,9 @@ import shutil
 import socket
 import subprocess
 
+CREDENTIALS = "/run/credentials"
+DYNAMIC = "64500"  # an account of systemd's, which is made while its unit runs
+
 
 def unit(text: str) -> dict[str, list[str]]:
     """The settings of a unit, each with its values in order."""
@@ -18,11 +21,18 @@ def unit(text: str) -> dict[str, list[str]]:
     return found
 
 
-def environment(root: str, settings: dict[str, list[str]]) -> dict[str, str]:
-    """What EnvironmentFile gives."""
+def specified(text: str, instance: str) -> str:
+    """A value of a unit with the name of its instance, and of its credentials' folder, put in."""
+    return text.replace("%i", instance).replace("%d", CREDENTIALS)
+
+
+def environment(root: str, settings: dict[str, list[str]], instance: str = "") -> dict[str, str]:
+    """What Environment gives, and over it EnvironmentFile."""
     held = {"PATH": "/usr/sbin:/usr/bin:/sbin:/bin", "LC_ALL": "C"}
+    for value in settings.get("Environment", []):
+        held |= dict(it.split("=", 1) for it in shlex.split(specified(value, instance)))
     for name in settings.get("EnvironmentFile", []):
-        path = root + name.lstrip("-")
+        path = root + specified(name.lstrip("-"), instance)
         if os.path.exists(path):
             with open(path, encoding="utf-8") as file:
                 held |= dict(
@@ -59,8 +69,24 @@ def settings_of(root: str, name: str) -> dict[str, list[str]]:
         return unit(file.read())
 
 
+def user_of(settings: dict[str, list[str]]) -> str:
+    """The account of a unit; systemd makes a dynamic one, which has a number alone here."""
+    return settings.get("User", [DYNAMIC if "DynamicUser" in settings else "root"])[0]
+
+
 def group_of(settings: dict[str, list[str]]) -> str:
-    return settings.get("Group", settings.get("User", ["root"]))[0]
+    return settings.get("Group", [user_of(settings)])[0]
+
+
+def load_credentials(root: str, settings: dict[str, list[str]], instance: str) -> None:
+    """Puts copies of the unit's credentials where only its account reads them."""
+    for value in settings.get("LoadCredential", []):
+        name, _, source = specified(value, instance).partition(":")
+        folder = root + CREDENTIALS
+        os.makedirs(folder, 0o755, exist_ok=True)
+        shutil.copy(root + source, os.path.join(folder, name))
+        os.chown(os.path.join(folder, name), int(user_of(settings)), -1)
+        os.chmod(os.path.join(folder, name), 0o400)
 
 
 def make_runtime(root: str, name: str) -> list[str]:
@@ -89,20 +115,23 @@ def start(
     instance: str = "",
     before: list[str] | None = None,
     extra: dict[str, str] | None = None,
+    more: tuple[str, ...] = (),
 ) -> subprocess.Popen[str]:
-    """Starts the unit's program in the root: its standard output and error are one stream."""
+    """Starts the unit's program in the root: its standard output and error are one stream. It may
+    write to `more` besides."""
     settings = settings_of(root, name)
-    held = environment(root, settings) | (extra or {})
+    held = environment(root, settings, instance) | (extra or {})
+    load_credentials(root, settings, instance)
     writable = [
+        *more,
         *(f"/var/lib/{each}" for each in settings.get("StateDirectory", [])),
         *settings.get("ReadWritePaths", []),
     ]
     mounts = "".join(f"mount --rbind {each} {each} && " for each in writable)
-    user = settings.get("User", ["root"])[0]
     bare = "mount -o remount,bind,ro / && mount -t tmpfs tmpfs /tmp && cd / && "
-    more = settings.get("SupplementaryGroups", [])
-    drop = f"exec setpriv --reuid {user} --regid {group_of(settings)}"
-    drop += f" --groups {','.join(more)}" if more else " --clear-groups"
+    groups = settings.get("SupplementaryGroups", [])
+    drop = f"exec setpriv --reuid {user_of(settings)} --regid {group_of(settings)}"
+    drop += f" --groups {','.join(groups)}" if groups else " --clear-groups"
     drop += " --no-new-privs --bounding-set=-all --inh-caps=-all"
     given = shlex.join(f"{key}={value}" for key, value in held.items())
     asked = [*(before or []), *words(settings, held, instance)]

@@ -119,7 +119,7 @@ part_with pages root mandoc zsh unshare ip visudo sudo faketime curl jq sqlite3 
     pages
 part_with peers nginx haproxy openssl sqlite3 strace flock -- front
 part_with package-test root dpkg-buildpackage dh lintian systemd-analyze sudo faketime unshare ip \
-    nginx haproxy openssl strace -- package_test
+    nginx haproxy openssl strace epmd -- package_test
 part_with several root unshare mount -- bash scripts/several.sh --short
 echo "$passed passed, $failed failed"
 [ "$failed" = 0 ]

@@ -27,8 +27,8 @@ command -v mandoc >/dev/null || wanted+=(mandoc)
 command -v strace >/dev/null || wanted+=(strace)
 command -v zsh >/dev/null || wanted+=(zsh)
 /usr/bin/python3 -c 'import jsonschema' 2>/dev/null || wanted+=(python3-jsonschema)
-# (the package of the relay depends on these)
-for name in flask requests requests-unixsocket waitress; do
+# (the packages of the relay and of the broker depend on these)
+for name in flask requests requests-unixsocket waitress pika; do
     /usr/bin/python3 -c "import ${name//-/_}" 2>/dev/null || wanted+=("python3-$name")
 done
 /usr/bin/python3 -c 'import pytest' 2>/dev/null || wanted+=(python3-pytest)
@@ -38,6 +38,8 @@ command -v ip >/dev/null || wanted+=(iproute2)
 # A host's sudo at a terminal, and the roots of other Debians: `make hosts`.
 command -v debootstrap >/dev/null || wanted+=(debootstrap)
 /usr/bin/python3 -c 'import pexpect' 2>/dev/null || wanted+=(python3-pexpect)
+# The broker that the package's consumer is tried with; it is not started.
+[ -d /usr/lib/rabbitmq ] || bash scripts/several_tools.sh
 command -v systemd-analyze >/dev/null || wanted+=(systemd)
 command -v adduser >/dev/null || wanted+=(adduser)
 if [ "${#wanted[@]}" -gt 0 ] && [ "$(id -u)" = 0 ] && command -v apt-get >/dev/null; then

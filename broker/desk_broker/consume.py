@@ -14,6 +14,7 @@ then that message is the head.
 
 from __future__ import annotations
 
+import argparse
 import contextlib
 import logging
 import os
@@ -231,7 +232,7 @@ def close(connection: BlockingConnection) -> None:
 
 
 def read(environment: Mapping[str, str]) -> Consumer:
-    """The consumer that the environment describes (examples/broker/consume.env)."""
+    """The consumer that the environment describes (packaging/broker.conf)."""
     try:
         name = names.label(required(environment, "DESK_NAME"))
         desk = Desk(required(environment, "DESK_URL"))
@@ -242,6 +243,9 @@ def read(environment: Mapping[str, str]) -> Consumer:
 
 
 def main() -> int:
+    about = "Takes messages from a desk's queue and posts them to the desk."
+    epilog = "It is told by DESK_NAME, DESK_URL, BROKERS, BROKER_CA and BROKER_PASSWORD_FILE."
+    argparse.ArgumentParser("desk-consume", description=about, epilog=epilog).parse_args()
     logging.basicConfig(level=logging.INFO, format="%(levelname)s %(message)s", stream=sys.stdout)
     logging.getLogger("pika").setLevel(logging.CRITICAL)
     try:

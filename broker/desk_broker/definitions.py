@@ -1,6 +1,6 @@
 """Prints the broker's definitions for some desks and relays, for `rabbitmqctl import_definitions`.
 
-    python3 -m desk_broker.definitions --desks a b c --relays chat mail --passwords DIR
+    desk-broker-definitions --desks a b c --relays chat mail --passwords DIR
 
 With `--passwords` the accounts are in it: the password of each is in DIR, in a file of the
 account's name, which is made where it is not there. Without it there are no accounts. To import it
@@ -129,10 +129,12 @@ def definitions(desks: list[str], relays: list[str], passwords: pathlib.Path | N
 
 
 def main() -> int:
-    parser = argparse.ArgumentParser(description="Prints the broker's definitions.")
-    parser.add_argument("--desks", nargs="+", required=True, type=names.desk)
-    parser.add_argument("--relays", nargs="*", default=[], type=names.label)
-    parser.add_argument("--passwords", type=pathlib.Path, help="a folder with a file for each")
+    about = "Prints the broker's definitions."
+    parser = argparse.ArgumentParser("desk-broker-definitions", description=about)
+    parser.add_argument("--desks", nargs="+", required=True, type=names.desk, metavar="NAME")
+    parser.add_argument("--relays", nargs="*", default=[], type=names.label, metavar="NAME")
+    said = "a folder with a file for each account"
+    parser.add_argument("--passwords", type=pathlib.Path, metavar="FOLDER", help=said)
     words = parser.parse_args()
     made = definitions(words.desks, words.relays, words.passwords)
     json.dump(made, sys.stdout, indent=2, sort_keys=True)

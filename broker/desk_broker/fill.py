@@ -1,14 +1,15 @@
 """Fills a desk with the messages of another: for a desk that joins, or that lost its disk.
 
-    python3 -m desk_broker.fill DESK_URL RELAY < MESSAGES
+    desk-fill DESK RELAY < MESSAGES
 
-MESSAGES has one a line, as `desk_broker.snapshot` prints them. Each is posted as RELAY's, and the
+MESSAGES has one a line, as desk-snapshot prints them. Each is posted as RELAY's, and the
 desk reads and admits it as any other. What it has already stays as it is, so this may be done again
 at any time, also while the desk's consumer posts to it.
 """
 
 from __future__ import annotations
 
+import argparse
 import sys
 import time
 from collections.abc import Iterable
@@ -36,14 +37,16 @@ def fill(desk: Desk, relay: str, bodies: Iterable[bytes]) -> tuple[int, list[str
 
 
 def main() -> int:
-    if len(sys.argv) != 3:
-        print("usage: fill DESK_URL RELAY < MESSAGES", file=sys.stderr)
-        return 2
+    about = "Fills a desk with the messages of its input, one a line."
+    parser = argparse.ArgumentParser("desk-fill", description=about)
+    parser.add_argument("desk", metavar="DESK", help="unix:/PATH, or http://HOST:PORT")
+    parser.add_argument("relay", metavar="RELAY", help="the relay in whose name they are posted")
+    words = parser.parse_args()
     lines = (line.rstrip(b"\n") for line in sys.stdin.buffer)
     try:
-        taken, refused = fill(Desk(sys.argv[1]), sys.argv[2], lines)
+        taken, refused = fill(Desk(words.desk), words.relay, lines)
     except (TimeoutError, BadAddress) as error:
-        print(f"fill: {error}", file=sys.stderr)
+        print(f"desk-fill: {error}", file=sys.stderr)
         return 1
     print(*refused, sep="\n", end="\n" if refused else "", file=sys.stderr)
     print(f"{taken} taken, {len(refused)} refused")

@@ -25,7 +25,7 @@ from pika.channel import Channel
 from desk_broker import names
 from desk_broker.backoff import Backoff
 from desk_broker.outbox import NotConfirmed, Outbox, Sent
-from desk_broker.settings import BadSettings, Broker
+from desk_broker.settings import BadSettings, Broker, told
 
 LOG = logging.getLogger("desk-publish")
 WINDOW = 256
@@ -205,14 +205,16 @@ def publish_all(
 
 
 def main() -> int:
-    parser = argparse.ArgumentParser(description="Publishes messages, one a line, as a relay.")
-    parser.add_argument("relay", help="the relay's name, as the roster has it")
-    parser.add_argument("--patience", type=float, default=30.0, help="seconds for each message")
+    about = "Publishes messages, one a line, as a relay."
+    parser = argparse.ArgumentParser("desk-publish", description=about)
+    parser.add_argument("relay", metavar="RELAY", help="the relay's name, as the roster has it")
+    said = "how long each message may take (30)"
+    parser.add_argument("--patience", type=float, default=30.0, metavar="SECONDS", help=said)
     words = parser.parse_args()
     logging.basicConfig(level=logging.INFO, format="%(levelname)s %(message)s", stream=sys.stderr)
     logging.getLogger("pika").setLevel(logging.CRITICAL)
     try:
-        broker = Broker.read(os.environ, names.RELAY_USER + names.label(words.relay))
+        broker = Broker.read(told(os.environ), names.RELAY_USER + names.label(words.relay))
     except (BadSettings, ValueError) as error:
         print(f"desk-publish: {error}", file=sys.stderr)
         return 2

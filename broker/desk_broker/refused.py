@@ -1,7 +1,7 @@
 """Prints the messages that desks refused, each as a line of JSON: body, code, desk, relay.
 
-    python3 -m desk_broker.refused          # leaves them in the queue
-    python3 -m desk_broker.refused --take   # takes each off the queue, once it is printed
+    desk-refused          # leaves them in the queue
+    desk-refused --take   # takes each off the queue, once it is printed
 
 A byte of a body that is no UTF-8 is printed as `\\udcXX`. The headers of what a desk's consumer put
 by are the consumer's. What the broker itself put there, because it expired or was given out too
@@ -19,7 +19,7 @@ from collections.abc import Iterator
 import pika
 
 from desk_broker import names, reading
-from desk_broker.settings import AWAY, BadSettings, Broker
+from desk_broker.settings import AWAY, BadSettings, Broker, told
 
 QUIET = 2.0  # seconds without a message: the queue is empty
 
@@ -69,15 +69,17 @@ def lines(broker: Broker, take: bool) -> Iterator[str]:
 
 
 def main() -> int:
-    parser = argparse.ArgumentParser(description="Prints the messages that desks refused.")
+    about = "Prints the messages that desks refused."
+    parser = argparse.ArgumentParser("desk-refused", description=about)
     parser.add_argument("--take", action="store_true", help="take them off the queue")
     words = parser.parse_args()
     reading.install()
     try:
-        for each in lines(Broker.read(os.environ, names.READER), words.take):
+        broker = Broker.read(told(os.environ), names.READER)
+        for each in lines(broker, words.take):
             print(each, flush=True)
     except (BadSettings, *AWAY) as error:
-        print(f"refused: {type(error).__name__} {error}", file=sys.stderr)
+        print(f"desk-refused: {type(error).__name__} {error}", file=sys.stderr)
         return 1
     return 0
 

@@ -12,12 +12,31 @@ import pika
 from pika.adapters.utils.connection_workflow import AMQPConnectorException
 from pika.exceptions import AMQPError
 
+CONFIG = "/etc/desk/broker.conf"
 # What pika raises where a broker cannot be reached, does not speak, or goes away.
 AWAY = (AMQPError, AMQPConnectorException, OSError)
 
 
 class BadSettings(Exception):
     """The environment lacks a variable, or one has not its form."""
+
+
+def told(environment: Mapping[str, str], path: str = CONFIG) -> dict[str, str]:
+    """The environment; where it names no brokers, with what the site's file says besides."""
+    found = dict(environment)
+    if "BROKERS" in found:
+        return found
+    try:
+        lines = pathlib.Path(path).read_text(encoding="utf-8").splitlines()
+    except FileNotFoundError:
+        return found
+    except OSError as error:
+        raise BadSettings(str(error)) from error
+    for line in lines:
+        name, is_setting, value = line.partition("=")
+        if is_setting and not line.startswith("#"):
+            found.setdefault(name.strip(), value.strip())
+    return found
 
 
 def required(environment: Mapping[str, str], name: str) -> str:

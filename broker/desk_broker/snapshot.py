@@ -1,6 +1,6 @@
 """The messages of a desk's store (docs/STORE.md), also while the desk has the file.
 
-    python3 -m desk_broker.snapshot STORE        # each message on a line, in byte order
+    desk-snapshot STORE        # each message on a line, in byte order
 
 The desk writes its database at a checkpoint alone; between two of them it only adds to the log
 beside it. So a copy of both, between whose beginning and end there was no checkpoint, is what a
@@ -10,6 +10,7 @@ store itself is never opened here, so the desk is not disturbed.
 
 from __future__ import annotations
 
+import argparse
 import contextlib
 import os
 import pathlib
@@ -76,13 +77,14 @@ def messages(store: str | pathlib.Path) -> list[str]:
 
 
 def main() -> int:
-    if len(sys.argv) != 2:
-        print("usage: snapshot STORE", file=sys.stderr)
-        return 2
+    about = "Prints the messages of a desk's store, one a line, in byte order."
+    parser = argparse.ArgumentParser("desk-snapshot", description=about)
+    parser.add_argument("store", metavar="STORE", help="the desk's database")
+    words = parser.parse_args()
     try:
-        found = messages(sys.argv[1])
+        found = messages(words.store)
     except NoSnapshot as error:
-        print(f"snapshot: {error}", file=sys.stderr)
+        print(f"desk-snapshot: {error}", file=sys.stderr)
         return 1
     sys.stdout.writelines(body + "\n" for body in found)
     return 0

@@ -11,7 +11,7 @@ from pathlib import Path
 
 import pytest
 
-COMPARE = pathlib.Path(__file__).resolve().parents[2] / "examples/monitoring/compare-desks.py"
+COMPARE = pathlib.Path(__file__).resolve().parents[2] / "broker/desk-compare"
 
 
 def compare(*words: str) -> tuple[int, str]:

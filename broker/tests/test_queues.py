@@ -9,7 +9,7 @@ import sys
 from collections.abc import Sequence
 from typing import Any
 
-CHECK = pathlib.Path(__file__).resolve().parents[2] / "examples/monitoring/check-queues.py"
+CHECK = pathlib.Path(__file__).resolve().parents[2] / "broker/desk-check-queues"
 
 
 def row(name: str, messages: int = 0, consumers: int = 1, online: int = 3) -> dict[str, Any]:

@@ -16,8 +16,8 @@ from several.programs import Failure, Programs
 from several.relays import environment
 from several.sites import BASE, GHOST, RELAYS, Site
 
-COMPARE = ROOT / "examples" / "monitoring" / "compare-desks.py"
-CHECK_QUEUES = ROOT / "examples" / "monitoring" / "check-queues.py"
+COMPARE = ROOT / "broker" / "desk-compare"
+CHECK_QUEUES = ROOT / "broker" / "desk-check-queues"
 COLUMNS = ("name", "messages", "consumers", "online")
 
 

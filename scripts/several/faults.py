@@ -160,7 +160,7 @@ def hold_queue(bench: Bench, _: random.Random) -> None:
         bench.tell("the queue of desk c is held")
         time.sleep(bench.plan.held)
         told(bench, "while a queue is held", 1)
-        wait_until("check-queues.py finds the held queue", lambda: finds_held(bench), 120, 1.0)
+        wait_until("desk-check-queues finds the held queue", lambda: finds_held(bench), 120, 1.0)
         consumer.start()
     bench.tell("the queue of desk c is delivered")
 
@@ -177,7 +177,7 @@ def told(bench: Bench, when: str, wanted: int) -> None:
     """What the check that compares desks finds of their messages."""
     pairs = [f"{name}={bench.listing(name)}" for name in bench.desks]
     status, said = bench.compare("messages", *pairs)
-    bench.checks.same(f"compare-desks.py {when}: {said}", status, wanted)
+    bench.checks.same(f"desk-compare {when}: {said}", status, wanted)
 
 
 def lose_disk(bench: Bench) -> None:

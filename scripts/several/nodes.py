@@ -58,12 +58,12 @@ class Queue:
 class Cluster:
     """The nodes, and what `rabbitmqctl` tells of them."""
 
-    def __init__(self, folder: pathlib.Path, started: Programs) -> None:
+    def __init__(self, folder: pathlib.Path, started: Programs, count: int = COUNT) -> None:
         self._folder, self._started, self._scripts = folder, started, scripts()
-        self._epmd_port, *ports = free_ports(1 + 2 * COUNT)
-        self.ports, self._links = ports[:COUNT], ports[COUNT:]
+        self._epmd_port, *ports = free_ports(1 + 2 * count)
+        self.ports, self._links = ports[:count], ports[count:]
         self._write_files()
-        self.nodes = [self._node(number) for number in range(COUNT)]
+        self.nodes = [self._node(number) for number in range(count)]
 
     def _write_files(self) -> None:
         (self._folder / "home").mkdir()
@@ -116,9 +116,9 @@ class Cluster:
         self._started.add(Program("epmd", words, self._environment(0), log)).start()
         for node in self.nodes:
             node.start()
-        for number in range(COUNT):
+        for number in range(len(self.nodes)):
             self.wait_for(number)
-        self.control("await_online_nodes", str(COUNT))
+        self.control("await_online_nodes", str(len(self.nodes)))
 
     def wait_for(self, number: int) -> float:
         """Waits until the node takes connections."""

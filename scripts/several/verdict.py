@@ -107,7 +107,7 @@ def check_answers(bench: Bench, oracle: Desk) -> None:
             bench.checks.same(f"desk {desk.name}: {target}", found[target], digest)
     words = ["--at", moments[0], "--at", moments[1]]
     status, said = bench.compare("answers", str(bench.files.roster), *bench.addresses(), *words)
-    bench.checks.same(f"compare-desks.py answers: {said}", status, 0)
+    bench.checks.same(f"desk-compare answers: {said}", status, 0)
     begun = time.monotonic()
     bytes_of = sum(len(oracle.get(f"/v1/hosts/{host}/sudoers")) for host in bench.site.hosts)
     each = (time.monotonic() - begun) / len(bench.site.hosts)
@@ -131,7 +131,7 @@ def wait_for_queues(bench: Bench) -> None:
 def check_queues(bench: Bench) -> None:
     """At the end the check of the queues finds the refused messages, and nothing else."""
     found = bench.check_queues()
-    bench.checks.same("check-queues.py", [line.split()[0] for line in found], ["desk.refused:"])
+    bench.checks.same("desk-check-queues", [line.split()[0] for line in found], ["desk.refused:"])
 
 
 def check_kinds(bench: Bench, wanted: Wanted) -> None:

@@ -10,6 +10,7 @@ from desk_tools import admission, explain, message_faults, roster_faults
 from desk_tools.base_faults import Base, warnings_of
 from desk_tools.found import Fault, Parser, Warning, coded, first_code, visible
 from desk_tools.judge import NoDesk, program
+from desk_tools.outlasting import Grants
 from desk_tools.schema import NoJsonschema
 from desk_tools.site import Site
 from desk_tools.warnings import Warnings
@@ -87,8 +88,9 @@ def look_at_base(name: str, data: bytes, desk: str) -> Looked:
     return looked
 
 
-def look_at_messages(name: str, data: bytes, site: Site | None) -> Looked:
+def look_at_messages(name: str, data: bytes, site: Site | None, today: str) -> Looked:
     looked = Looked(name, "messages")
+    grants = Grants(site, today) if site is not None else None
     lines = message_faults.lines_of(data)
     looked.count = len(lines)
     if len(lines) > 1 and (folded := message_faults.folded(data)) is not None:
@@ -100,10 +102,14 @@ def look_at_messages(name: str, data: bytes, site: Site | None) -> Looked:
         faults = message.look()
         if site is not None and not faults:
             faults = admission.Admission(site, message.value, line).look()
+        if grants is not None and not faults:
+            grants.add(line, message.value)
         code = first_code(faults)
         if code is not None:
             looked.answers[line] = code
         looked.faults += sorted(faults)
+    if grants is not None:
+        looked.warnings = grants.warnings()
     return looked
 
 
@@ -136,7 +142,7 @@ def parser() -> argparse.ArgumentParser:
     )
     found.add_argument("--json", action="store_true", help="print what is found as JSON")
     found.add_argument("--strict", action="store_true", help="warnings end with status 1")
-    found.add_argument("--roster", metavar="ROSTER", help="whether this roster admits the messages, too")
+    found.add_argument("--roster", metavar="ROSTER", help="whether this roster admits the messages, and which grants outlast their asker")
     found.add_argument("--base", action="store_true", help="each FILE is a base policy, whatever its name")
     found.add_argument("--desk", metavar="PROGRAM", help="the program desk, which judges bases (the one on the path)")
     found.add_argument("--on", metavar="DAY", help="warn as on this day, yyyymmdd, in UTC (today)")
@@ -164,7 +170,7 @@ def lint(said: argparse.Namespace) -> int:
         elif kind == "roster":
             looked.append(look_at_roster(name, data, today))
         else:
-            looked.append(look_at_messages(name, data, site))
+            looked.append(look_at_messages(name, data, site, today))
     if said.json:
         told = json.dumps({"files": [it.as_data() for it in looked]}, indent=2)
         # (JSON may have this one byte as it stands)

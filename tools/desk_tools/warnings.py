@@ -14,6 +14,7 @@ from desk_tools.toml_text import Document, Path
 
 MOST_DAYS = 4
 MOST_OTHERS = 8
+MANY_HOSTS = 5
 LINKED = re.compile(r"/(?:s?bin|lib(?:32|64|x32)?)/")
 TABLE = os.path.join(os.path.dirname(os.path.abspath(__file__)), "runs_others.toml")
 
@@ -103,7 +104,10 @@ class Warnings:
             self.add(("ceilings", label), "approvers", f"{days}: {what}" if days else what)
 
     def commands(self, label: str) -> None:
-        for place, text in enumerate(self.site.ceilings[label]["commands"]):
+        ceiling = self.site.ceilings[label]
+        for place, text in enumerate(ceiling["commands"]):
+            if command(text).kind == "all" and ceiling["needs"] == 1:
+                self.everything(label, place)
             path, why = ("ceilings", label, "commands", place), risk(command(text))
             if why is not None:
                 self.add(path, "runs-others", f"{text}: {why}")
@@ -111,6 +115,15 @@ class Warnings:
                 self.add(path, "real-path", f"{text}: {link}")
             if seems_directory(text):
                 self.add(path, "directory", f"{text}: {without_slash(text)}")
+
+    def everything(self, label: str, place: int) -> None:
+        """All commands on many hosts, for one approval."""
+        ceiling = self.site.ceilings[label]
+        count = len({*ceiling["hosts"]})
+        if count >= MANY_HOSTS:
+            who = " and ".join(sorted({*ceiling["runas"]})[:MOST_OTHERS])
+            said = f"ALL as {who} on {count} hosts for one approval: one approver's key, with any asker's, is {who} on all of them; let two approve, or name hosts or commands"
+            self.add(("ceilings", label, "commands", place), "wide", said)
 
     def approvers(self) -> None:
         """Somebody whose approval counts on none of the days on which the duty is held."""
