@@ -63,7 +63,9 @@ start() {
     return 1
 }
 halt() {
-    [ ! -e /run/nginx.pid ] || nginx -s stop
+    # (`nginx -t` leaves an empty one)
+    [ -s /run/nginx.pid ] || return 0
+    nginx -s stop
     for _ in $(seq 600); do [ -e /run/nginx.pid ] || break; sleep 0.1; done
 }
 relay() { # a job of the relay's
