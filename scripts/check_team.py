@@ -20,7 +20,7 @@ import time
 
 import check_runbooks
 import desk
-from check_runbooks import BOOK, PROGRAM, STAND_INS, Room, blocks
+from check_runbooks import BOOK, PROGRAM, STAND_INS, Room
 from package_test import furnish
 
 TEXT = desk.read("docs", "TEAM.md")
@@ -68,8 +68,9 @@ def prepare(room: Room) -> None:
     """A machine on which nothing of the desk is installed, and the accounts of its people."""
     os.mkdir(room.path(BOOK))
     units = STAND_INS["systemctl"].replace("case $* in\n", UNITS)
+    units = units.replace("/usr/local/bin/desk-serve", "/usr/libexec/steelnewt/desk-serve")
     for name, text in (
-        ("systemctl", units.replace("/usr/local/bin/desk-serve", "/usr/libexec/steelnewt/desk-serve")),
+        ("systemctl", units),
         ("apt", APT),
         ("ssh", STAND_INS["ssh"].replace("db1", "prod1")),
         ("py3compile", "#!/bin/sh\n"),
@@ -118,7 +119,8 @@ class Page:
             person, _, words = line.partition("$ ")
             account = f"setpriv --reuid {person} --regid {person} --init-groups"
             # (the real ssh)
-            ran.append(self.room.run(f"HOME=/home/{person} {account} env PATH=/usr/bin:/bin {words}"))
+            typed = f"env HOME=/home/{person} PATH=/usr/bin:/bin {words}"
+            ran.append(self.room.run(f"{account} {typed}"))
         return ran
 
 
@@ -151,7 +153,8 @@ def asked(page: Page, room: Room) -> None:
     room.holds("people's keys", done.returncode == 0 and "ben may call" in done.stdout, done)
     room.holds("the lines of ~/.ssh/config", all(it.strip() in TEXT for it in SSH.splitlines()))
     ceilings, ask, waiting, approved = page.people()
-    may = [it for it in ("dev", "test", "prod", "emergency") if f"\n{it}\n" in f"\n{ceilings.stdout}"]
+    names = ("dev", "test", "prod", "emergency")
+    may = [it for it in names if f"\n{it}\n" in f"\n{ceilings.stdout}"]
     room.holds("what ann may ask", may == ["dev", "test", "prod"], ceilings)
     room.holds("ann asks", ask.returncode == 0 and "Kept as ann 1." in ask.stdout, ask)
     room.holds("why", "ticket OPS-7" in waiting.stdout, waiting)

@@ -8,7 +8,7 @@ import signal
 import tempfile
 import time
 from collections.abc import Iterator
-from contextlib import contextmanager
+from contextlib import contextmanager, suppress
 from dataclasses import dataclass
 from typing import NamedTuple
 
@@ -92,6 +92,9 @@ class Desk:
 
     def start(self, text: bytes) -> None:
         """Starts the service, and waits until it answers with the roster's digest."""
+        with suppress(Failed):
+            # (systemd starts a unit only so often in a while, and counts anew from here)
+            self.systemctl("reset-failed")
         self.systemctl("start")
         until = time.monotonic() + PATIENCE
         while (found := served.serves(self.settings.address)) is None:
@@ -220,11 +223,11 @@ def change(desk: Desk, journal: Journal, new: bytes, shown: Compared) -> Pending
             same_again(desk, pending, new, shown)
             pending = journal.put(pending._replace(stage="agreed"))
             go_on(desk, journal, pending, new)
-        except (Failed, OSError, Ended) as fault:
+        except Exception as fault:
             with without_signals():
                 try:
                     go_back(desk, journal, journal.pending() or pending)
-                except (Failed, OSError) as worse:
+                except Exception as worse:
                     raise Halfway(f"{fault}; and it does not go back: {worse}") from None
             raise
     return pending
@@ -298,7 +301,7 @@ def repair(desk: Desk, journal: Journal, pending: Pending) -> bool:
                 if desk.belongs(new):
                     go_on(desk, journal, pending, new)
                     return True
-            except (Failed, OSError):
+            except Exception:  # whatever it is, the old state is the other way out
                 pass
         go_back(desk, journal, journal.pending() or pending)
     return False

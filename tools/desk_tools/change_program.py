@@ -145,6 +145,8 @@ def main(words: list[str]) -> int:
         why = f"{fault}: all is as before"
     except OSError as fault:
         why = f"{fault.filename}: {fault.strerror}: all is as before"
+    except (ValueError, KeyError) as fault:
+        why = f"a program says something else than is expected: {fault}: all is as before"
     except KeyboardInterrupt:
         why = "all is as before"
     print(f"desk-change-roster: {visible(why)}", file=sys.stderr)

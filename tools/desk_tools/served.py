@@ -51,7 +51,10 @@ def settings(path: str) -> Settings:
     for line in lines:
         name, equals, value = line.strip().partition("=")
         if equals and name in found:
-            found[name] = "".join(shlex.split(value)[:1])
+            try:
+                found[name] = "".join(shlex.split(value)[:1])
+            except ValueError as fault:
+                raise Failed(f"{path}: {name}: {fault}") from None
     if found["STORE"] == "-":
         raise Failed(f"{path}: the desk has no store, so its roster needs no rebuild")
     return Settings(*(found[name] for name in DEFAULTS))

@@ -268,7 +268,8 @@ class Reader:
         return Node("value", read, at), found.end()
 
     def array(self, at: int, depth: int) -> tuple[Node, int]:
-        began, items, rest = at, [], at + 1
+        began, rest = at, at + 1
+        items: list[Node] = []
         while True:
             start = self.skip(BLANK, rest)
             if self.text.startswith("]", start):
