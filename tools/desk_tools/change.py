@@ -250,6 +250,11 @@ def text_of(path: str) -> bytes:
 def go_back(desk: Desk, journal: Journal, pending: Pending) -> None:
     """The old roster and the store as it was, with what came since, and the desk is started."""
     old = text_of(pending.path("old.toml"))
+    is_untouched = pending.stage == "begun" and not os.path.exists(pending.path("backed-up"))
+    if is_untouched and text_of(desk.roster) == old:
+        desk.start(old)
+        journal.end()
+        return
     is_started = "started" in pending.stage
     pending = journal.put(pending._replace(stage="back, started" if is_started else "back"))
     desk.systemctl("stop")

@@ -171,6 +171,8 @@ def test_a_step_fails(running: Running, step: str) -> None:
     assert ran.returncode == 2 and ran.stderr.endswith(": all is as before\n"), ran
     assert running.serves() == before == digest(running.roster) and not running.pending()
     assert running.messages() == messages and running.dated() == []
+    left = sorted(it.name for it in (running.folder / "etc").iterdir())
+    assert left == ["base.sudo", "roster.toml", "serve.conf"]
     assert running.ask("GET", f"/v1/grants/{moment(0)}").startswith("ann 7 ")
 
 
