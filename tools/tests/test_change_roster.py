@@ -199,6 +199,18 @@ def test_killed(running: Running, point: tuple[str, str]) -> None:
     assert running.dated() == ([new.read_text()] if is_new else [])
 
 
+def test_somebody_ends_it(running: Running) -> None:
+    """A signal is a fault like others: it goes back, and whatever is typed then does not end it."""
+    asked(running)
+    messages, before = running.messages(), running.serves()
+    (running.folder / "kill").write_text("before start")
+    (running.folder / "signal").write_text("TERM")
+    ran = running.change(running.new(WITH_KIM), "--yes")
+    assert ran.returncode == 2 and "ended by SIGTERM: all is as before" in ran.stderr, ran
+    assert running.serves() == before == digest(running.roster) and not running.pending()
+    assert running.messages() == messages and running.dated() == []
+
+
 def test_a_relay_posts_meanwhile(running: Running) -> None:
     """Two changes, one of them killed at any moment: each word that the relay confirmed comes to
     the desk once, and nobody is asked again."""
