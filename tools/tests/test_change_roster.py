@@ -153,7 +153,7 @@ def test_what_comes_meanwhile_is_looked_at(running: Running) -> None:
         said += call.stdout.read(1)
     assert "No grant changes from now on." in said
     revoked(running)
-    _, fault = call.communicate("y\n", timeout=120)
+    _, fault = call.communicate("y\n", timeout=300)
     assert call.returncode == 2 and "look again: all is as before" in fault, fault
     assert running.serves() == before and not running.pending() and running.dated() == []
     assert len(running.messages()) == 3 and running.ask("GET", f"/v1/grants/{moment(0)}") == ""
@@ -237,13 +237,13 @@ def test_a_relay_posts_meanwhile(running: Running) -> None:
             if number % 2:
                 time.sleep(chance.uniform(0.5, 6))
                 call.kill()
-            call.wait(timeout=120)
+            call.wait(timeout=300)
             if number % 2:
                 assert running.change(new, "--yes").returncode == 0
             assert running.serves() == digest(new)
     finally:
         is_over.set()
-        thread.join(timeout=120)
+        thread.join(timeout=300)
     until(lambda: all(state != "kept" for _, state in running.kept()), "it is still kept")
     there = [json.loads(it) for it in running.messages()]
     names = [f"{it['by']} {it['no']}" for it in there]
