@@ -117,6 +117,9 @@ class Directory:
             found += UNIT.format(dn=f"cn={group},dc=site", kind="groupOfNames", rest=rest)
         rest = "cn: none\ngidNumber: 700\n"
         found += UNIT.format(dn="cn=none,dc=site", kind="posixGroup", rest=rest)
+        # (a directory that gives a list in parts names them so, as member;range=0-1499)
+        rest = "cn: part\nmember: uid=ann,dc=site\nmember;lang-en: uid=kim,dc=site\n"
+        found += UNIT.format(dn="cn=part,dc=site", kind="groupOfNames", rest=rest)
         rest = "cn: nested\nmember: cn=dba,dc=site\n"
         return found + UNIT.format(dn="cn=nested,dc=site", kind="groupOfNames", rest=rest)
 
@@ -217,6 +220,7 @@ def test_what_is_refused(room: Room, directory: Directory) -> None:
     refused(room, by_ldap(directory, "odd"), "no roster has such a name: 'Zoë'")
     refused(room, by_ldap(directory, "none"), "its source names nobody")
     refused(room, by_ldap(directory, "nobody"), "No such object")
+    refused(room, by_ldap(directory, "part"), "it gives only a part .member;lang-en.")
     refused(room, by_ldap(directory, "nested"), "cn=dba,dc=site: it has 0 of uid, and not one")
     refused(room, by_ldap(directory).replace("operate-db", "operate"), "the roster has no such")
     refused(room, by_ldap(directory).replace(directory.url, "ldap://site"), "whoever is on the w")
