@@ -134,6 +134,7 @@ pages: build/desk
 	python3 scripts/check_readme.py
 	python3 scripts/check_documents.py
 	python3 scripts/check_runbooks.py
+	python3 scripts/check_team.py
 
 package-test: build/desk build/desk-audit
 	bash scripts/deb.sh

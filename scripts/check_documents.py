@@ -1,8 +1,8 @@
 #!/usr/bin/env python3
 """Runs the commands of docs/STORE.md, HTTP.md, AUDITING.md, USED.md, EVIDENCE.md, CONTROLS.md and
 OPERATING.md ('By hand') as they stand there, over build/desk or the program that DESK names, and
-compares what these pages say that they print. It needs Debian's packages sqlite3, curl, jq and sudo
-(visudo)."""
+compares what these pages say that they print, and the words that CHANGING.md and PEOPLE.md name. It
+needs Debian's packages sqlite3, curl, jq and sudo (visudo)."""
 
 from __future__ import annotations
 
@@ -318,6 +318,26 @@ def used(page: Page) -> None:
     page.holds("the options", options - {"--help"} == named, (options, named))
 
 
+def changing(page: Page) -> None:
+    options = set(re.findall(r"--[a-z][a-z-]*", page.out("tools/desk-change-roster --help")))
+    named = set(re.findall(r"--[a-z][a-z-]*", page.text.split("## Its words")[1]))
+    page.holds("the options", options - {"--help"} == named, (options, named))
+
+
+def people(page: Page) -> None:
+    """The settings are those that the program knows, and so are the words."""
+    options = set(re.findall(r"--[a-z][a-z-]*", page.out("tools/desk-roster --help")))
+    named = set(re.findall(r"--[a-z][a-z-]*", page.text.split("## Its words")[1]))
+    page.holds("the options", options - {"--help"} == named, (options, named))
+    (block,) = page.blocks("toml")
+    with open(os.path.join(page.folder, "people.toml"), "w", encoding="utf-8") as file:
+        file.write(block)
+    words = "tools/desk-roster examples/team.toml --people people.toml --conf none"
+    said = page.run(words)
+    page.holds("the settings", "duties.operate-db" in said.stderr or "ldap" in said.stderr, said)
+    page.holds("no unknown key", "unknown key" not in said.stderr, said)
+
+
 def evidence(page: Page) -> None:
     made, _ = page.blocks()
     (wanted,) = page.blocks("")
@@ -369,6 +389,8 @@ def pages() -> Iterator[Page]:
         ("AUDITING.md", auditing),
         ("USED.md", used),
         ("EVIDENCE.md", evidence),
+        ("CHANGING.md", changing),
+        ("PEOPLE.md", people),
         ("CONTROLS.md", controls),
         ("OPERATING.md", operating),
     ):

@@ -1,6 +1,7 @@
 #!/usr/bin/env python3
 """Follows docs/TEAM.md line by line over build/desk, or the program that DESK names, and compares
-what the page says of it: from the packages to a grant on a host, its audit and a new roster.
+what the page says of it: from the packages to a grant on a host, its audit and a new roster. Then
+people come from a table, by the lines of docs/PEOPLE.md.
 
 It is done in a root of its own, as scripts/check_runbooks.py does. `apt install` puts in place what
 the packages would, by their lists of files and their scripts; `systemctl` and `ssh prod1` are
@@ -20,7 +21,7 @@ import time
 
 import check_runbooks
 import desk
-from check_runbooks import BOOK, PROGRAM, STAND_INS, Room, blocks
+from check_runbooks import BOOK, PROGRAM, STAND_INS, Room
 from package_test import furnish
 
 TEXT = desk.read("docs", "TEAM.md")
@@ -68,8 +69,9 @@ def prepare(room: Room) -> None:
     """A machine on which nothing of the desk is installed, and the accounts of its people."""
     os.mkdir(room.path(BOOK))
     units = STAND_INS["systemctl"].replace("case $* in\n", UNITS)
+    units = units.replace("/usr/local/bin/desk-serve", "/usr/libexec/steelnewt/desk-serve")
     for name, text in (
-        ("systemctl", units.replace("/usr/local/bin/desk-serve", "/usr/libexec/steelnewt/desk-serve")),
+        ("systemctl", units),
         ("apt", APT),
         ("ssh", STAND_INS["ssh"].replace("db1", "prod1")),
         ("py3compile", "#!/bin/sh\n"),
@@ -118,7 +120,8 @@ class Page:
             person, _, words = line.partition("$ ")
             account = f"setpriv --reuid {person} --regid {person} --init-groups"
             # (the real ssh)
-            ran.append(self.room.run(f"HOME=/home/{person} {account} env PATH=/usr/bin:/bin {words}"))
+            typed = f"env HOME=/home/{person} PATH=/usr/bin:/bin {words}"
+            ran.append(self.room.run(f"{account} {typed}"))
         return ran
 
 
@@ -151,7 +154,8 @@ def asked(page: Page, room: Room) -> None:
     room.holds("people's keys", done.returncode == 0 and "ben may call" in done.stdout, done)
     room.holds("the lines of ~/.ssh/config", all(it.strip() in TEXT for it in SSH.splitlines()))
     ceilings, ask, waiting, approved = page.people()
-    may = [it for it in ("dev", "test", "prod", "emergency") if f"\n{it}\n" in f"\n{ceilings.stdout}"]
+    names = ("dev", "test", "prod", "emergency")
+    may = [it for it in names if f"\n{it}\n" in f"\n{ceilings.stdout}"]
     room.holds("what ann may ask", may == ["dev", "test", "prod"], ceilings)
     room.holds("ann asks", ask.returncode == 0 and "Kept as ann 1." in ask.stdout, ask)
     room.holds("why", "ticket OPS-7" in waiting.stdout, waiting)
@@ -179,6 +183,24 @@ def audited(page: Page, room: Room) -> None:
     room.holds(f"it has at most {MOST} bytes", size <= MOST, size)
 
 
+def from_a_table(room: Room) -> None:
+    """The lines of docs/PEOPLE.md: fred joins, and lena is not in the table any more."""
+    names = ("ann", "ben", "carol", "eric", "fred")
+    room.write("/etc/desk/people.csv", "person,duty\n" + "".join(f"{it},operate\n" for it in names))
+    room.write("/etc/desk/people.toml", '[duties.operate]\ncsv = "/etc/desk/people.csv"\n')
+    (block,) = re.findall(r"^```sh\n(.*?)^```$", desk.read("docs", "PEOPLE.md"), re.M | re.S)
+    today = time.strftime("%Y%m%d", time.gmtime())
+    done = room.run('yes | bash -c "$BLOCK"', BLOCK=block)
+    shown = f'+fred = [{{ duty = "operate", from = "{today}", until = "20991231" }}]' in done.stdout
+    room.holds("a diff, and the grants", shown and "No grant changes" in done.stdout, done)
+    served = room.read("/etc/desk/roster.toml")
+    left = f'lena = [{{ duty = "operate", from = "20260101", until = "{today}" }}]\n' in served
+    room.holds("who left, and who joined", left and "\nfred = " in served, served)
+    room.holds("the rest", "# development: half a day of everything\n" in served, served)
+    digest = room.run("sha256sum < /etc/desk/roster.toml").stdout.split()[0]
+    room.holds("the desk has it", room.text("/v1/count").split()[1] == digest, done)
+
+
 def inside() -> None:
     subprocess.run(["ip", "link", "set", "lo", "up"], check=True)
     with tempfile.TemporaryDirectory() as folder:
@@ -190,10 +212,11 @@ def inside() -> None:
                 began = time.monotonic()
                 part(page, room)
                 print(f"{part.__name__}: {time.monotonic() - began:.1f} s", flush=True)
+            from_a_table(room)
             room.run("systemctl stop desk; systemctl stop nginx; kill $(cat /run/relay-*.pid)")
         finally:
             subprocess.run(["umount", "--lazy", folder], check=True)
-    print(f"docs/TEAM.md: {room.tried} checks, {room.wrong} wrong")
+    print(f"docs/TEAM.md and PEOPLE.md: {room.tried} checks, {room.wrong} wrong")
     sys.exit(1 if room.wrong else 0)
 
 

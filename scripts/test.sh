@@ -80,7 +80,7 @@ front() {
 pages() {
     python3 scripts/make_pages.py build/pages && python3 scripts/check_pages.py &&
         python3 scripts/check_readme.py && python3 scripts/check_documents.py &&
-        python3 scripts/check_runbooks.py
+        python3 scripts/check_runbooks.py && python3 scripts/check_team.py
 }
 
 package_test() {

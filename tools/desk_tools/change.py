@@ -8,7 +8,7 @@ import signal
 import tempfile
 import time
 from collections.abc import Iterator
-from contextlib import contextmanager
+from contextlib import contextmanager, suppress
 from dataclasses import dataclass
 from typing import NamedTuple
 
@@ -69,17 +69,6 @@ class Desk:
     def systemctl(self, verb: str) -> None:
         served.run(["systemctl", verb, self.service])
 
-    def belongs(self, text: bytes) -> bool:
-        """Whether the store, which nobody serves, is the desk of a roster."""
-        words = [self.desk, "review", self.stage(text), self.settings.base, self.settings.store]
-        try:
-            served.run([*words, stamp(int(time.time()))], owner=self.settings.store)
-        except Failed as fault:
-            if "K1" in str(fault):
-                return False
-            raise
-        return True
-
     def rebuild(self, text: bytes, journal: Journal) -> None:
         """(The lock is the rebuild's, too: if this program is killed, the next one waits.)"""
         words = [self.desk, "rebuild", self.stage(text), self.settings.base, self.settings.store]
@@ -92,6 +81,9 @@ class Desk:
 
     def start(self, text: bytes) -> None:
         """Starts the service, and waits until it answers with the roster's digest."""
+        with suppress(Failed):
+            # (systemd starts a unit only so often in a while, and counts anew from here)
+            self.systemctl("reset-failed")
         self.systemctl("start")
         until = time.monotonic() + PATIENCE
         while (found := served.serves(self.settings.address)) is None:
@@ -130,11 +122,12 @@ def compare(desk: Desk, new: bytes, folder: str, now: str) -> Compared:
         for path, text in zip(paths, (old, new), strict=True):
             with open(path, "wb") as file:
                 file.write(text)
-        before = served.audit(desk.audit, paths[0], base, copy, told)
         began = time.monotonic()
-        served.run([desk.desk, "rebuild", paths[1], base, copy])
+        rebuilt = served.copy_of(copy, os.path.join(room, "rebuilt.db"))
+        served.run([desk.desk, "rebuild", paths[1], base, rebuilt])
         took = time.monotonic() - began
-        after = served.audit(desk.audit, paths[1], base, copy, told)
+        questions = [(paths[0], copy), (paths[1], rebuilt)]
+        before, after = served.audits(desk.audit, base, questions, told, now)
     found = changes.compare(before, after, now, people_of(new))
     return Compared(now, old, digest(told), found, sorted(hosts_of(old) - hosts_of(new)), took)
 
@@ -190,9 +183,9 @@ def same_again(desk: Desk, pending: Pending, new: bytes, shown: Compared) -> Non
         told = served.messages(copy)
         if digest(told) == shown.messages:
             return
-        paths = pending.path("old.toml"), pending.path("new.toml")
-        before = served.audit(desk.audit, paths[0], desk.settings.base, copy, told)
-    after = served.audit(desk.audit, paths[1], desk.settings.base, desk.settings.store, told)
+        base, store = desk.settings.base, desk.settings.store
+        questions = [(pending.path("old.toml"), copy), (pending.path("new.toml"), store)]
+        before, after = served.audits(desk.audit, base, questions, told, shown.now)
     if changes.compare(before, after, shown.now, people_of(new)) != shown.found:
         raise Failed("what came meanwhile makes it another change: look again")
 
@@ -220,11 +213,13 @@ def change(desk: Desk, journal: Journal, new: bytes, shown: Compared) -> Pending
             same_again(desk, pending, new, shown)
             pending = journal.put(pending._replace(stage="agreed"))
             go_on(desk, journal, pending, new)
-        except (Failed, OSError, Ended) as fault:
+        except Exception as fault:
             with without_signals():
                 try:
-                    go_back(desk, journal, journal.pending() or pending)
-                except (Failed, OSError) as worse:
+                    # (nothing is pending where it had come to its end)
+                    begun = journal.pending() or pending._replace(stage="started")
+                    go_back(desk, journal, begun)
+                except Exception as worse:
                     raise Halfway(f"{fault}; and it does not go back: {worse}") from None
             raise
     return pending
@@ -247,11 +242,16 @@ def text_of(path: str) -> bytes:
 def go_back(desk: Desk, journal: Journal, pending: Pending) -> None:
     """The old roster and the store as it was, with what came since, and the desk is started."""
     old = text_of(pending.path("old.toml"))
+    is_untouched = pending.stage == "begun" and not os.path.exists(pending.path("backed-up"))
+    if is_untouched and text_of(desk.roster) == old:
+        desk.start(old)
+        journal.end()
+        return
     is_started = "started" in pending.stage
     pending = journal.put(pending._replace(stage="back, started" if is_started else "back"))
     desk.systemctl("stop")
     try:
-        if not desk.belongs(old):
+        if recorded(desk, journal.folder) != old:
             desk.rebuild(old, journal)
     except Failed as fault:
         bring_back(desk, pending, fault)
@@ -295,10 +295,10 @@ def repair(desk: Desk, journal: Journal, pending: Pending) -> bool:
         desk.systemctl("stop")
         if pending.stage in ("agreed", "started"):
             try:
-                if desk.belongs(new):
+                if recorded(desk, journal.folder) == new:
                     go_on(desk, journal, pending, new)
                     return True
-            except (Failed, OSError):
+            except Exception:  # whatever it is, the old state is the other way out
                 pass
         go_back(desk, journal, journal.pending() or pending)
     return False

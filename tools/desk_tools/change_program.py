@@ -12,6 +12,7 @@ from desk_tools.change import Compared, Desk, Ended, Halfway
 from desk_tools.found import Parser, visible
 from desk_tools.journal import Journal
 from desk_tools.judge import NoDesk, program
+from desk_tools.schema import NoJsonschema
 from desk_tools.served import Failed, digest
 from desk_tools.use import stamp
 
@@ -143,8 +144,12 @@ def main(words: list[str]) -> int:
         why, status = f"{fault}. Run it again, or see the backup in {said.keep}", HALFWAY
     except (Failed, NoDesk, evidence.Failed, Ended) as fault:
         why = f"{fault}: all is as before"
+    except NoJsonschema:
+        why = "it needs Debian's package python3-jsonschema: all is as before"
     except OSError as fault:
         why = f"{fault.filename}: {fault.strerror}: all is as before"
+    except (ValueError, KeyError) as fault:
+        why = f"a program says something else than is expected: {fault}: all is as before"
     except KeyboardInterrupt:
         why = "all is as before"
     print(f"desk-change-roster: {visible(why)}", file=sys.stderr)

@@ -104,6 +104,8 @@ def main(words: list[str]) -> int:
         why = str(fault)
     except NoJsonschema:
         why = "it needs Debian's package python3-jsonschema"
+    except (ValueError, KeyError, TypeError) as fault:
+        why = f"something else is there than is expected: {fault}"
     except OSError as fault:
         why = f"{fault.filename}: {fault.strerror}"
     print(f"desk-roster: {visible(why)}: nothing is changed", file=sys.stderr)

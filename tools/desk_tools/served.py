@@ -51,7 +51,10 @@ def settings(path: str) -> Settings:
     for line in lines:
         name, equals, value = line.strip().partition("=")
         if equals and name in found:
-            found[name] = "".join(shlex.split(value)[:1])
+            try:
+                found[name] = "".join(shlex.split(value)[:1])
+            except ValueError as fault:
+                raise Failed(f"{path}: {name}: {fault}") from None
     if found["STORE"] == "-":
         raise Failed(f"{path}: the desk has no store, so its roster needs no rebuild")
     return Settings(*(found[name] for name in DEFAULTS))
@@ -168,17 +171,42 @@ def run(words: Sequence[str], keep: tuple[int, ...] = (), owner: str | None = No
     return str(ran.stdout.decode("utf-8", "replace"))
 
 
-def audit(program: str, roster: str, base: str, store: str, told: bytes) -> dict[str, Any]:
+def copy_of(copy: str, target: str) -> str:
+    """A copy of a copy of a store."""
+    for path in parts(copy):
+        shutil.copyfile(path, target + path.removeprefix(copy))
+    return target
+
+
+def names(told: dict[str, Any]) -> set[tuple[str, int]]:
+    return {(it["by"], it["no"]) for it in told["names"]}
+
+
+def audits(
+    program: str, base: str, questions: list[tuple[str, str]], told: bytes, now: str
+) -> list[dict[str, Any]]:
+    """What desk-audit tells of stores with these messages, each with its roster: about the names
+    with a window from now on, if these are the same for all, else about every name."""
+    since = ["--from", now]
+    found = [audit(program, roster, base, store, told, since) for roster, store in questions]
+    if any(names(it) != names(found[0]) for it in found):
+        found = [audit(program, roster, base, store, told, []) for roster, store in questions]
+    return found
+
+
+def audit(
+    program: str, roster: str, base: str, store: str, told: bytes, more: list[str]
+) -> dict[str, Any]:
     """What desk-audit tells of a store with these messages.
 
     It is asked about the messages alone, which is quick; what the roster does not admit of them
     is left out there, so then it is asked about the store."""
-    words = [program, roster, base, "-", "--json"]
+    words = [program, roster, base, "-", "--json", *more]
     ran = subprocess.run(words, input=told, capture_output=True, check=False)
     if ran.returncode == 0 and not ran.stderr:
         found = json.loads(ran.stdout)
     else:
-        found = json.loads(run([program, roster, base, store, "--json"]))
+        found = json.loads(run([program, roster, base, store, "--json", *more]))
     if not isinstance(found, dict):
         raise Failed("desk-audit prints something else than is expected")
     return found

@@ -268,8 +268,8 @@ class Reader:
         return Node("value", read, at), found.end()
 
     def array(self, at: int, depth: int) -> tuple[Node, int]:
-        items: list[Node] = []
         began, rest = at, at + 1
+        items: list[Node] = []
         while True:
             start = self.skip(BLANK, rest)
             if self.text.startswith("]", start):

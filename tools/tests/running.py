@@ -19,6 +19,7 @@ from tests.conftest import ROOT
 sys.path.insert(0, ROOT)
 
 from desk_tools import served  # noqa: E402
+from desk_tools.evidence import program_beside  # noqa: E402
 
 PROGRAM = os.path.join(ROOT, "tools", "desk-change-roster")
 RELAY = os.path.join(ROOT, "relays", "desk-relay")
@@ -70,8 +71,7 @@ class Running:
         shutil.copy(os.path.join(ROOT, "tools", "tests", "systemctl.sh"), folder / "bin/systemctl")
         self.desk = folder / "bin" / "desk"
         self.desk.write_text(WRAPPER)
-        audit = os.path.join(os.path.dirname(desk), os.path.basename(desk).replace("desk", "desk-audit", 1))
-        (folder / "bin" / "desk-audit").symlink_to(audit)
+        (folder / "bin" / "desk-audit").symlink_to(program_beside(desk))
         for name in ("systemctl", "desk"):
             (folder / "bin" / name).chmod(0o755)
         self.conf = folder / "etc" / "serve.conf"

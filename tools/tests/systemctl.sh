@@ -1,14 +1,15 @@
 #!/bin/bash
 # What systemd would do of desk.service, in a test: stops and starts packaging/desk-serve of the
 # folder that ROOM names. A file `kill` there says before or behind which verb the program that
-# asks is killed (as `before stop`), and a file `fail` which verb fails.
+# asks is killed (as `before stop`), by the signal of a file `signal`; and a file `fail` which verb
+# fails.
 set -u
 pid=$ROOM/pid log=$ROOM/desk.log
 runs() { [ "$(ps -o stat= -p "$1" | cut -c 1)" != Z ] && kill -0 "$1" 2> /dev/null; }
 killed() {
     [ "$(cat "$ROOM/kill" 2> /dev/null)" = "$1" ] || return 0
     rm "$ROOM/kill"
-    kill -KILL "$PPID"
+    kill "-$(cat "$ROOM/signal" 2> /dev/null || echo KILL)" "$PPID"
 }
 stop() {
     [ -e "$pid" ] || return 0

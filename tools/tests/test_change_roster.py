@@ -13,9 +13,11 @@ import threading
 import time
 from collections.abc import Iterator
 from pathlib import Path
+from typing import Any
 
 import pytest
 
+from desk_tools import changes
 from tests.running import Running, until
 
 # a person is struck out, and another one joins
@@ -95,12 +97,42 @@ def test_rights_come_back(running: Running) -> None:
     assert "Rights come back. Change the roster and restart the desk?" in ran.stdout, ran
     assert ran.returncode == 0, ran
     assert running.ask("GET", f"/v1/grants/{moment(0)}").startswith("ann 7 ")
-    # an earlier roster did not admit it: so it comes back, too
-    shorter = running.new(("longest = 7200", "longest = 3600"))
-    assert running.change(shorter, "--yes").returncode == 0
-    longer = running.new(("longest = 3600", "longest = 7200"))
-    ran = running.change(longer, "--show")
-    assert ran.returncode == 0 and "GIVEN BACK" in ran.stdout and "lapsed (A7 WindowTooLong), then granted" in ran.stdout, ran
+
+
+REQUEST = {"runas": "root", "hosts": ["db1"], "ceiling": "db-care", "cmnds": ["/usr/bin/id"]}
+
+
+def entry(status: str, first: str = "", last: str = "", **more: Any) -> dict[str, Any]:
+    """What desk-audit tells of ann 7, with a window from the one hour to the other."""
+    found = {"by": "ann", "no": 7, "status": status, "verdicts": [], **more}
+    if first:
+        found["window"] = {"from": f"20260105{first}0000Z", "until": f"20260105{last}0000Z"}
+    return found | {"requests": [REQUEST | {"until": "20260105120000Z"}]}
+
+
+@pytest.mark.parametrize(
+    ("before", "after", "kind"),
+    [
+        (entry("waiting", lacks=1), entry("granted", "10", "12"), "begins"),
+        (entry("granted", "10", "12"), entry("waiting", lacks=1), "ends"),
+        (entry("granted", "10", "12"), entry("granted", "09", "12"), "grows"),
+        (entry("granted", "10", "12"), entry("granted", "10", "11"), "shrinks"),
+        (entry("granted", "09", "11"), entry("granted", "10", "12"), "moves"),
+        (entry("lapsed", denial="A3 NotAsker"), entry("granted", "10", "12"), "given back"),
+        (entry("waiting", lacks=1), entry("lapsed", denial="A3 NotAsker"), "lapses"),
+        # what is over, or was over before now, is no change
+        (entry("granted", "06", "07"), entry("waiting", lacks=1), None),
+        (entry("granted", "06", "12"), entry("granted", "07", "12"), None),
+        (entry("refused"), entry("waiting", lacks=1), None),
+    ],
+)
+def test_each_kind_of_change(
+    before: dict[str, Any], after: dict[str, Any], kind: str | None
+) -> None:
+    now = "20260105080000Z"
+    found = changes.compare({"names": [before]}, {"names": [after]}, now, {"ann"})
+    assert [it.kind for it in found] == ([kind] if kind else [])
+    assert changes.is_back(found) == (kind == "given back")
 
 
 def test_what_comes_meanwhile_is_looked_at(running: Running) -> None:
@@ -121,7 +153,7 @@ def test_what_comes_meanwhile_is_looked_at(running: Running) -> None:
         said += call.stdout.read(1)
     assert "No grant changes from now on." in said
     revoked(running)
-    _, fault = call.communicate("y\n", timeout=120)
+    _, fault = call.communicate("y\n", timeout=300)
     assert call.returncode == 2 and "look again: all is as before" in fault, fault
     assert running.serves() == before and not running.pending() and running.dated() == []
     assert len(running.messages()) == 3 and running.ask("GET", f"/v1/grants/{moment(0)}") == ""
@@ -139,6 +171,8 @@ def test_a_step_fails(running: Running, step: str) -> None:
     assert ran.returncode == 2 and ran.stderr.endswith(": all is as before\n"), ran
     assert running.serves() == before == digest(running.roster) and not running.pending()
     assert running.messages() == messages and running.dated() == []
+    left = sorted(it.name for it in (running.folder / "etc").iterdir())
+    assert left == ["base.sudo", "roster.toml", "serve.conf"]
     assert running.ask("GET", f"/v1/grants/{moment(0)}").startswith("ann 7 ")
 
 
@@ -163,6 +197,18 @@ def test_killed(running: Running, point: tuple[str, str]) -> None:
     assert running.serves() == (digest(new) if is_new else old) == digest(running.roster)
     assert running.messages() == messages and not running.pending()
     assert running.dated() == ([new.read_text()] if is_new else [])
+
+
+def test_somebody_ends_it(running: Running) -> None:
+    """A signal is a fault like others: it goes back, and whatever is typed then does not end it."""
+    asked(running)
+    messages, before = running.messages(), running.serves()
+    (running.folder / "kill").write_text("before start")
+    (running.folder / "signal").write_text("TERM")
+    ran = running.change(running.new(WITH_KIM), "--yes")
+    assert ran.returncode == 2 and "ended by SIGTERM: all is as before" in ran.stderr, ran
+    assert running.serves() == before == digest(running.roster) and not running.pending()
+    assert running.messages() == messages and running.dated() == []
 
 
 def test_a_relay_posts_meanwhile(running: Running) -> None:
@@ -191,13 +237,13 @@ def test_a_relay_posts_meanwhile(running: Running) -> None:
             if number % 2:
                 time.sleep(chance.uniform(0.5, 6))
                 call.kill()
-            call.wait(timeout=120)
+            call.wait(timeout=300)
             if number % 2:
                 assert running.change(new, "--yes").returncode == 0
             assert running.serves() == digest(new)
     finally:
         is_over.set()
-        thread.join(timeout=120)
+        thread.join(timeout=300)
     until(lambda: all(state != "kept" for _, state in running.kept()), "it is still kept")
     there = [json.loads(it) for it in running.messages()]
     names = [f"{it['by']} {it['no']}" for it in there]

@@ -5,6 +5,7 @@ from __future__ import annotations
 import os
 import re
 import shutil
+import socket
 import subprocess
 import tomllib
 from collections.abc import Iterator
@@ -14,6 +15,8 @@ from urllib.parse import quote
 
 import pytest
 
+from desk_tools import people
+from desk_tools.directory import Ldap
 from tests.conftest import ROOT
 from tests.running import until
 
@@ -95,7 +98,11 @@ class Directory:
         self.run("slapadd", "-f", str(folder / "slapd.conf"), "-l", str(folder / "site.ldif"))
         words = ["slapd", "-f", str(folder / "slapd.conf"), "-h", self.url, "-d", "0"]
         self.job = subprocess.Popen(words, env=self.environment, stderr=subprocess.DEVNULL)
-        until(lambda: (folder / "ldapi").exists(), "slapd does not listen")
+        until(self.listens, "slapd does not listen")
+
+    def listens(self) -> bool:
+        with socket.socket(socket.AF_UNIX) as peer:
+            return peer.connect_ex(str(self.folder / "ldapi")) == 0
 
     environment = os.environ | {"PATH": f"{os.environ['PATH']}:/usr/sbin"}
 
@@ -110,6 +117,9 @@ class Directory:
             found += UNIT.format(dn=f"cn={group},dc=site", kind="groupOfNames", rest=rest)
         rest = "cn: none\ngidNumber: 700\n"
         found += UNIT.format(dn="cn=none,dc=site", kind="posixGroup", rest=rest)
+        # (a directory that gives a list in parts names them so, as member;range=0-1499)
+        rest = "cn: part\nmember: uid=ann,dc=site\nmember;lang-en: uid=kim,dc=site\n"
+        found += UNIT.format(dn="cn=part,dc=site", kind="groupOfNames", rest=rest)
         rest = "cn: nested\nmember: cn=dba,dc=site\n"
         return found + UNIT.format(dn="cn=nested,dc=site", kind="groupOfNames", rest=rest)
 
@@ -210,6 +220,7 @@ def test_what_is_refused(room: Room, directory: Directory) -> None:
     refused(room, by_ldap(directory, "odd"), "no roster has such a name: 'Zoë'")
     refused(room, by_ldap(directory, "none"), "its source names nobody")
     refused(room, by_ldap(directory, "nobody"), "No such object")
+    refused(room, by_ldap(directory, "part"), "it gives only a part .member;lang-en.")
     refused(room, by_ldap(directory, "nested"), "cn=dba,dc=site: it has 0 of uid, and not one")
     refused(room, by_ldap(directory).replace("operate-db", "operate"), "the roster has no such")
     refused(room, by_ldap(directory).replace(directory.url, "ldap://site"), "whoever is on the w")
@@ -229,6 +240,21 @@ def test_a_directory_that_fails(room: Room, tmp_path: Path) -> None:
     finally:
         found.stop()
     refused(room, by_ldap(found), "Can't contact LDAP server")
+
+
+def test_the_settings_of_the_page() -> None:
+    with open(os.path.join(ROOT, "docs", "PEOPLE.md"), encoding="utf-8") as file:
+        (block,) = re.findall(r"^```toml\n(.*?)^```$", file.read(), re.MULTILINE | re.DOTALL)
+    said = tomllib.loads(block)
+    assert {next(iter(it)) for it in said["duties"].values()} == set(people.SOURCES)
+    Ldap(said["ldap"])
+
+
+def test_settings_that_are_none(room: Room) -> None:
+    refused(room, "[duty.audit]\n", "an unknown key: duty")
+    refused(room, '[duties.audit]\nldpa = "x"\n', "duties.audit: one of ldap, getent, csv, cal")
+    refused(room, '[duties.approve-db]\ncsv = "x"\nurl = "y"\n', "unknown key: duties.approve-")
+    refused(room, '[ends]\nlena = 20260101\n', "ends.lena: a day is yyyymmdd, between quotes")
 
 
 def test_groups_of_the_machine(room: Room) -> None:
