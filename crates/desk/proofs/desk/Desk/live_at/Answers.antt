@@ -15,5 +15,6 @@ returns-clause-live g c =
     let known = c.in_ok-known.ensures.known in
     let answer : (set : List Message) → K.is_up new → Lists (K.holds old) set → AreLive f set c.args.at c.in_ok-list.field-0.items = λ set up lists.
     let same = same_listed (K.holds old) (known up).0 set (known up).1 lists in
-    live_alike f (known up).0 set (alike_sets f (known up).0 set same) c.args.at c.in_ok-list.field-0.items (c.in_ok-list.ensures (known up).0 (known up).2.0) in
+    live_alike f (known up).0 set (alike_sets f (known up).0 set same) c.args.at c.in_ok-list.field-0.items
+    (c.in_ok-list.ensures (known up).0 (known up).2.0) in
     rw (← c.self.view_is) answer
