@@ -349,7 +349,7 @@ def limited_service(count: Count, words: list[str]) -> None:
             count.holds("a service past its file's limit", is_right, replies[-2:])
             service.terminate()
             said = service.stdout.read()
-        is_right = "answered K4 Storage: " in said and "The desk goes on by itself" in said
+        is_right = "answered K4 Storage: " in said and "the desk goes on by itself" in said
         count.holds("its log", is_right and service.returncode == 0, said)
 
 
