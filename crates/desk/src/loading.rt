@@ -1,6 +1,6 @@
 //! What is known of a desk's messages, kept from one call to the next.
 
-ghost use Rattle.std.specs.Prelude.{◌≡◌, ℕ, List, [], ◌∷◌, ◌++◌, IfErr};
+ghost use Rattle.std.specs.Prelude.{◌≡◌, List, [], ◌∷◌, ◌++◌, IfErr};
 ghost use Rattle.std.specs.Prelude.{IfOk, OnOk, IsErr, IfSome, Err, None, Some};
 ghost use Rattle.messages.specs.declared.message.Message.{Message as AnyMessage};
 ghost use Rattle.desk.specs.Count.{IsCount};
