@@ -17,15 +17,16 @@ try:
 demo:
 	V=$(V) bash scripts/demos.sh
 
-# The program on each case of cases/: files, words and inputs, with all that it answers. Then reports of random sets of messages, beside a second
+# The program on each case of cases/: files, words and inputs, with all that it answers. Both of the functions that decide, on 100,000 random invocations. Then reports of random sets of messages, beside a second
 # reading of the rules; and the same of desk-audit.
 cases: desk
 	python3 scripts/cases.py
+	python3 scripts/decisions.py
 	python3 scripts/random_reports.py
 	python3 scripts/cases_audit.py
 	/usr/bin/python3 scripts/random_audits.py
 
-# The whole gate (docs/GATE.md): `rt ci`, which proves everything from nothing, tries the edits that must be refused and runs the tests; then,
+# The whole gate (docs/change/GATE.md): `rt ci`, which proves everything from nothing, tries the edits that must be refused and runs the tests; then,
 # over the program that it left at build/desk, the demo, the cases, peers and faults. What it needs of Debian is installed where this is root; with
 # WHOLE=1 nothing may be left out. Its last line is 'N passed, 0 failed'.
 test:
@@ -35,7 +36,7 @@ test:
 quick:
 	python3 scripts/quick.py
 
-# `rt ci` alone, and what it cost each crate: the table of docs/GATE.md.
+# `rt ci` alone, and what it cost each crate: the table of docs/change/GATE.md.
 gate-times:
 	python3 scripts/gate_times.py
 
@@ -43,7 +44,7 @@ gate-times:
 edits:
 	python3 scripts/edits.py $(CRATES)
 
-# The counts of docs/DEFINITIONS.md, which `make quick` tests; build/edits.md, the edits by promise; and build/definitions.md, each definition that a public clause names.
+# The counts of docs/proof/DEFINITIONS.md, which `make quick` tests; build/edits.md, the edits by promise; and build/definitions.md, each definition that a public clause names.
 docs:
 	python3 scripts/make_docs.py
 
@@ -60,6 +61,7 @@ peers: desk
 	python3 scripts/peers_requests.py
 	python3 scripts/peers_http.py
 	python3 scripts/peers_socket.py
+	python3 scripts/peers_site.py
 	python3 scripts/peers_patience.py
 	python3 scripts/peers_crowd.py
 	python3 scripts/peers_store.py
@@ -70,15 +72,16 @@ peers: desk
 
 # Time and memory: `check` and `decide` beside visudo (Debian's package sudo) on up to 16,001 rules, on 8,000 aliases with 8,000 rules, and on
 # the greatest weight; `print` on 800 and 8,000 requests; `beyond` on 1,000,000 cases; `serve` beside nginx (Debian's package nginx-light) and, over a file, beside `deliver`; `deliver` to a
-# file beside C SQLite (Python's `sqlite3`), and what it costs to open one.
+# file beside C SQLite (Python's `sqlite3`), and what it costs to open one; what is in force beside a million messages; how many messages a second reach three
+# desks (this needs root, as `several` does). All of it runs, also where a row fails.
 bench: desk
-	python3 scripts/bench.py
-	python3 scripts/bench_http.py
-	python3 scripts/bench_store.py
+	status=0; for part in bench bench_http bench_store bench_history; do python3 scripts/$$part.py || status=1; done; \
+	    bash scripts/several.sh --rate || status=1; exit $$status
 
 # The program with each request for memory refused in turn.
 faults: desk
 	python3 scripts/faults.py
+	python3 scripts/allocation_counts.py
 
 # Reads and writes of the program that fail, disks that fill and files that change under it, each place; the program killed 400 times over 20,000 messages; and
 # a million inputs changed at random, each answer beside a second reading. The last line has the counts. `make test` runs a short form of each.

@@ -8,6 +8,7 @@ from datetime import datetime
 import requests
 
 from relays.moments import of_stamp, stamp
+from relays.told import Grant, Name, Told, read_names
 
 # (a connection may wait for others, which the desk serves one after the other)
 LIMITS = (5, 20)
@@ -24,6 +25,11 @@ SHORT = {
     "No such file": "there is no socket at its address",
     "Permission denied": "this account may not open its socket: it is not in the group desk-front",
 }
+# A desk answers so that was not upgraded before this relay, or not started again since.
+TOO_OLD = (
+    "it is older than this relay and cannot tell what became of a request: its operator upgrades"
+    " it and starts it again"
+)
 # How often a line of the report is split, where its last column has blanks.
 SPLITS = {"BROAD": 2, "PARKED": 0}
 
@@ -45,32 +51,11 @@ class Answer:
 
 
 @dataclass(frozen=True)
-class Grant:
-    """A grant in force, as the desk tells it."""
-
-    who: str
-    no: int
-    ceiling: str
-    begins: datetime
-    ends: datetime
-
-
-@dataclass(frozen=True)
 class Review:
     """The report of a moment: the words of each line below its heading."""
 
     at: datetime
     parts: dict[str, list[list[str]]]
-
-    def rows(self, part: str) -> list[list[str]]:
-        return self.parts.get(part, [])
-
-    def barred(self) -> dict[tuple[str, int, str], str]:
-        """Whose approvals do not count, by asker, number and person, and why."""
-        try:
-            return {(who, int(no), person): why for who, no, person, why in self.rows("BARRED")}
-        except ValueError:
-            raise unread("a report") from None
 
 
 Pair = tuple[str, str] | None
@@ -150,6 +135,25 @@ class Desk:
                 Grant(who, int(no), ceiling, of_stamp(first), of_stamp(last))
                 for who, no, ceiling, first, last in rows
             ]
+        except ValueError:
+            raise unread(path) from None
+
+    def names(self, since: datetime) -> dict[Name, Told]:
+        """All names with a window that reaches this moment or a later one."""
+        return self.told(f"/v1/requests/after/{stamp(since)}")
+
+    def name(self, who: str, no: int) -> Told | None:
+        """One name, where the desk holds a message about it."""
+        return self.told(f"/v1/requests/{who}/{no}").get((who, no))
+
+    def told(self, path: str) -> dict[Name, Told]:
+        reply = self.exchange("GET", path)
+        if reply.status_code == 404 and reply.text == "T3 NoRoute\n":
+            raise Silent(TOO_OLD, True)
+        if reply.status_code != 200:
+            raise Silent(unusable(reply), True)
+        try:
+            return read_names(reply.text)
         except ValueError:
             raise unread(path) from None
 

@@ -5,12 +5,13 @@ from dataclasses import dataclass
 from datetime import timedelta, tzinfo
 
 from relays import telling
-from relays.desk import Grant, Silent
+from relays.desk import Silent
 from relays.messages import Verdict
 from relays.moments import shown, stamp
 from relays.outbox import Kept
 from relays.refusals import in_words
 from relays.standing import Knowledge, Said, Standing, State
+from relays.told import Grant
 
 SOON = timedelta(minutes=15)
 KINDS = ("asked", "approved", "granted", "refused", "revoked", "void", "ends-soon", "uncounted")
@@ -42,8 +43,14 @@ class Finder:
             standing = self.standing(kept)
             yield self.event("asked", kept, standing, f"{standing.request.by} asks.")
 
+    def request_of(self, kept: Kept) -> Kept | None:
+        """The request that a message is or is about, where this relay brought it."""
+        if not isinstance(kept.message, Verdict):
+            return kept
+        return self.knowledge.outbox.request(kept.verdict.of, kept.verdict.no)
+
     def of_verdict(self, kept: Kept, verdict: Verdict) -> Iterator[Event]:
-        request = self.knowledge.outbox.request(verdict.of, verdict.no)
+        request = self.request_of(kept)
         standing = self.standing(request) if request else None
         did = f"{verdict.by} {telling.DONE[verdict.kind]} {verdict.of} {verdict.no}"
         if why := uncounted(kept, standing):

@@ -5,6 +5,7 @@ import re
 from collections.abc import Collection, Mapping, Sequence
 from dataclasses import dataclass, replace
 from datetime import datetime, timedelta
+from functools import lru_cache
 from typing import Any
 
 from relays.moments import of_stamp, stamp
@@ -185,6 +186,7 @@ def measured(text: str) -> str:
     return text
 
 
+@lru_cache(maxsize=16_384)
 def read(text: str) -> Request | Verdict:
     """A message from the text that this relay wrote."""
     found = json.loads(text)

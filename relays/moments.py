@@ -2,6 +2,7 @@
 
 import re
 from datetime import UTC, datetime, timedelta, tzinfo
+from functools import lru_cache
 from zoneinfo import ZoneInfo
 
 STAMP = "%Y%m%d%H%M%SZ"
@@ -30,6 +31,7 @@ def stamp(at: datetime) -> str:
     return at.strftime(STAMP)
 
 
+@lru_cache(maxsize=16_384)
 def of_stamp(text: str) -> datetime:
     """The moment of a text such as 20260105090000Z."""
     if not re.fullmatch(r"[0-9]{14}Z", text):

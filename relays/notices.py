@@ -137,10 +137,13 @@ class Notices:
 
 def find(notices: Notices, finder: Finder) -> Iterator[Event]:
     """What happened and is not recorded yet. `Silent` where the desk does not answer."""
-    for kept in notices.untold():
+    untold, knowledge = notices.untold(), finder.knowledge
+    about = [finder.request_of(it) for it in untold] + notices.past(stamp(knowledge.now))
+    with suppress(Silent):
+        knowledge.ask([it for it in about if it], is_live=True)
+    for kept in untold:
         yield from finder.of_message(kept)
-    knowledge = finder.knowledge
-    for grant in knowledge.grants(knowledge.now):
+    for grant in knowledge.live():
         request = knowledge.asked_here(grant)
         if request and notices.is_new(request) and not notices.has(request, "granted"):
             yield finder.of_grant(request)

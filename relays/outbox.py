@@ -4,11 +4,14 @@ A database of SQLite. Several programs may have it at a time: an ssh call each, 
 posts. A message is written once, by one transaction that also gives a request its number.
 """
 
+import json
 import os
+import re
 import sqlite3
-from collections.abc import Iterator
+from collections.abc import Iterable, Iterator
 from contextlib import contextmanager
 from dataclasses import dataclass, replace
+from functools import lru_cache
 
 from relays.messages import BadWord, Request, Verdict, Wish, measured, read
 from relays.reasons import NONE, Reason
@@ -28,6 +31,7 @@ CREATE TABLE IF NOT EXISTS messages (
 CREATE UNIQUE INDEX IF NOT EXISTS once_each ON messages (by, once) WHERE once IS NOT NULL;
 CREATE UNIQUE INDEX IF NOT EXISTS one_name ON messages (of, no) WHERE kind = 'request';
 CREATE INDEX IF NOT EXISTS by_name ON messages (of, no);
+CREATE INDEX IF NOT EXISTS by_end ON messages (body ->> '$.until') WHERE kind = 'request';
 CREATE INDEX IF NOT EXISTS by_state ON messages (state) WHERE state = 'kept';
 CREATE TABLE IF NOT EXISTS numbers (person TEXT PRIMARY KEY, last INTEGER NOT NULL) STRICT;
 CREATE TABLE IF NOT EXISTS reasons (
@@ -35,7 +39,13 @@ CREATE TABLE IF NOT EXISTS reasons (
 ) STRICT;
 CREATE TABLE IF NOT EXISTS said (id INTEGER PRIMARY KEY, words TEXT NOT NULL) STRICT;
 """
+MADE = set(re.findall(r"IF NOT EXISTS (\w+)", SCHEMA))
 COLUMNS = "id, body, state, answer, why, ticket"
+# Verdicts on the requests whose names a list of JSON has.
+ON_NAMES = """kind <> 'request'
+ AND (of, no) IN (SELECT value ->> 0, value ->> 1 FROM json_each(?))"""
+# The requests of such names.
+NAMED = ON_NAMES.replace("<>", "=")
 # Why an approval is not posted.
 UNASKED = "the desk refused the request that it approves"
 
@@ -70,6 +80,12 @@ class Kept:
         return self.message
 
 
+@lru_cache(maxsize=16_384)
+def kept_of(id: int, body: str, state: str, answer: str, why: str, ticket: str) -> Kept:
+    """A row of the outbox: one that is as it was is not read again."""
+    return Kept(id, read(body), state, answer, reason=Reason(why, ticket))
+
+
 class Outbox:
     def __init__(self, path: str, numbers: tuple[int, int] = (1, 999_999_999)) -> None:
         self.numbers = numbers
@@ -81,9 +97,16 @@ class Outbox:
         self.base = sqlite3.connect(path, timeout=20, isolation_level=None)
         self.base.execute("PRAGMA journal_mode = wal")
         self.base.execute("PRAGMA synchronous = full")
-        with self.writing():
-            for statement in SCHEMA.split(";"):
-                self.base.execute(statement)
+        # (whoever only looks at what is kept waits for nobody who writes)
+        if not self.is_made():
+            with self.writing():
+                for statement in SCHEMA.split(";"):
+                    self.base.execute(statement)
+
+    def is_made(self) -> bool:
+        """Whether the file has all that the schema names."""
+        rows = self.base.execute("SELECT name FROM sqlite_master")
+        return MADE <= {name for (name,) in rows}
 
     def close(self) -> None:
         self.base.close()
@@ -187,7 +210,7 @@ class Outbox:
             values,
         )
         return [
-            Kept(id, read(body), state, answer, reason=Reason(why or "", ticket or ""))
+            kept_of(id, body, state, answer, why or "", ticket or "")
             for id, body, state, answer, why, ticket in rows
         ]
 
@@ -200,6 +223,23 @@ class Outbox:
     def requests(self) -> list[Kept]:
         return self.find("kind = 'request'")
 
+    def requests_until(self, at: str) -> list[Kept]:
+        """Requests whose window ends at a moment or later."""
+        return self.find("kind = 'request' AND body ->> '$.until' >= ?", at)
+
+    def first_open(self, at: str, behind: int = 0) -> tuple[str, str, int]:
+        """The moment from which on the requests ask that were kept behind one, and whose window
+        ends at a moment or later: that moment itself where none asks from an earlier one on; the
+        end of the request that does; and the last message that is kept."""
+        row = self.base.execute(
+            "SELECT min(body ->> '$.from'), body ->> '$.until' FROM messages"
+            " WHERE kind = 'request' AND id > ? AND body ->> '$.until' >= ?",
+            (behind, at),
+        ).fetchone()
+        last = self.base.execute("SELECT ifnull(max(id), 0) FROM messages").fetchone()[0]
+        begins, ends = row if row[0] and row[0] < at else (at, at)
+        return begins, ends, last
+
     def requests_of(self, person: str) -> list[Kept]:
         return self.find("kind = 'request' AND by = ?", person)
 
@@ -209,6 +249,19 @@ class Outbox:
 
     def verdicts(self, of: str, no: int) -> list[Kept]:
         return self.find("kind <> 'request' AND of = ? AND no = ?", of, no)
+
+    def verdicts_on(self, names: Iterable[tuple[str, int]]) -> dict[tuple[str, int], list[Kept]]:
+        """The verdicts on requests, by their names: those of many cost no more than one query."""
+        found: dict[tuple[str, int], list[Kept]] = {name: [] for name in names}
+        listed = json.dumps(list(found))
+        for kept in self.find(ON_NAMES, listed):
+            found[kept.verdict.of, kept.verdict.no].append(kept)
+        return found
+
+    def requests_on(self, names: Iterable[tuple[str, int]]) -> dict[tuple[str, int], Kept]:
+        """The requests of these names, by one query."""
+        found = self.find(NAMED, json.dumps(list(names)))
+        return {(it.request.by, it.request.no): it for it in found}
 
     def answered(self, id: int, state: str, answer: str = "") -> None:
         """Notes what became of a message. An answer of the desk stays."""

@@ -11,11 +11,16 @@ import re
 import secrets
 import socket
 import sqlite3
+import threading
+from dataclasses import dataclass
+from datetime import datetime
+from functools import lru_cache
 from typing import Any
 
 import flask
 import waitress
 from itsdangerous import BadData, URLSafeTimedSerializer
+from markupsafe import Markup
 from waitress.parser import HTTPRequestParser
 from werkzeug.exceptions import HTTPException
 from werkzeug.wrappers import Response
@@ -23,15 +28,18 @@ from werkzeug.wrappers import Response
 from relays import telling
 from relays.admission import objections
 from relays.config import BadConfig, Config
-from relays.desk import Silent
-from relays.messages import PERSON, VERDICTS, BadWord, Verdict, Wish, checked, command_of, number_of
+from relays.desk import Desk, Silent
+from relays.messages import PERSON, VERDICTS, BadWord, Request, Verdict, Wish
+from relays.messages import checked, command_of, number_of
 from relays.moments import BadTime, in_units, now, of_stamp, shown, stamp
 from relays.outbox import Kept, Outbox, OutOfNumbers
 from relays.posting import post_one
 from relays.reasons import Reason
-from relays.roster import BadRoster
-from relays.standing import Knowledge, State
+from relays.roster import BadRoster, Roster
+from relays.sharing import Shared
+from relays.standing import SHOWN_FOR, Board, Knowledge, Row, Standing, State
 from relays.timeline import timeline
+from relays.told import Grant
 from relays.words import BadWords, checked_if, split, unescaped, window_of
 
 log = logging.getLogger("desk-relay")
@@ -40,6 +48,7 @@ FRONT_HEADER = "X-Desk-Front"
 # A Host that an address can be made of, as a redirection does. A request may have none.
 HOST = re.compile(r"([A-Za-z0-9._-]*|\[[0-9A-Fa-f:.]+\])(:[0-9]{0,5})?")
 TOKEN_HOURS = 12
+MOST_CARDS = 50
 NOBODY = (
     "The front does not say who you are: it takes a person's certificate, or a sign-on by a name"
     " that a roster can have."
@@ -50,7 +59,8 @@ EXPOSED = (
 )
 # Whoever connects and says nothing is dropped after a while, and keeps nobody out before.
 LIMITS: dict[str, Any] = {
-    "threads": 8,
+    # (most of them wait for the question to the desk that they share)
+    "threads": 64,
     "connection_limit": 800,
     "channel_timeout": 20,
     "cleanup_interval": 5,
@@ -68,18 +78,68 @@ HEADERS = {
 }
 
 
+class Seen:
+    """What the page saw last: the board, and from which moment on something is asked that is open.
+    Of both, what did not change since is not looked for again."""
+
+    def __init__(self) -> None:
+        self.board: Board | None = None
+        self.first = "", "", 0
+
+    def first_open(self, outbox: Outbox, at: str) -> str:
+        """The moment from which on the requests ask whose window ends at a moment or later; that
+        moment itself where none asks from an earlier one on."""
+        begins, ends, last = self.first
+        if ends < at:
+            self.first = outbox.first_open(at)
+        else:
+            new = outbox.first_open(at, last)
+            self.first = new if new[0] < begins else (begins, ends, new[2])
+        return min(at, self.first[0])
+
+
+class Server(threading.local):
+    """What the visits of a thread have in common: a desk, whose connections stay open. What they
+    ask it is shared with those of the other threads, and so is what was seen."""
+
+    def __init__(
+        self, config: Config, tokens: URLSafeTimedSerializer, shared: Shared, seen: Seen
+    ) -> None:
+        self.config, self.tokens, self.shared, self.seen = config, tokens, shared, seen
+        self.desk: Desk = config.open_desk()
+
+
 class Visit:
     """One request of a person's browser."""
 
-    def __init__(self, config: Config, tokens: URLSafeTimedSerializer, person: str) -> None:
-        self.config, self.tokens, self.person, self.now = config, tokens, person, now()
-        self.outbox: Outbox = config.open_outbox()
-        self.desk = config.open_desk()
-        self.roster = config.read_roster()
-        self.zone = config.zone
+    def __init__(self, server: Server, person: str) -> None:
+        self.config, self.tokens, self.shared = server.config, server.tokens, server.shared
+        self.seen = server.seen
+        self.person, self.now, self.desk = person, now(), server.desk
+        self.outbox: Outbox = self.config.open_outbox()
+        self.roster = self.config.read_roster()
+        self.zone = self.config.zone
 
     def knowledge(self) -> Knowledge:
         return Knowledge(self.outbox, self.desk, self.roster, self.now)
+
+    def shared_knowledge(self, asked: list[Kept], is_all: bool) -> tuple[Knowledge, Board]:
+        """The same, of what is open and of what a person asked, by a question for all who come at
+        the same time; a day's, so that they ask the same."""
+        begins = [it.request.wish.begins for it in asked]
+        first = of_stamp(min([self.seen.first_open(self.outbox, stamp(self.now)), *begins]))
+        first = first if is_all else max(first, self.now - SHOWN_FOR)
+        day = first.replace(hour=0, minute=0, second=0)
+        found, board = self.knowledge(), self.shared.ask(day, lambda: self.look(day))
+        found.take(board)
+        return found, board
+
+    def look(self, day: datetime) -> Board:
+        """What is known at this moment, which is later than that at which anybody came who asks
+        for it."""
+        found = Knowledge(self.outbox, self.desk, self.roster, now())
+        self.seen.board = board = found.make_board(day, self.seen.board)
+        return board
 
     def token(self, what: str, **words: Any) -> str:
         """A token for one thing that this person may send, once."""
@@ -98,6 +158,34 @@ class Visit:
 
     def is_auditor(self) -> bool:
         return self.roster.holds(self.person, self.config.auditors, self.now)
+
+
+@dataclass(frozen=True)
+class Cards:
+    """Requests, of which one page shows some at a time."""
+
+    name: str
+    whole: list[Standing]
+
+    @property
+    def pages(self) -> int:
+        return max(1, -(-len(self.whole) // MOST_CARDS))
+
+    @property
+    def page(self) -> int:
+        """The number of the page that was asked for; the last one where there are not so many."""
+        given = flask.request.args.get(self.name, "")
+        return min(max(1, int(given)), self.pages) if re.fullmatch("[0-9]{1,6}", given) else 1
+
+    @property
+    def shown(self) -> list[Standing]:
+        return self.whole[(self.page - 1) * MOST_CARDS : self.page * MOST_CARDS]
+
+    def link(self, page: int) -> str:
+        """Where another page of them is."""
+        words: dict[str, Any] = flask.request.args.to_dict() | {self.name: page}
+        words.pop("sent", None)
+        return flask.url_for(str(flask.request.endpoint), _anchor=self.name, **words)
 
 
 def caller(secret: str) -> str:
@@ -120,6 +208,7 @@ def create_app(config: Config) -> flask.Flask:
     app.config["MAX_CONTENT_LENGTH"] = 65536
     secret, signing_key = config.page_keys()
     tokens = URLSafeTimedSerializer(signing_key, salt="desk-relay page")
+    server = Server(config, tokens, Shared(), Seen())
 
     @app.before_request
     def begin() -> None:
@@ -127,7 +216,7 @@ def create_app(config: Config) -> flask.Flask:
             flask.abort(400, "The request names no host that a page can have.")
         person = caller(secret)
         if flask.request.endpoint != "static":
-            flask.g.visit = visit = Visit(config, tokens, person)
+            flask.g.visit = visit = Visit(server, person)
             if person not in visit.roster.people:
                 # (whoever can sign on at the site sees nothing here for that alone)
                 flask.abort(403, f"The roster has nobody whose name is {person}.")
@@ -152,6 +241,35 @@ def create_app(config: Config) -> flask.Flask:
     app.add_url_rule("/verdict", "verdict", show_verdict)
     app.add_url_rule("/send", "send", send, methods=["POST"])
     app.jinja_env.globals.update(telling=telling, State=State, shown=shown, of_stamp=of_stamp)
+    parts: Any = app.jinja_env.get_template("parts.html").module
+
+    @lru_cache(maxsize=4096)
+    def made(standing: Standing, roster: Roster, day: datetime, *words: Any) -> Markup:
+        return Markup(parts.card(standing, config.zone, roster, day, *words))
+
+    def card(standing: Standing, visit: Visit, is_open: bool = False, kinds: Any = ()) -> Markup:
+        """A request's card, with buttons (`again` is whose it is). Who may approve it depends on the day; all else on what is given, so
+        one that was made is shown again."""
+        day = visit.now.replace(hour=0, minute=0, second=0)
+        return made(standing, visit.roster, day, is_open, kinds)
+
+    @lru_cache(maxsize=4096)
+    def made_row(grant: Grant, request: Request | None, may_revoke: bool) -> Markup:
+        return Markup(parts.row(grant, request, config.zone, may_revoke))
+
+    def row(each: Row, visit: Visit) -> Markup:
+        """A grant's row. It has a button for those who may revoke it, and is the same else."""
+        grant, request = each
+        about = visit.person, grant.who, grant.ceiling, visit.now
+        return made_row(grant, request, visit.roster.may_revoke(*about))
+
+    @lru_cache(maxsize=4)
+    def drawn(board: Board) -> Markup:
+        """The picture of what is in force, the same for all who share a board."""
+        picture = timeline(board.rows, board.at, config.zone)
+        return Markup(parts.drawn(picture) if picture else "")
+
+    app.jinja_env.globals.update(card=card, row=row, drawn=drawn)
     return app
 
 
@@ -167,51 +285,49 @@ def complain(fault: Exception) -> tuple[str, int]:
 def home() -> str:
     """My requests, what waits for me, what is in force, and the findings for an auditor."""
     visit: Visit = flask.g.visit
-    knowledge = visit.knowledge()
-    grants, review, trouble = [], None, ""
-    try:
-        grants = knowledge.grants(visit.now)
-        review = visit.desk.review(visit.now) if visit.is_auditor() else None
-    except Silent as why:
-        trouble = str(why)
+    is_all = "all" in flask.request.args
+    asked = visit.knowledge().asked_by(visit.person, is_all)
+    knowledge, board = visit.shared_knowledge(asked, is_all)
+    review, trouble = None, knowledge.trouble
+    if visit.is_auditor() and not trouble:
+        try:
+            review = visit.desk.review(visit.now)
+        except Silent as why:
+            trouble = str(why)
     waiting = knowledge.waiting(visit.person)
-    brought = [(grant, knowledge.asked_here(grant)) for grant in grants]
-    rows = [(grant, kept.request if kept else None) for grant, kept in brought]
-    rows += [(it.grant, it.request) for it in knowledge.coming() if it.grant]
     return flask.render_template(
         "home.html",
         visit=visit,
         person=visit.person,
-        notice=notice(visit),
-        mine=knowledge.mine(visit.person, "all" in flask.request.args),
-        waiting=[it for it in waiting if it.state is not State.OBJECTED],
-        objected=[it for it in waiting if it.state is State.OBJECTED],
-        rows=rows,
-        picture=timeline(rows, visit.now, visit.zone),
+        notice=notice(visit, knowledge),
+        mine=Cards("mine", knowledge.standings(asked, is_all)),
+        waiting=Cards("waiting", [it for it in waiting if it.state is not State.OBJECTED]),
+        objected=Cards("objected", [it for it in waiting if it.state is State.OBJECTED]),
+        board=board,
         ceilings=visit.roster.may_ask(visit.person, visit.now),
         review=review,
-        trouble=trouble or knowledge.trouble,
+        trouble=trouble,
         token=visit.token("ask"),
     )
 
 
-def notice(visit: Visit) -> str:
+def notice(visit: Visit, knowledge: Knowledge) -> str:
     """What became of the message that this person sent just now."""
     id = flask.request.args.get("sent", "")
     if not re.fullmatch("[0-9]{1,18}", id):
         return ""
     found = visit.outbox.find("id = ? AND by = ?", int(id), visit.person)
-    return told(visit, found[0]) if found else ""
+    return told(visit, knowledge, found[0]) if found else ""
 
 
-def told(visit: Visit, kept: Kept) -> str:
+def told(visit: Visit, knowledge: Knowledge, kept: Kept) -> str:
     if isinstance(kept.message, Verdict):
         verdict = kept.verdict
         request = visit.outbox.request(verdict.of, verdict.no)
-        barred = visit.knowledge().standing(request).bar_of(verdict) if request else ""
+        barred = knowledge.standing(request).bar_of(verdict) if request else ""
         fate = telling.verdict_fate(verdict.kind, kept.state, kept.answer, barred)
         return f"{verdict.of} {verdict.no}: {fate}"
-    standing = visit.knowledge().standing(kept)
+    standing = knowledge.standing(kept)
     return f"{standing.name}: {telling.fate(standing, visit.zone, visit.roster, visit.now)}"
 
 
@@ -275,8 +391,9 @@ def show_history() -> str:
     found = knowledge.history(
         checked_if("person", who), checked_if("host", host), "all" in flask.request.args
     )
+    cards = Cards("page", found)
     return flask.render_template(
-        "history.html", visit=visit, person=visit.person, found=found, who=who, on=host
+        "history.html", visit=visit, person=visit.person, found=cards, who=who, on=host
     )
 
 

@@ -1,8 +1,10 @@
 """The roster as a relay reads it: to show who may approve what. What counts, the desk decides."""
 
+import os
 import tomllib
 from dataclasses import dataclass
 from datetime import datetime
+from functools import lru_cache
 from typing import Any
 
 
@@ -38,6 +40,8 @@ class Roster:
             for entry in entries:
                 check_entry(entry)
         self.conflicts = [set(pair) for pair in document["conflicts"]]
+        self.may: dict[tuple[str, str, str], list[str]] = {}
+        self.held: dict[tuple[str, str], frozenset[str]] = {}
         self.hosts = sorted(set(document["hosts"]))
         self.ceilings = {
             label: Ceiling(
@@ -55,19 +59,23 @@ class Roster:
 
     @staticmethod
     def read(path: str) -> "Roster":
+        """The roster of a file; one that did not change is not read again."""
         try:
-            with open(path, "rb") as file:
-                return Roster(tomllib.load(file))
+            found = os.stat(path)
+            return roster_of(path, found.st_ino, found.st_size, found.st_mtime_ns)
         except (OSError, ValueError, KeyError, TypeError, AttributeError) as fault:
             raise BadRoster(f"the roster {path} cannot be read: {fault!r}") from None
 
-    def duties(self, person: str, at: datetime) -> set[str]:
+    def duties(self, person: str, at: datetime) -> frozenset[str]:
         """The duties that a person holds at a moment."""
         day = at.strftime("%Y%m%d")
-        entries = self.people.get(person, [])
-        held = [entry for entry in entries if isinstance(entry, str)]
-        dated = [entry for entry in entries if isinstance(entry, dict)]
-        return set(held) | {it["duty"] for it in dated if it["from"] <= day <= it["until"]}
+        if (person, day) not in self.held:
+            entries = self.people.get(person, [])
+            held = [entry for entry in entries if isinstance(entry, str)]
+            dated = [entry for entry in entries if isinstance(entry, dict)]
+            held += [it["duty"] for it in dated if it["from"] <= day <= it["until"]]
+            self.held[person, day] = frozenset(held)
+        return self.held[person, day]
 
     def holds(self, person: str, duty: str, at: datetime) -> bool:
         return duty in self.duties(person, at)
@@ -95,7 +103,19 @@ class Roster:
         return not self.bar("approve", person, asker, label, at)
 
     def approvers(self, asker: str, label: str, at: datetime) -> list[str]:
-        return [it for it in sorted(self.people) if self.may_approve(it, asker, label, at)]
+        # (duties are those of a day, and a page shows the same few for many requests)
+        key = asker, label, at.strftime("%Y%m%d")
+        if key not in self.may:
+            people = sorted(self.people)
+            self.may[key] = [it for it in people if self.may_approve(it, asker, label, at)]
+        return self.may[key]
 
     def may_revoke(self, person: str, asker: str, label: str, at: datetime) -> bool:
         return not self.bar("revoke", person, asker, label, at)
+
+
+@lru_cache(maxsize=1)
+def roster_of(path: str, *_: int) -> Roster:
+    """The roster of a file, by what changes where somebody writes it anew."""
+    with open(path, "rb") as file:
+        return Roster(tomllib.load(file))

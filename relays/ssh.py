@@ -232,6 +232,8 @@ def show(call: Call, standings: list[Standing], knowledge: Knowledge, none: str)
         call.say()
     if not standings:
         call.say(none)
+    if knowledge.trouble:
+        call.say(f"The desk does not answer: {knowledge.trouble}.")
     call.give_data([telling.as_data(it) for it in standings])
     return KEPT if knowledge.trouble else DONE
 
@@ -280,7 +282,7 @@ def live(call: Call) -> int:
     """What is in force at a moment, whoever asked and through whichever relay."""
     knowledge = call.knowledge()
     at = moment_of(call.said.at, call.zone, knowledge.now)
-    grants, data = knowledge.grants(at), []
+    grants, data = call.desk.grants(at), []
     call.say(f"In force at {shown(at, call.zone)}: {len(grants) or 'nothing'}")
     for grant in grants:
         kept = knowledge.asked_here(grant)

@@ -2,7 +2,6 @@
 
 from datetime import datetime, timedelta, tzinfo
 
-from relays.desk import Grant
 from relays.messages import BadWord, Verdict, Wish
 from relays.moments import of_stamp, shown, spoken, stamp
 from relays.outbox import UNASKED, Kept
@@ -10,6 +9,7 @@ from relays.reasons import Demand, Reason
 from relays.refusals import in_words
 from relays.roster import Ceiling, Roster
 from relays.standing import Said, Standing, State
+from relays.told import Grant
 
 DONE = {"approve": "approved", "refuse": "refused", "revoke": "revoked"}
 BARS = {

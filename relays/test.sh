@@ -23,11 +23,22 @@ fi
 log=$(mktemp)
 trap 'rm -f "$log"' EXIT
 status=0
-# (each file of tests has sites of its own, so they go side by side)
-/usr/bin/python3 -m pytest -p no:cacheprovider -q -n "$(nproc)" --dist loadfile --durations=5 \
-    relays/tests "$@" | tee "$log" || status=$?
+tests() {
+    /usr/bin/python3 -m pytest -p no:cacheprovider -q --durations=5 "$@" | tee -a "$log" || status=$?
+}
+# (each file of tests has sites of its own, so they go side by side; the crowd's answers are timed,
+# so it goes alone)
+if [ $# = 0 ]; then
+    tests -n "$(nproc)" --dist loadfile --ignore relays/tests/test_crowd.py relays/tests
+    tests relays/tests/test_crowd.py
+else
+    tests -n "$(nproc)" --dist loadfile relays/tests "$@"
+fi
+# how many there are of a kind, by the last line of each run (there may be none)
 count() {
-    tail -n 1 "$log" | grep -oE "[0-9]+ $1" | cut -d ' ' -f 1 || echo 0
+    awk -v kind="$1" '/^[0-9]+ .* in [0-9.]+s/ {
+        for (at = 2; at <= NF; at++) if ($at ~ "^" kind) sum += $(at - 1)
+    } END { print sum + 0 }' "$log"
 }
 wrong=$(($(count failed) + $(count error)))
 echo "$(($(count passed) + wrong)) checks, $wrong wrong"

@@ -557,7 +557,7 @@ def main() -> None:
                 wrong += judged(
                     f"{name}: {what}, instructions against visudo's",
                     counted / other,
-                    0.47 if what == "16001 rules" else 0.29,
+                    0.35 if what == "16001 rules" else 0.29,
                 )
     sys.exit(1 if wrong else 0)
 

@@ -8,11 +8,13 @@ beside `desk deliver` of as many to another file on the same disk: as the disk i
 sync lasting a millisecond at least, as on a drive that keeps what it says it has written. Then
 100,000 exchanges, before and behind which the memory of the desk's process is read; and a request
 of 24,576 bytes, read at once and one byte at a time, each counted in the program's instructions
-(valgrind's callgrind), so that the machine's load does not matter. A part whose tools are missing
-is left out, and said to be. All of it goes to 127.0.0.1, and each loop is bounded.
+(valgrind's callgrind), so that the machine's load does not matter; newlines before a request, one
+at a time; and, by gdb, how often one request's head is looked at and parsed. A part whose tools are
+missing is left out, and said to be. All of it goes to 127.0.0.1, and each loop is bounded.
 """
 
 import os
+import re
 import shutil
 import socket
 import subprocess
@@ -221,7 +223,7 @@ def beside_nginx(folder: str) -> int:
             print(
                 f"{name}: {served:,.0f} exchanges a second, nginx {beside:,.0f} of a file as long"
             )
-            wrong += judged(f"{name}, beside nginx", served / beside, 0.8)
+            wrong += judged(f"{name}, beside nginx", served / beside, 1.1)
         print(f"serve, {ROUNDS * EACH:,} messages: peak {told.memory()[1]:,} KiB")
     return wrong
 
@@ -364,9 +366,11 @@ def own_instructions(path: str, left_out: str) -> int:
     return total
 
 
-def counted(folder: str, given: bytes | None, preloaded: str | None) -> int:
-    """The instructions of a server that answers one peer who sends this, without those of the
-    library that is put before its own."""
+def counted(
+    folder: str, given: bytes | None, preloaded: str | None, status: bytes = b"200"
+) -> int:
+    """The instructions of a server that answers one peer who sends this with this status, without
+    those of the library that is put before its own."""
     out = os.path.join(folder, "counts")
     words = [
         "valgrind",
@@ -375,8 +379,7 @@ def counted(folder: str, given: bytes | None, preloaded: str | None) -> int:
     ]
     with serving(folder, "--requests", "1", before=words, preloaded=preloaded) as server:
         if given:
-            # the ceiling has no such commands: the message is read whole, and denied
-            assert desk.exchange(server.port, given).startswith(b"HTTP/1.1 403 ")
+            assert desk.exchange(server.port, given).startswith(b"HTTP/1.1 %b " % status)
         else:
             socket.create_connection(("127.0.0.1", server.port), timeout=20).close()
         server.wait(600)
@@ -392,7 +395,10 @@ def bytewise(folder: str) -> int:
     shim = compiled(folder, "one_byte", ONE_BYTE)
     given = largest()
     least = counted(folder, None, None)
-    whole, single = (counted(folder, given, preloaded) - least for preloaded in (None, shim))
+    # the ceiling has no such commands: the message is read whole, and denied
+    whole, single = (
+        counted(folder, given, preloaded, b"403") - least for preloaded in (None, shim)
+    )
     print(
         f"a message in {len(given):,} bytes: {whole / 1e6:.2f} million instructions where they are"
         f" read at once, {single / 1e6:.2f} one by one"
@@ -402,9 +408,63 @@ def bytewise(folder: str) -> int:
     return int(not holds)
 
 
+def newlines(folder: str) -> int:
+    """What leading newlines cost that come one at a time: twice as many may cost little more than
+    twice as much; 1 where they cost more."""
+    shim = compiled(folder, "one_byte", ONE_BYTE) if shutil.which("valgrind") else None
+    if shim is None:
+        print("newlines one by one: left out, for valgrind or a C compiler is not there")
+        return 0
+    least, *found = (
+        counted(folder, b"\n" * count + post(request(7)), shim) for count in (0, 2_000, 4_000)
+    )
+    few, many = (it - least for it in found)
+    print(f"newlines one by one: {few / 1e6:.2f} million instructions for 2,000, {many / 1e6:.2f}")
+    holds = many <= 2.2 * few
+    print(f"twice as many: {many / few:.2f}, at most 2.2: {'holds' if holds else 'FAILS'}")
+    return int(not holds)
+
+
+def looks(folder: str) -> int:
+    """How often a head is looked at and parsed for one POST that comes at once, by gdb: once each,
+    where the program has their symbols; 1 where it is oftener."""
+    if not (shutil.which("gdb") and shutil.which("nm")):
+        print("looks at a head: left out, for gdb or nm is not there")
+        return 0
+    symbols = subprocess.run(
+        ["nm", "-C", desk.PROGRAM[0]], stdout=subprocess.PIPE, text=True, check=True
+    ).stdout
+    wrong = 0
+    for name in ("relay_http::head::look", "httparse::spans::parse_request"):
+        if not re.search(rf" {name}(::<.*>)?$", symbols, re.MULTILINE):
+            print(f"{name}: left out, for the program has no such symbol")
+            continue
+        with serving(folder, "--requests", "1") as server:
+            words = ["gdb", "--batch", "--quiet", "--pid", str(server.process.pid)]
+            for said in (f"break '{name}'", "ignore 1 1000000", "continue", "info breakpoints"):
+                words += ["--eval-command", said]
+            with subprocess.Popen(
+                words, stdout=subprocess.PIPE, stderr=subprocess.STDOUT, text=True
+            ) as gdb:
+                assert gdb.stdout is not None
+                for line in gdb.stdout:
+                    if line.startswith("Breakpoint 1 at"):
+                        break
+                time.sleep(1)
+                desk.exchange(server.port, post(request(7)))
+                server.wait(60)
+                ended = gdb.stdout.read()
+        found = re.search(r"already hit (\d+) time", ended)
+        hits = int(found[1]) if found else 0
+        wrong += hits != 1
+        print(f"{name}: {hits} for a POST, 1 is wanted: {'holds' if hits == 1 else 'FAILS'}")
+    return wrong
+
+
 def main() -> int:
     with tempfile.TemporaryDirectory() as folder:
         wrong = beside_nginx(folder) + many(folder) + bytewise(folder)
+        wrong += newlines(folder) + looks(folder)
     # (a temporary folder may lie in memory)
     with tempfile.TemporaryDirectory(dir=desk.BUILD) as folder:
         wrong += beside_deliver(folder)

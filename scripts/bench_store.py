@@ -248,7 +248,7 @@ def deliveries(folder: str) -> int:
             os.unlink(store)
     # the tree of the messages' texts has a level more
     return sum(
-        judged(f"a delivery over {more:,} messages, beside {less:,}", each[more] / each[less], 1.3)
+        judged(f"a delivery over {more:,} messages, beside {less:,}", each[more] / each[less], 1.2)
         for less, more in ((SIZES[0], SIZES[1]), (SIZES[0], SIZES[2]))
     )
 

@@ -1,5 +1,5 @@
 #!/usr/bin/env python3
-"""Compares docs/CALLS.md with the public calls of the crates, both ways.
+"""Compares docs/proof/PROOFS.md, 'Public calls', with those of the crates, both ways.
 
 A public call is a `pub fn` that lib.rt re-exports, or one of a type that it re-exports, or one of a
 trait that it re-exports. Each that may refuse has a row: what a refusal leaves, and what says when
@@ -23,7 +23,8 @@ import contracts
 import desk
 import make_docs
 
-DOCUMENT = "docs/CALLS.md"
+DOCUMENT = "docs/proof/PROOFS.md"
+PART = "\n## Public calls\n"
 # what is lent to be read alone cannot change; what is handed over is dropped where it is refused;
 # and a refusal whose type has want of memory alone needs no clause to say when it comes
 LENT, DROPPED, MEMORY, OPEN = "lent", "dropped", "memory alone", "**open**"
@@ -57,7 +58,7 @@ class Call(NamedTuple):
 
     @property
     def may_refuse(self) -> bool:
-        return re.match(r" *(Result|Option)<", self.answer) is not None
+        return re.match(r" *(?:io::)?(Result|Option)<", self.answer) is not None
 
     @property
     def is_want(self) -> bool:
@@ -197,8 +198,8 @@ def told() -> (
     total: set[tuple[str, str]] = set()
     laws: set[tuple[str, str]] = set()
     crate = ""
-    for line in desk.read(DOCUMENT).splitlines():
-        if heading := re.fullmatch(r"## `(\w+)`", line):
+    for line in desk.read(DOCUMENT).partition(PART)[2].splitlines():
+        if heading := re.fullmatch(r"### `(\w+)`", line):
             crate = heading[1]
         elif cells := re.fullmatch(r"\| `([\w:]+)` \| (.*) \| (.*) \|", line):
             rows[crate, cells[1]] = (cells[2], cells[3])
@@ -252,7 +253,7 @@ def skeleton() -> str:
     for call in all_calls():
         by_crate.setdefault(call.crate, []).append(call)
     for crate, found in by_crate.items():
-        part = [f"## `{crate}`", ""]
+        part = [f"### `{crate}`", ""]
         refusing = [call for call in found if call.may_refuse and not call.is_law]
         if refusing:
             part += ["| Call | A refusal leaves | When each refusal comes |", "|---|---|---|"]

@@ -844,7 +844,8 @@ def answer(folder: str, run: Run, front: Sequence[str] = ()) -> tuple[str, str, 
     have these, NONE that of no file, FOLDER that of a folder.
 
     STORE is the name of what a recipe made, if one did; STORE/BELOW lies in a folder that is not
-    there.
+    there. On the standard error a line says that a store was made, exactly where one was, and one
+    says what failed, exactly behind F1; both are left out of what is given back.
     """
     texts = {"BASE": run.base, "ROSTER": run.roster, "OTHER": run.other}
     names = {name: desk.write(folder, name.lower(), text) for name, text in texts.items()}
@@ -856,6 +857,8 @@ def answer(folder: str, run: Run, front: Sequence[str] = ()) -> tuple[str, str, 
         "STORE/BESIDE": os.path.join(folder, "store", "elsewhere.db"),
     }
     streams: dict[str, Any] = {"stdout": subprocess.PIPE, "stderr": subprocess.PIPE}
+    store = next((names[word] for word in run.words[3:4] if word.startswith("STORE")), None)
+    is_new = store is not None and store_files.is_vacant(store)
     with contextlib.ExitStack() as opened:
         for stream, name in run.streams.items():
             streams[stream] = os.open(
@@ -869,11 +872,24 @@ def answer(folder: str, run: Run, front: Sequence[str] = ()) -> tuple[str, str, 
             **streams,
             timeout=120,
         )
-    return (
-        (done.stdout or b"").decode("latin-1"),
-        (done.stderr or b"").decode("latin-1"),
-        done.returncode,
-    )
+    said = (done.stderr or b"").decode("latin-1")
+    if is_new and store is not None and not store_files.is_vacant(store):
+        told = f"new store: {store}\n"
+        is_told = "stderr" in run.streams or said.count(told) == 1
+        said = said.replace(told, "") if is_told else f"{said}(it does not say {told})"
+    told_of = {names.get(word, word).removeprefix("unix:") for word in run.words}
+    if "stderr" not in run.streams:
+        said = without_cause(said, told_of)
+    return (done.stdout or b"").decode("latin-1"), said, done.returncode
+
+
+def without_cause(said: str, told_of: set[str]) -> str:
+    """What is said without the line of the cause that F1 has, or with a remark where it lacks one
+    of what the command line names, or of a stream."""
+    found = re.search(r"(?<=F1 FileFailed\n)cause: (.*?): .+\n", said)
+    if found and found[1] in told_of | {"standard input", "standard output"}:
+        return said.replace(found[0], "")
+    return f"{said}(no cause)" if "F1 FileFailed" in said else said
 
 
 def is_wanted(got: tuple[str, str, int], wanted: Wanted) -> bool:
@@ -986,4 +1002,5 @@ def main() -> None:
     sys.exit(1 if wrong or not count else 0)
 
 
-main()
+if __name__ == "__main__":
+    main()

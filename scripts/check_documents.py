@@ -200,8 +200,8 @@ def http(page: Page) -> None:
     path = os.path.join(page.folder, "desk.sock")
     with desk.Server(program=[PROGRAM], listen=f"unix:{path}") as server:
         place, *asked = [it.replace("/run/desk/desk.sock", path) for it in page.blocks()[1:]]
-        posted, request, audited, messages, count, grants, parked, files, *more = asked[:11]
-        later, fetched, review = more
+        posted, request, became, audited, messages, count, grants, parked, files = asked[:9]
+        later, fetched, review = asked[9:12]
         shown = page.blocks("")
         page.holds("an approval", page.out(place + posted) == "ack\n", page.run(place + posted))
         body = shown[0].split("\n\n")[1].strip()
@@ -212,7 +212,8 @@ def http(page: Page) -> None:
         page.holds("its reply", whole(page, place + posted) == shown[1].strip(), shown[1])
         page.holds("a request", page.out(place + request) == "ack\n", page.run(place + request))
         by_jq(page, place)
-        what_became(page, place + audited)
+        what_became(page, place + became, 3)
+        what_became(page, place + audited, 1)
         made = [told(1)[0], page.file("approval.json")]
         said = page.out(place + messages)
         page.holds("all messages", said == "".join(sorted(it + "\n" for it in made)), said)
@@ -257,12 +258,12 @@ def whole(page: Page, block: str) -> str:
     return page.out(block.replace("curl ", "curl -s -i ")).replace("\r", "").strip()
 
 
-def what_became(page: Page, block: str) -> None:
-    """What people are told of their requests."""
+def what_became(page: Page, block: str, count: int) -> None:
+    """What people are told of their requests, in so many documents of a line each."""
     said = page.out(block.replace("desk-audit ROSTER BASE", AUDIT))
-    names = json.loads(said)["names"] if said else []
-    found = [(it["by"], it["no"], it["status"]) for it in names]
-    page.holds("what became of a request", found == [("ann", 7, "granted")], said)
+    told = [json.loads(line)["names"] for line in said.splitlines()]
+    found = [[(it["by"], it["no"], it["status"]) for it in names] for names in told]
+    page.holds("what became of a request", found == [[("ann", 7, "granted")]] * count, said)
 
 
 def by_jq(page: Page, place: str) -> None:

@@ -776,11 +776,12 @@ def inside() -> None:
     sys.exit(1 if room.wrong else 0)
 
 
-def in_a_root(script: str) -> int:
-    """Runs a script again with the word --inside, where all that it does is thrown away."""
+def in_a_root(script: str, *more: str) -> int:
+    """Runs a script again with the word --inside and more, where all that it does is thrown
+    away."""
     words = ["unshare", "--mount", "--net", "--pid", "--ipc", "--fork", "--kill-child"]
     words += ["--propagation", "private", sys.executable, os.path.abspath(script)]
-    return subprocess.run([*words, "--inside"], check=False).returncode
+    return subprocess.run([*words, "--inside", *more], check=False).returncode
 
 
 def main() -> None:

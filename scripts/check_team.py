@@ -1,12 +1,14 @@
 #!/usr/bin/env python3
 """Follows docs/TEAM.md line by line over build/desk, or the program that DESK names, and compares
 what the page says of it: from the packages to a grant on a host, its audit and a new roster. Then
-people come from a table, by the lines of docs/PEOPLE.md.
+people come from a table, by the lines of docs/PEOPLE.md; and what comes after that in a team's life
+is in check_team_rest.py.
 
 It is done in a root of its own, as scripts/check_runbooks.py does. `apt install` puts in place what
-the packages would, by their lists of files and their scripts; `systemctl` and `ssh prod1` are
-stand-ins, and `prod1` is the same machine. The people have accounts of their own, and call a real
-sshd. Needs root; what it needs of Debian it installs.
+the packages would, by their lists of files and their scripts; with `--packages` dpkg installs those
+of build/deb (package_test.py's end). `systemctl` and `ssh prod1` are stand-ins, and `prod1` is the
+same machine. The people have accounts of their own, call a real sshd, and have a browser. Needs
+root; what it needs of Debian it installs.
 """
 
 from __future__ import annotations
@@ -20,6 +22,7 @@ import tempfile
 import time
 
 import check_runbooks
+import check_team_rest
 import desk
 from check_runbooks import BOOK, PROGRAM, STAND_INS, Room
 from package_test import furnish
@@ -38,6 +41,7 @@ UNITS = """case $* in
     'enable --now desk-relay-post') relay post ;;
     'enable --now desk-fetch@prod1.timer' | 'start desk-fetch@prod1') desk-host fetch prod1 ;;
 """
+UNITS += check_team_rest.UNITS
 APT = f"""#!/bin/bash
 # each package's files, and its script; what is Debian's is there
 for word; do
@@ -47,6 +51,22 @@ for word; do
     [ ! -e {TREES}/$name.postinst ] || sh {TREES}/$name.postinst configure ''
 done
 """
+# the packages themselves; what they need of Debian is there
+DPKG = """#!/bin/bash
+for word; do
+    case $word in ./steelnewt*_*.deb) files+=("$word") ;; esac
+done
+[ -z "$files" ] || dpkg --force-unsafe-io --no-triggers -i "${files[@]}"
+"""
+
+
+def built(room: Room) -> None:
+    """The packages of build/deb, where their administrator has them."""
+    folder = os.path.join(desk.BUILD, "deb")
+    found = [it for it in os.listdir(folder) if it.endswith(".deb")]
+    room.holds("the packages are built: bash scripts/deb.sh", len(found) == 5, found)
+    for name in found:
+        shutil.copy(os.path.join(folder, name), room.path("/root"))
 
 
 def packages(room: Room) -> None:
@@ -65,24 +85,25 @@ def packages(room: Room) -> None:
             shutil.copy(f"{DEBIAN}/{name}.postinst", room.path(TREES))
 
 
-def prepare(room: Room) -> None:
+def prepare(room: Room, is_built: bool) -> None:
     """A machine on which nothing of the desk is installed, and the accounts of its people."""
     os.mkdir(room.path(BOOK))
     units = STAND_INS["systemctl"].replace("case $* in\n", UNITS)
     units = units.replace("/usr/local/bin/desk-serve", "/usr/libexec/steelnewt/desk-serve")
-    for name, text in (
-        ("systemctl", units),
-        ("apt", APT),
-        ("ssh", STAND_INS["ssh"].replace("db1", "prod1")),
-        ("py3compile", "#!/bin/sh\n"),
-        ("pam-auth-update", "#!/bin/sh\n"),
-    ):
+    stand_ins = {"systemctl": units, "ssh": STAND_INS["ssh"].replace("db1", "prod1")}
+    if is_built:
+        stand_ins["apt"] = DPKG
+    else:
+        stand_ins |= {"apt": APT, "py3compile": "#!/bin/sh\n", "pam-auth-update": "#!/bin/sh\n"}
+        packages(room)
+    for name, text in stand_ins.items():
         room.write(f"{BOOK}/{name}", text.replace("/usr/local/bin/desk-relay", "desk-relay"), 0o755)
-    packages(room)
     room.write("/etc/hosts", "127.0.0.1 localhost desk.example\n")
     made = room.run("ssh-keygen -A && mkdir -p /run/sshd && /usr/sbin/sshd; mkdir -p /root")
     room.holds("an sshd", made.returncode == 0, made)
     room.run("rm -rf /var/lib/desk-relay /etc/desk /etc/nginx/conf.d/* /root/*")
+    if is_built:
+        built(room)
     for person in PEOPLE:
         config = f"{SSH}    StrictHostKeyChecking accept-new\n    ConnectionAttempts 20\n"
         room.run(f"id {person} || useradd {person}; usermod --home /home/{person} {person}")
@@ -161,6 +182,10 @@ def asked(page: Page, room: Room) -> None:
     room.holds("why", "ticket OPS-7" in waiting.stdout, waiting)
     room.holds("ben approves", "It is in force from" in approved.stdout, approved)
     done = page.next("sh")
+    if "start it again" in done.stdout:
+        # (desk-host takes it for one from before the file, by a clock of whole seconds)
+        time.sleep(3)
+        done = room.run("ssh prod1 sudo -l -U ann /usr/bin/id")
     room.holds("sudo on the host", done.stdout.endswith("/usr/bin/id\n"), done)
     refused = room.run("ssh prod1 sudo -l -U ann /usr/bin/env")
     room.holds("and no more", refused.returncode == 1, refused)
@@ -201,22 +226,28 @@ def from_a_table(room: Room) -> None:
     room.holds("the desk has it", room.text("/v1/count").split()[1] == digest, done)
 
 
-def inside() -> None:
+def inside(is_built: bool) -> None:
     subprocess.run(["ip", "link", "set", "lo", "up"], check=True)
     with tempfile.TemporaryDirectory() as folder:
         room = Room(furnish(folder, ""))
         try:
-            prepare(room)
+            prepare(room, is_built)
             page = Page(room)
             for part in (install, host, asked, audited):
                 began = time.monotonic()
                 part(page, room)
                 print(f"{part.__name__}: {time.monotonic() - began:.1f} s", flush=True)
             from_a_table(room)
+            for part in check_team_rest.PARTS:
+                began = time.monotonic()
+                part(room)
+                print(f"{part.__name__}: {time.monotonic() - began:.1f} s", flush=True)
             room.run("systemctl stop desk; systemctl stop nginx; kill $(cat /run/relay-*.pid)")
         finally:
             subprocess.run(["umount", "--lazy", folder], check=True)
-    print(f"docs/TEAM.md and PEOPLE.md: {room.tried} checks, {room.wrong} wrong")
+    over = "the packages" if is_built else "what they have"
+    pages = f"docs/TEAM.md, PEOPLE.md and RELAYS.md over {over}"
+    print(f"{pages}: {room.tried} checks, {room.wrong} wrong")
     sys.exit(1 if room.wrong else 0)
 
 
@@ -224,11 +255,12 @@ def main() -> None:
     if os.geteuid() != 0:
         sys.exit("check_team.py needs root: it follows the page in a root of its own")
     installs = ["bash", os.path.join(desk.ROOT, "relays", "install.sh"), *NEEDED.split()]
+    installs += check_team_rest.NEEDED.split()
     subprocess.run(installs, check=True)
-    sys.exit(check_runbooks.in_a_root(__file__))
+    sys.exit(check_runbooks.in_a_root(__file__, *sys.argv[1:]))
 
 
 if __name__ == "__main__":
     if sys.argv[1:2] == ["--inside"]:
-        inside()
+        inside(sys.argv[2:] == ["--packages"])
     main()

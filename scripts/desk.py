@@ -47,6 +47,12 @@ def named_both() -> tuple[str, str]:
     return program, audit
 
 
+def audit_beside() -> str:
+    """The desk-audit beside the desk that the command line names, or the one of build/."""
+    folder, name = os.path.split(named()[-1])
+    return os.path.join(folder, name.replace("desk", "desk-audit", 1))
+
+
 def check_built() -> None:
     if not os.path.exists(PROGRAM[0]):
         sys.exit("build/desk is missing: run make desk")
@@ -87,6 +93,12 @@ def run(words: Sequence[str], given: str | None = None, seconds: float | None = 
     return subprocess.run(
         words, input=given, capture_output=True, text=True, timeout=seconds, check=False
     )
+
+
+def without_names(said: str) -> str:
+    """What a command says on its standard error, but for the lines that name files: the store that
+    it made, and what failed."""
+    return re.sub(r"^(?:new store|cause): .*\n", "", said, flags=re.MULTILINE)
 
 
 def counting(inside: str = "") -> list[str]:

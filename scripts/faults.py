@@ -149,7 +149,7 @@ def run(words: list[str], given: bytes, shim: str, failing: int, count: str) -> 
     done = subprocess.run(
         [*desk.named(), *words], input=given, capture_output=True, env=environment, timeout=60
     )
-    return done.returncode, done.stdout, done.stderr
+    return done.returncode, done.stdout, desk.without_names(done.stderr.decode()).encode()
 
 
 def exchanges() -> list[bytes]:

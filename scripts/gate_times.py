@@ -1,5 +1,6 @@
 #!/usr/bin/env python3
-"""Runs `rt ci`, passes on what it prints, and then prints what it cost: a table of docs/GATE.md.
+"""Runs `rt ci`, passes on what it prints, and then prints what it cost: a table of
+docs/change/GATE.md.
 
 The processor time of a crate's proof, of its tests' proof and of its edits, and the memory that one
 check of it holds at most, are read twice a second from /proc, of each run of the prover that this

@@ -27,12 +27,17 @@ LAST = re.compile(END)
 MOST_HEAD = 8_192
 MOST_FIELDS = 32
 MOST_BODY = 16_384
+NAME = re.compile(rb"(?!(?:sudoedit|sha224|sha256|sha384|sha512)$)[a-z_][a-z0-9._-]{0,31}")
+NUMBER = re.compile(rb"0|[1-9][0-9]{0,8}")
 
-# Each route with its method, and what it asks.
+# Each route with its method, and what it asks; the first that has the target.
 ROUTES = (
     (rb"/v1/relays/([^/]+)/messages", "POST", "deliver"),
     (rb"/v1/messages", "GET", "messages"),
     (rb"/v1/count", "GET", "count"),
+    (rb"/v1/requests", "GET", "requests"),
+    (rb"/v1/requests/after/([^/]+)", "GET", "requests after"),
+    (rb"/v1/requests/([^/]+)/([^/]+)", "GET", "request"),
     (rb"/v1/grants/([^/]+)", "GET", "grants"),
     (rb"/v1/parked", "GET", "parked"),
     (rb"/v1/hosts/([^/]+)/sudoers", "GET", "file"),
@@ -122,6 +127,9 @@ def asks(given: bytes) -> tuple[Asked, bool]:
         ), bare
     if what == "deliver" and (fault := body_fault(given, fields, at)):
         return (*fault, None), bare
-    if what in ("grants", "report", "file after") and not is_moment(found[found.re.groups]):
+    if what == "request" and not (NAME.fullmatch(found[1]) and NUMBER.fullmatch(found[2])):
+        return ("404 Not Found", "T3 NoRoute", None), bare
+    dated = ("grants", "report", "file after", "requests after")
+    if what in dated and not is_moment(found[found.re.groups]):
         return ("400 Bad Request", "T8 BadMoment", None), bare
     return (what, found[1] if found.groups() else None), bare

@@ -102,9 +102,11 @@ for conf in serve.conf fetch.conf; do
 done
 for text in README.md CHANGELOG.md \
     docs/{OPERATING,RUNBOOKS,HTTP,RELAYS,AUDITING,ROSTER,SUDOERS,MESSAGES,STORE}.md \
-    docs/{CODES,PROOFS,LINT,IMPORT,SECURITY,HOSTS,USED,EVIDENCE,CONTROLS,CHANGING}.md \
-    docs/{PEOPLE,TEAM,SEVERAL}.md; do
-    put 0644 "$text" "$doc/$(basename "$text")"
+    docs/{CODES,proof/PROOFS,LINT,IMPORT,SECURITY,HOSTS,USED,EVIDENCE,CONTROLS,CHANGING}.md \
+    docs/{PEOPLE,TEAM,SEVERAL,SCALE}.md; do
+    python3 scripts/installed.py "$text" > build/filled
+    put 0644 build/filled "$doc/$(basename "$text")"
+    rm -f build/filled
 done
 # What the desk answers to messages, for the tests of a relay.
 for file in deliver deliver-admission print-messages; do

@@ -1,14 +1,15 @@
 #!/usr/bin/env python3
 """Makes what is derived of the definitions and edits.
 
-In docs/DEFINITIONS.md: which files the headline needs, and how many lines they have; `make quick`
-tests that nothing is left to be made. And two lists that are not kept in Git: build/edits.md, each
-promise with the wrong programs that it refuses and their edits; and build/definitions.md, each
-definition that a clause of a public call names, with what stands above it and the calls.
+In docs/proof/DEFINITIONS.md: which files the headline needs, and how many lines they have; `make
+quick` tests that nothing is left to be made. And two lists that are not kept in Git:
+build/edits.md, each promise with the wrong programs that it refuses and their edits; and
+build/definitions.md, each definition that a clause of a public call names, with what stands above
+it and the calls.
 
 An edit says both at its head: `# wrong: TEXT` is the wrong program that it makes, and several edits
 may share it; `# promise: TEXT` is the promise for which it is refused, by the words with which its
-row of docs/PROMISES.md begins. To `rt` both are comments.
+row of docs/proof/PROMISES.md begins. To `rt` both are comments.
 """
 
 import collections
@@ -21,17 +22,17 @@ from typing import NamedTuple
 import definitions
 import desk
 
-DEFINITIONS = "docs/DEFINITIONS.md"
-PROMISES = "docs/PROMISES.md"
+DEFINITIONS = "docs/proof/DEFINITIONS.md"
+PROMISES = "docs/proof/PROMISES.md"
 COUNT = re.compile(r"It depends on definitions in these \d+ files\..*?of these\.", re.DOTALL)
 EDITS = """# Edits
 
-Each promise of docs/PROMISES.md, the wrong programs that it refuses, and the edits that make them:
-those that the gate tries, and those of `make edits`.
+Each promise of docs/proof/PROMISES.md, the wrong programs that it refuses, and the edits that make
+them: those that the gate tries, and those of `make edits`.
 """
 CITED = """# Definitions that the contracts of public calls name
 
-By crate and file; docs/DEFINITIONS.md says which of them to read, and in what order.
+By crate and file; docs/proof/DEFINITIONS.md says which of them to read, and in what order.
 """
 
 

@@ -33,6 +33,7 @@ INSTALLED = (
     "PROOFS.md",
     "CONTROLS.md",
     "TEAM.md",
+    "SCALE.md",
 )
 
 
@@ -49,9 +50,13 @@ def escaped(text: str) -> str:
 
 def renamed(text: str, doc: str) -> str:
     """A text with the repository's paths as an installed desk has them."""
-    text = re.sub(r"\[[^\]]*\]\((?:docs/)?(\w+\.md)\)", lambda it: document(it[1], doc), text)
+    text = re.sub(
+        r"\[[^\]]*\]\((?:\.\./|docs/|proof/|change/)*(\w+\.md)\)",
+        lambda it: document(it[1], doc),
+        text,
+    )
     text = re.sub(r"\[[^\]]*\]\(\.\./(cases/[\w.-]+)\)", r"\1", text)
-    text = re.sub(r"`?docs/(\w+\.md)`?", lambda it: document(it[1], doc), text)
+    text = re.sub(r"`?docs/(?:proof/|change/)?(\w+\.md)`?", lambda it: document(it[1], doc), text)
     text = re.sub(r"(?<![\w/])build/(desk|desk-audit)(?= )", "\\1", text)
     text = re.sub(
         r"(?<![\w/])tools/(desk_tools|schemas)/",
@@ -162,7 +167,7 @@ def body(text: str, doc: str) -> Iterator[str]:
     is_first = True
     for kind, lines in blocks(text):
         if kind == "heading":
-            marks, _, name = re.sub(r" \(docs/\w+\.md\)", "", lines[0]).partition(" ")
+            marks, _, name = re.sub(r" \(docs/[\w/]+\.md\)", "", lines[0]).partition(" ")
             yield f".Sh {escaped(name).upper()}" if marks == "##" else f".Ss {escaped(name)}"
         elif kind == "code":
             yield from code(lines)

@@ -1,11 +1,11 @@
 """The names that the documents about the code give: files, crates, definitions, clauses and laws.
 
-A file of a crate that a page names is there; each crate of docs/ARCHITECTURE.md stands on the
-crates that crates.txt gives it; docs/DEFINITIONS.md names definitions that stand in the files that
-it names; a clause that docs/PROOFS.md names stands in its crate. A law that a page names by its
-place, as `sudo_decide::laws::one_decision`, is there: `laws::one_decision` alone is one of the
-crate of its row in docs/PROOFS.md, and elsewhere of any crate. docs/PROMISES.md names each law with
-its crate. `make quick` asks for all of it.
+A file of a crate that a page names is there; each crate of docs/change/ARCHITECTURE.md stands on
+the crates that crates.txt gives it; docs/proof/DEFINITIONS.md names definitions that stand in the
+files that it names; a clause that docs/proof/PROOFS.md names stands in its crate. A law that a page
+names by its place, as `sudo_decide::laws::one_decision`, is there: `laws::one_decision` alone is
+one of the crate of its row in docs/proof/PROOFS.md, and elsewhere of any crate.
+docs/proof/PROMISES.md names each law with its crate. `make quick` asks for all of it.
 """
 
 import functools
@@ -18,7 +18,14 @@ import contracts
 import desk
 import make_docs
 
-PAGES = ("ARCHITECTURE", "DEFINITIONS", "PROOFS", "STORE", "AUDITING", "CONTROLS")
+PAGES = (
+    "change/ARCHITECTURE",
+    "proof/DEFINITIONS",
+    "proof/PROOFS",
+    "STORE",
+    "AUDITING",
+    "CONTROLS",
+)
 QUOTED = re.compile(r"`([^`]+)`")
 FILE = re.compile(r"[\w/]+\.(?:rt|antt)")
 LAW = re.compile(r"(?:(\w+)::)?laws::(\w+)")
@@ -52,20 +59,20 @@ def missing_files() -> Iterator[str]:
 
 
 def missing_crates() -> Iterator[str]:
-    """Crates that a row of docs/ARCHITECTURE.md does not stand on, though crates.txt says so."""
+    """Crates that a row of ARCHITECTURE.md does not stand on, though crates.txt says so."""
     told = {
         cells[0].strip("`"): QUOTED.findall(cells[2])
-        for cells in rows("ARCHITECTURE", 3)
+        for cells in rows("change/ARCHITECTURE", 3)
         if os.path.isdir(os.path.join(CRATES, cells[0].strip("`")))
     }
     for crate in make_docs.crates():
         if crate not in told:
-            yield f"docs/ARCHITECTURE.md: it has no row for {crate}"
+            yield f"docs/change/ARCHITECTURE.md: it has no row for {crate}"
     for line in desk.read("crates.txt").splitlines():
         crate, _, below = line.partition(":")
         for name in set(below.split()) & set(make_docs.crates()):
             if name not in told.get(crate, [name]):
-                yield f"docs/ARCHITECTURE.md: {crate} stands on {name} (crates.txt)"
+                yield f"docs/change/ARCHITECTURE.md: {crate} stands on {name} (crates.txt)"
 
 
 def named_definitions(places: str, folder: str) -> Iterator[tuple[str, str]]:
@@ -82,19 +89,19 @@ def named_definitions(places: str, folder: str) -> Iterator[tuple[str, str]]:
 
 def missing_definitions() -> Iterator[str]:
     folder = ""
-    for cells in rows("DEFINITIONS", 5):
+    for cells in rows("proof/DEFINITIONS", 5):
         for path, name in named_definitions(cells[1], folder):
             folder = os.path.dirname(path).removesuffix("/private") or folder
             # a definition, or one that the file re-exports
             form = rf"^(?:pub use .*\b|(?:[a-z]+ )*){re.escape(name)}\b"
             if not re.search(form, files().get(path, ""), re.MULTILINE):
-                yield f"docs/DEFINITIONS.md: {path} has no definition {name}"
+                yield f"docs/proof/DEFINITIONS.md: {path} has no definition {name}"
 
 
 def missing_clauses() -> Iterator[str]:
-    """Clauses of docs/PROOFS.md that no function of the crate has."""
+    """Clauses of docs/proof/PROOFS.md that no function of the crate has."""
     crate = ""
-    for cells in rows("PROOFS", 4):
+    for cells in rows("proof/PROOFS", 4):
         crate = cells[0].strip("`") or crate
         if not os.path.isdir(os.path.join(CRATES, crate)):
             continue
@@ -102,7 +109,7 @@ def missing_clauses() -> Iterator[str]:
         for name in QUOTED.findall(cells[3]):
             if not re.search(rf"\bensures {name}\b|\bghost {name}\b|\bfn {name}\b", code):
                 if name != "ensures" or "ensures {" not in code:
-                    yield f"docs/PROOFS.md: {crate} has no clause {name}"
+                    yield f"docs/proof/PROOFS.md: {crate} has no clause {name}"
 
 
 @functools.cache
@@ -115,23 +122,23 @@ def laws() -> dict[str, set[str]]:
 def missing_laws() -> Iterator[str]:
     """Laws that a page names and that are not there, or that it does not name with their crate."""
     every = set[str]().union(*laws().values())
-    for path in sorted(glob.glob(os.path.join(desk.ROOT, "docs", "*.md"))):
+    for path in sorted(glob.glob(os.path.join(desk.ROOT, "docs", "**", "*.md"), recursive=True)):
         page = os.path.relpath(path, desk.ROOT)
         for name in dict.fromkeys(QUOTED.findall(desk.read(path))):
             law = LAW.fullmatch(name)
             if law and law[2] not in (laws().get(law[1], set()) if law[1] else every):
                 yield f"{page}: there is no law {name}"
-    for cells in rows("PROMISES", 4):
+    for cells in rows("proof/PROMISES", 4):
         for name in QUOTED.findall(cells[1]):
             if name.removeprefix("laws::") in every:
-                yield f"docs/PROMISES.md: it names the law {name} without its crate"
+                yield f"docs/proof/PROMISES.md: it names the law {name} without its crate"
     crate = ""
-    for cells in rows("PROOFS", 4):
+    for cells in rows("proof/PROOFS", 4):
         crate = cells[0].strip("`") or crate
         for name in QUOTED.findall(cells[1]) if crate in laws() else ():
             law = LAW.fullmatch(name)
             if law and not law[1] and law[2] not in laws()[crate]:
-                yield f"docs/PROOFS.md: {crate} has no law {law[2]}"
+                yield f"docs/proof/PROOFS.md: {crate} has no law {law[2]}"
 
 
 def faults() -> Iterator[str]:

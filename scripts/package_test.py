@@ -3,9 +3,11 @@
 certificates, upgraded, removed.
 
 The root is this machine's, under an overlay that is thrown away, with namespaces of its own for
-mounts, processes and network; with FRESH=FOLDER it is debootstrap's, made there where the folder
-is empty. The service runs as its unit says, without systemd (scripts/service.py). Needs root, and
-Debian's packages sudo, faketime, nginx-light, haproxy, openssl, curl, sqlite3, strace, iproute2 and
+mounts, processes and network; with FRESH=FOLDER it is debootstrap's, made there where the folder is
+empty. Behind it, a team's life is followed over the packages, in a root of this machine's
+(check_team.py --packages): with a real sshd, nginx, Apache, slapd, SMTP server and browser. The
+service runs as its unit says, without systemd (scripts/service.py). Needs root, and Debian's
+packages sudo, faketime, nginx-light, haproxy, openssl, curl, sqlite3, strace, iproute2 and
 rabbitmq-server.
 """
 
@@ -196,7 +198,7 @@ def tour(trial: Trial) -> None:
         "/var/lib/desk/tour.db",
         "chat",
         given=messages,
-        says="^ack\nack\n$",
+        says="^ack\nack\nnew store: /var/lib/desk/tour.db\n$",
     )
     trial.does(
         "print",
@@ -900,7 +902,9 @@ def main() -> None:
     words = ["unshare", "--mount", "--net", "--pid", "--ipc", "--fork", "--kill-child"]
     # (the broker finds its own process below /proc)
     words += ["--mount-proc", "--propagation", "private", sys.executable, os.path.abspath(__file__)]
-    sys.exit(subprocess.run([*words, "--inside", fresh_root()], check=False).returncode)
+    status = subprocess.run([*words, "--inside", fresh_root()], check=False).returncode
+    team = [sys.executable, os.path.join(desk.ROOT, "scripts", "check_team.py"), "--packages"]
+    sys.exit(subprocess.run(team, check=False).returncode or status)
 
 
 if __name__ == "__main__":

@@ -22,8 +22,8 @@ from sudo_peer import accepts, allows, clear, enter_namespace, furnish
 
 PEERS = os.path.join(desk.EXAMPLES, "peers")
 USERS = ("ann", "bob", "eve", "op", "dba")
-# where sudo really differs, by choice of the desk (docs/DECISIONS.md, "Beside sudo"): it refuses
-# these, and the desk reads them
+# where sudo really differs, by choice of the desk (docs/change/DECISIONS.md, "Beside sudo"): it
+# refuses these, and the desk reads them
 DIFFERS = ("ann db1 = ALL \\\n",)
 COMMANDS = ("bin/ls", "bin/kill", "bin/echo", "lib/tool", "lib/danger", "lib/deep/tool")
 # words that mean something to sudo, in whatever place, and some that do not

@@ -43,7 +43,7 @@ GRANTS = 8_000
 AT = "20260105093000Z"
 REQUEST, APPROVAL = desk.request(), desk.approval()
 LISTED = desk.asked(b"GET", b"/v1/messages")
-STATED = (b"serving ", b"ended: ", b"WARNING: EVERY ACCOUNT OF THIS MACHINE ")
+STATED = (b"serving ", b"ended: ", b"new store: ", b"WARNING: EVERY ACCOUNT OF THIS MACHINE ")
 NAMED = ("F1 FileFailed\n", "K1 RosterChanged\n", "K2 NotADesk\n", "K4 Storage\n")
 REPLIES = (b"HTTP/1.1 200 OK\r\n", b"HTTP/1.1 503 Service Unavailable\r\n")
 # what a delivery brings to a disk that is full, and more pages than it needs
@@ -90,12 +90,12 @@ class Trial:
             env=plan.environment if plan else None,
             check=False,
         )
-        return done.returncode, done.stdout, done.stderr
+        return done.returncode, done.stdout, desk.without_names(done.stderr)
 
     def review(self, store: str, *before: str) -> tuple[int, str, str]:
         words = [*before, *self.words, "review", desk.ROSTER, desk.BASE, store, AT]
         done = desk.run(words, "", PATIENCE)
-        return done.returncode, done.stdout, done.stderr
+        return done.returncode, done.stdout, desk.without_names(done.stderr)
 
 
 def lines_of(given: bytes) -> list[bytes]:

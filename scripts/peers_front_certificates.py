@@ -107,6 +107,7 @@ RIGHTS = [
     ("host", "db1", b"GET /v1/count"),
     ("relay", "chat", b"POST /v1/relays/chat/messages"),
     ("auditor", "carol", b"GET /v1/messages"),
+    ("auditor", "carol", b"GET /v1/requests/ann/7"),
     ("auditor", "carol", b"GET /v1/reviews/20260105093000Z"),
 ]
 

@@ -4,7 +4,8 @@ through nc, and compares each reply.
 
 Then peers go away at each byte of a request, one never reads, and ten thousand requests are changed
 at random: each reply must be the one that scripts/http_oracle.py says, and the server serves on.
-The reports of random sets of messages must be those that scripts/random_reports.py makes. A host's
+The reports of random sets of messages must be those that scripts/random_reports.py makes, and what
+became of their requests what the desk-audit beside the program prints of their messages. A host's
 file must pass `visudo -c`, and examples/fetch-sudoers.sh must put it in place, or keep the old one.
 The servers listen at port 0; one ends by itself after as many connections as are made, the others
 by SIGTERM. `peers_http.py WORDS..` runs another program than build/desk.
@@ -13,6 +14,7 @@ by SIGTERM. `peers_http.py WORDS..` runs another program than build/desk.
 import contextlib
 import hashlib
 import http.client
+import json
 import os
 import random
 import re
@@ -49,6 +51,8 @@ REPORT = (
 # how many things were asked, and how many were otherwise
 Counts = tuple[int, int]
 ACK = ("200 OK", b"ack\n")
+# what is told of a name that no message is about
+NO_NAME = b'{"names":[],"windows":[]}\n'
 TOO_MANY, G1_SAID = b"G1 TooManyRules\n", "answered G1 TooManyRules"
 # requests of sixteen commands each: 8,208 lines, and a host's file has at most 8,192
 OLD, MOST_COMMANDS = 513, 16
@@ -93,6 +97,33 @@ ASKED: list[tuple[list[str | bytes], tuple[str, bytes]]] = [
     (["/v1/count?x"], ("400 Bad Request", b"T2 BadTarget\n")),
     (["-X", "DELETE", "/v1/count"], ("405 Method Not Allowed", b"T4 BadMethod\n")),
     ([*post("chat", APPROVAL)[:-1], "/v1/count"], ("405 Method Not Allowed", b"T4 BadMethod\n")),
+    (["--head", "/v1/requests"], ("200 OK", b"")),
+    (["--head", "/v1/requests/after/20260105110000Z"], ("200 OK", b"")),
+    (["--head", "/v1/requests/ann/7"], ("200 OK", b"")),
+    (["/v1/requests/ann/8"], ("200 OK", NO_NAME)),
+    (["/v1/requests/an/7"], ("200 OK", NO_NAME)),
+    (["/v1/requests/nobody/999999999"], ("200 OK", NO_NAME)),
+    (["/v1/requests/after/20260105110001Z"], ("200 OK", NO_NAME)),
+    (["/v1/requests/after/20260105"], ("400 Bad Request", b"T8 BadMoment\n")),
+    (["/v1/requests/after/7"], ("400 Bad Request", b"T8 BadMoment\n")),
+    (["/v1/requests/after/2026010504-0500"], ("400 Bad Request", b"T8 BadMoment\n")),
+    (["/v1/requests/"], ("404 Not Found", b"T3 NoRoute\n")),
+    (["/v1/requests/ann"], ("404 Not Found", b"T3 NoRoute\n")),
+    (["/v1/requests/ann/"], ("404 Not Found", b"T3 NoRoute\n")),
+    (["/v1/requests/ann/7/"], ("404 Not Found", b"T3 NoRoute\n")),
+    (["/v1/requests/ann/07"], ("404 Not Found", b"T3 NoRoute\n")),
+    (["/v1/requests/ann/+7"], ("404 Not Found", b"T3 NoRoute\n")),
+    (["/v1/requests/ann/-0"], ("404 Not Found", b"T3 NoRoute\n")),
+    (["/v1/requests/ann/1000000000"], ("404 Not Found", b"T3 NoRoute\n")),
+    (["/v1/requests/ann/4294967303"], ("404 Not Found", b"T3 NoRoute\n")),
+    (["/v1/requests/Ann/7"], ("404 Not Found", b"T3 NoRoute\n")),
+    (["/v1/requests/sudoedit/7"], ("404 Not Found", b"T3 NoRoute\n")),
+    (["/v1/requests//7"], ("404 Not Found", b"T3 NoRoute\n")),
+    (["--path-as-is", "/v1/requests/../requests/ann/7"], ("404 Not Found", b"T3 NoRoute\n")),
+    (["/v1/requests/ann%2f7"], ("400 Bad Request", b"T2 BadTarget\n")),
+    (["/v1/requests?x"], ("400 Bad Request", b"T2 BadTarget\n")),
+    (["-X", "DELETE", "/v1/requests/Ann/07"], ("405 Method Not Allowed", b"T4 BadMethod\n")),
+    ([*post("chat", APPROVAL)[:-1], "/v1/requests"], ("405 Method Not Allowed", b"T4 BadMethod\n")),
     (["--head", "/v1/hosts/db1/sudoers/20260105110000Z"], ("200 OK", b"")),
     (["/v1/hosts/db9/sudoers/20260105110000Z"], ("404 Not Found", b"P2 UnknownHost\n")),
     (["/v1/hosts/db9/sudoers/20260105"], ("400 Bad Request", b"T8 BadMoment\n")),
@@ -438,6 +469,48 @@ def ask_count(address: str) -> Counts:
     return 3, wrong
 
 
+def told(roster: str, base: str, listed: bytes, words: Sequence[str] = ()) -> bytes:
+    """What desk-audit prints as JSON of these messages."""
+    given = [desk.audit_beside(), roster, base, "-", "--json", *words]
+    return subprocess.run(given, input=listed, capture_output=True, check=True).stdout
+
+
+def of_one(whole: bytes, name: tuple[str, int]) -> tuple[list[dict[str, object]], ...]:
+    """What a document tells of a name: its entry, and its windows."""
+    made = json.loads(whole)
+    return tuple(
+        [each for each in made[part] if (each["by"], each["no"]) == name]
+        for part in ("names", "windows")
+    )
+
+
+def ask_audits(address: str, roster: str, base: str) -> Counts:
+    """What became of the requests is what desk-audit prints of the same messages: byte for byte
+    where all of them are asked about, or those after a moment, and of each name what the whole
+    document has of it."""
+    listed = reply_of(by_curl(address, ["/v1/messages"]))[2]
+    whole = told(roster, base, listed)
+    wrong = not check("the requests", by_curl(address, ["/v1/requests"]), ("200 OK", whole))
+    moments = [f"2026010{day}{hour:02}0000Z" for day in (5, 6) for hour in range(0, 24, 6)]
+    for moment in moments:
+        target = f"/v1/requests/after/{moment}"
+        wanted = ("200 OK", told(roster, base, listed, ["--from", moment]))
+        wrong += not check(target, by_curl(address, [target]), wanted)
+    names = {(each["by"], each["no"]) for each in json.loads(whole)["names"]}
+    for by, no in sorted(names | {("ann", 77)}):
+        target = f"/v1/requests/{by}/{no}"
+        status, _, body = reply_of(by_curl(address, [target]))
+        made = json.loads(body)
+        if status != "200 OK" or (made["names"], made["windows"]) != of_one(whole, (by, no)):
+            wrong += 1
+            print(f"{target}: {body!r}, not {of_one(whole, (by, no))}")
+    return 2 + len(moments) + len(names), wrong
+
+
+def ask_own_audits(address: str) -> Counts:
+    return ask_audits(address, desk.ROSTER, desk.BASE)
+
+
 def ask_as_python(address: str) -> Counts:
     """GET, HEAD and POST by Python's own client."""
     wrong = 0
@@ -571,6 +644,8 @@ def is_reply_to(given: bytes, whole: bytes) -> bool:
         return status == "200 OK" and re.fullmatch(rb"[0-9]+( [0-9a-f]{64}){2}\n", body) is not None
     if what == "report" and not bare:
         return status == "200 OK" and body.startswith(b"REVIEW %s\nLIVE\n" % part)
+    if what in ("requests", "requests after", "request") and not bare:
+        return status == "200 OK" and [*json.loads(body)] == ["names", "windows"]
     if what in ("file", "file after") and part != b"db1":
         return status in ("200 OK", "404 Not Found") and (
             bare or status == "200 OK" or body == b"P2 UnknownHost\n"
@@ -592,6 +667,9 @@ def change_requests(address: str) -> Counts:
         desk.asked(b"GET", b"/v1/hosts/db1/sudoers/20260105110000Z"),
         desk.asked(b"GET", b"/v1/messages"),
         desk.asked(b"GET", b"/v1/count"),
+        desk.asked(b"GET", b"/v1/requests"),
+        desk.asked(b"GET", b"/v1/requests/after/20260105110000Z"),
+        desk.asked(b"GET", b"/v1/requests/ann/7"),
         b"POST /v1/relays/chat/messages HTTP/1.1\r\nhOST: desk\r\nA:b\r\nContent-length: \t70"
         b" \r\nTransfer-encoding: x\r\n\r\n" + APPROVAL,
         b"\r\nHEAD /v1/relays/chat/messages HTTP/1.0\n\n",
@@ -609,9 +687,9 @@ def change_requests(address: str) -> Counts:
 
 
 def ask_reports() -> Counts:
-    """The reports of random sets of messages, always the same ones, each posted to a server of its
-    own."""
-    wrong, chance = 0, random.Random(8)
+    """The reports of random sets of messages and what became of their requests, always the same
+    sets, each posted to a server of its own."""
+    asked, wrong, chance = 0, 0, random.Random(8)
     for _ in range(REPORTS):
         with tempfile.TemporaryDirectory() as path:
             drawn = random_reports.draw(path, chance)
@@ -622,10 +700,12 @@ def ask_reports() -> Counts:
                     address,
                     desk.asked(b"GET", b"/v1/reviews/" + desk.stamp(drawn.at).encode("ascii")),
                 )
+                more = ask_audits(address, drawn.folder.roster, drawn.folder.base)
+                asked, wrong = asked + more[0], wrong + more[1]
         if whole != reply(b"200 OK", drawn.text().encode("ascii")):
             wrong += 1
             print(f"{drawn.lines}: {whole!r}, not {drawn.text()!r}")
-    return REPORTS, wrong
+    return REPORTS + asked, wrong
 
 
 def check_file(address: str) -> Counts:
@@ -823,6 +903,7 @@ def main() -> None:
             ask_count,
             check_file,
             ask_later_files,
+            ask_own_audits,
             fetch_files,
             leave_at_each_byte,
             change_requests,

@@ -80,7 +80,7 @@ class Trial:
         given = "".join(f"{line}\n" for line in lines)
         words = [*self.words, command, roster, desk.BASE, store, *([word] if word else [])]
         done = desk.run(words, given, PATIENCE)
-        return done.returncode, done.stdout, done.stderr
+        return done.returncode, done.stdout, desk.without_names(done.stderr)
 
     @contextlib.contextmanager
     def copy(self) -> Iterator[str]:

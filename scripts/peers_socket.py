@@ -111,7 +111,7 @@ def an_interrupted_start(count: Count, folder: str) -> None:
 def refused_at(count: Count, what: str, path: str, code: str = "F1 FileFailed") -> None:
     words = [*desk.named(), "serve", desk.ROSTER, desk.BASE, "-", f"unix:{path}"]
     done = subprocess.run(words, capture_output=True, text=True, timeout=60, check=False)
-    ended = (done.returncode, done.stdout, done.stderr.splitlines()[-1:])
+    ended = (done.returncode, done.stdout, desk.without_names(done.stderr).splitlines()[-1:])
     count.holds(f"{what} ends the start", ended == (2, "", [code]), ended)
 
 

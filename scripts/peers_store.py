@@ -56,7 +56,7 @@ def ask(command: str, store: str, word: str, lines: Iterable[str] = ()) -> tuple
     given = "".join(line + "\n" for line in lines)
     words = [*desk.named(), command, desk.ROSTER, desk.BASE, store, word]
     done = desk.run(words, given, PATIENCE)
-    return done.stdout, done.stderr, done.returncode
+    return done.stdout, desk.without_names(done.stderr), done.returncode
 
 
 def told(store: str, text: str) -> str:

@@ -3,10 +3,13 @@
 
 The layout is the one that `rt fmt` gives (`rt ci` refuses a crate for less); each text that an edit
 replaces stands in its file exactly once; no crate has more edits in `must-fail/` than the gate's
-budget allows; `make docs` would change nothing; docs/CALLS.md has each public call, and no other;
-each file that a document names is there, and so are the crates, definitions and clauses that the
-documents about the code name (names.py); README.md is no longer than a page or two; no line of
-code, of definitions, of proofs or of a script is too wide, and pyflakes finds nothing in a script.
+budget allows; `make docs` would change nothing; docs/proof/PROOFS.md has each public call, and no
+other; each file that a document names is there, and so are the crates, definitions and clauses that
+the documents about the code name (names.py); no link of an installed document is dead
+(installed.py); README.md is no longer than a page or two; the program names the version of the
+packages, and the logic of the toolchain that is here; each crate has a README, which names what is
+there (readmes.py); no line of code, of definitions, of proofs or of a script is too wide, and
+pyflakes finds nothing in a script.
 Prints what is otherwise, and ends with 1 then.
 """
 
@@ -21,8 +24,10 @@ from collections.abc import Iterator
 
 import calls
 import desk
+import installed
 import make_docs
 import names
+import readmes
 
 MOST_EDITS = 10
 MOST_README = 6 * 1024
@@ -38,7 +43,8 @@ NAMED = re.compile(
 )
 # a file of cases/ that a table of promises names
 CASES = re.compile(r"`([a-z-]+\.toml)`")
-TABLES = ("docs/PROMISES.md", "docs/PROOFS.md", "docs/WRONG_BODIES.md")
+VERSION = re.compile(r'const VERSION: &str = "([\w.]+)\\nproved with rattle logic (\w+)";')
+TABLES = ("docs/proof/PROMISES.md", "docs/proof/PROOFS.md", "docs/proof/WRONG_BODIES.md")
 
 
 def edits(folder: str) -> dict[str, str]:
@@ -119,7 +125,10 @@ def not_made() -> Iterator[str]:
 
 def not_there() -> Iterator[str]:
     """Files that a document names and that are not there, and a README that is too long."""
-    paths = glob.glob(os.path.join(desk.ROOT, "docs", "*.md"))
+    paths = [
+        *glob.glob(os.path.join(desk.ROOT, "docs", "**", "*.md"), recursive=True),
+        *glob.glob(os.path.join(desk.ROOT, "crates", "*", "README.md")),
+    ]
     pages = [os.path.relpath(path, desk.ROOT) for path in sorted(paths)]
     for page in ("README.md", "CONTRIBUTING.md", "cases/README.md", *pages):
         text, folder = desk.read(page), os.path.dirname(page)
@@ -132,6 +141,18 @@ def not_there() -> Iterator[str]:
     size = len(desk.read("README.md").encode())
     if size > MOST_README:
         yield f"README.md: {size} bytes, more than {MOST_README}"
+
+
+def misnamed() -> Iterator[str]:
+    """What `desk --version` says, where it is not what the packages and the toolchain say."""
+    path = "crates/desk_args/src/command.rt"
+    [(version, logic)] = VERSION.findall(desk.read(path))
+    [package] = re.findall(r"\A\w+ \(([\w.]+)\)", desk.read("packaging/debian/changelog"))
+    if version != package:
+        yield f"{path}: version {version}, and packaging/debian/changelog has {package}"
+    said = desk.run(["rt", "version"]).stdout
+    if logic not in said.split():
+        yield f"{path}: it names the logic {logic}, and rt version says {said.strip()}"
 
 
 def too_wide(path: str, width: int) -> Iterator[tuple[str, str]]:
@@ -169,8 +190,9 @@ def main() -> int:
     if shutil.which("rt") is None:
         print("it needs Rattle's toolchain, the command rt (README.md, 'What you need')")
         return 1
-    wrong = [*badly_laid_out(), *misfits(), *not_made(), *not_there(), *untidy()]
-    wrong += [*unwrapped(), *calls.faults(), *names.faults()]
+    wrong = [*badly_laid_out(), *misfits(), *not_made(), *not_there(), *misnamed(), *untidy()]
+    wrong += [*unwrapped(), *calls.faults(), *names.faults(), *readmes.faults()]
+    wrong += [*installed.faults()]
     print(
         "\n".join(wrong)
         if wrong

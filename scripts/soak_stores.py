@@ -33,6 +33,7 @@ K1, K2, K3, K4 = (
 )
 REFUSALS = {(2, b"", b"F1 FileFailed\n"), K1, K2, K3, K4}
 MARKS = store_files.definition("marks")
+LOOSE_MARKS = store_files.definition("marks", "(asker, no, person, kind, at)")
 EVERY_TABLE = store_files.TABLES[2]
 STATEMENTS = (
     # messages alone
@@ -90,6 +91,10 @@ STATEMENTS = (
     (MARKS, "INSERT INTO marks VALUES ('ann', 7, 'bob', 'approve', 1767601800)"),
     (MARKS, "DROP TABLE verdicts", "UPDATE desk SET schema = 1"),
     (MARKS, "DROP TABLE verdicts"),
+    (LOOSE_MARKS,),
+    (LOOSE_MARKS, "INSERT INTO marks VALUES (NULL, 1.5, x'00', 'approve', 'never')"),
+    (LOOSE_MARKS, "DROP TABLE verdicts", "UPDATE desk SET schema = 1"),
+    ("CREATE VIEW marks AS SELECT 1 AS asker, 2 AS no, 3 AS person, 4 AS kind, 5 AS at",),
     ("CREATE INDEX by_person ON verdicts (person)",),
     ("CREATE VIEW seen AS SELECT body FROM messages",),
     # pages
@@ -346,7 +351,13 @@ class Rows:
         return bodies if {*said} <= {"ack"} else None
 
     def has(self, table: str) -> bool:
-        """Whether the table has the columns that a desk's has."""
+        """Whether the table has the columns that a desk's has; `marks` counts by their names."""
+        if table == "marks":
+            kinds = "SELECT type FROM sqlite_schema WHERE lower(name) = 'marks'"
+            names = self.conn.execute("SELECT name FROM pragma_table_info('marks')")
+            wanted = ["asker", "no", "person", "kind", "at"]
+            is_table = list(self.conn.execute(kinds)) == [("table",)]
+            return is_table and [name for (name,) in names] == wanted
         with contextlib.closing(sqlite3.connect(":memory:")) as other:
             other.execute(store_files.definition(table))
             query = f"SELECT name, type, [notnull], pk FROM pragma_table_info('{table}')"

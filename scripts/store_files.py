@@ -20,9 +20,20 @@ import json
 import os
 import shutil
 import sqlite3
+import subprocess
+import sys
 import tempfile
 from collections.abc import Iterable, Iterator, Mapping
 from typing import Any
+
+# writes a file, as long as its standard input is open
+HOLDER = """
+import sqlite3, sys
+held = sqlite3.connect(sys.argv[1], isolation_level=None)
+held.execute("BEGIN EXCLUSIVE")
+print("held", flush=True)
+sys.stdin.read()
+"""
 
 Recipe = Mapping[str, Any]
 Texts = Mapping[str, str]
@@ -247,6 +258,19 @@ def read(path: str) -> tuple[list[Cells], list[str]]:
         return desk, bodies
 
 
+def is_vacant(path: str) -> bool:
+    """Whether a file, with its log, has no table of a desk's name. One that is no database is not
+    vacant, and one that is not there is."""
+    if not os.path.lexists(path):
+        return True
+    if not os.path.isfile(path):
+        return False
+    with contextlib.suppress(sqlite3.Error, OSError):
+        names = {name for (name,) in asked(path, "SELECT lower(name) FROM sqlite_schema")}
+        return not names & {*COLUMNS}
+    return False
+
+
 def asked(path: str, query: str) -> list[list[Any]]:
     """The rows of a query."""
     with copied(path) as conn:
@@ -266,10 +290,14 @@ def as_it_is(path: str) -> tuple[int, bytes] | int | None:
 
 @contextlib.contextmanager
 def taken(path: str) -> Iterator[None]:
-    """The file is written by another meanwhile."""
-    with connected(path) as conn:
-        conn.execute("BEGIN EXCLUSIVE")
+    """The file is written by another process meanwhile. (Not by this one: the locks of a process on
+    a file end when it closes the file, as `is_vacant` does.)"""
+    words = [sys.executable, "-c", HOLDER, path]
+    with subprocess.Popen(words, stdin=subprocess.PIPE, stdout=subprocess.PIPE) as holder:
+        assert holder.stdin is not None and holder.stdout is not None
+        assert holder.stdout.readline() == b"held\n"
         yield
+        holder.stdin.close()
 
 
 def clear(folder: str) -> None:

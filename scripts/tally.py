@@ -8,6 +8,8 @@ import sys
 from collections import Counter
 from collections.abc import Callable, Sequence
 
+import desk
+
 # the seconds after which a run hangs; a machine that is busy with other things takes more
 PATIENCE = float(os.environ.get("PATIENCE", "20"))
 MOST_SHOWN = 20
@@ -65,7 +67,8 @@ class Tally:
             self.stops += 1
             self.show(f"status {done.returncode}: {words} {done.stderr[-200:]!r}")
             raise Stopped
-        return done.returncode, done.stdout, done.stderr
+        err = desk.without_names(done.stderr.decode("latin-1")).encode("latin-1")
+        return done.returncode, done.stdout, err
 
 
 class Count:

@@ -3,13 +3,15 @@
 # left, the demo, the cases, sudo beside the desk, the desk served over loopback, its file beside
 # sqlite3, each request for memory refused, the relays and tools, hosts with their sudo, and several
 # desks behind a broker. The types of the relays, the broker's programs and the tools come before.
-# With WHOLE=1 a part that cannot run here fails; without it, it is left out and named. The last
-# line is 'N passed, M failed'.
+# With WHOLE=1 a part that cannot run here fails; without it, it is left out and named. At the end
+# each part that failed is named again, with its last lines. The last line is 'N passed, M failed'.
 set -euo pipefail
 cd "$(dirname "$0")/.."
 export PATH="$PATH:/usr/sbin:/sbin"
 log=$(mktemp)
-trap 'rm -f "$log"' EXIT
+said=$(mktemp)
+failures=$(mktemp)
+trap 'rm -f "$log" "$said" "$failures"' EXIT
 passed=0 failed=0
 
 # Runs a part: its name, then the words of its command.
@@ -17,11 +19,16 @@ part() {
     local name=$1
     shift
     echo "== $name"
-    if "$@"; then
+    if "$@" 2>&1 | tee "$said"; then
         passed=$((passed + 1))
     else
         echo "$name: FAILED"
         failed=$((failed + 1))
+        {
+            echo "== FAILED: $name"
+            { grep -aE ': otherwise|FAILED|Error' "$said" || true; } | tail -n 6 | cut -c -300
+            tail -n 6 "$said" | cut -c -300
+        } >> "$failures"
     fi
 }
 
@@ -52,8 +59,9 @@ demo() {
 }
 
 cases() {
-    python3 scripts/cases.py && python3 scripts/random_reports.py &&
-        python3 scripts/cases_audit.py && /usr/bin/python3 scripts/random_audits.py
+    python3 scripts/cases.py && python3 scripts/decisions.py &&
+        python3 scripts/random_reports.py && python3 scripts/cases_audit.py &&
+        /usr/bin/python3 scripts/random_audits.py
 }
 
 peers() {
@@ -61,8 +69,12 @@ peers() {
         python3 scripts/peers_requests.py && python3 scripts/peers_http.py &&
         python3 scripts/peers_socket.py &&
         python3 scripts/peers_patience.py && python3 scripts/peers_crowd.py &&
-        python3 scripts/peers_store.py &&
+        python3 scripts/peers_store.py && python3 scripts/peers_site.py &&
         python3 scripts/peers_monitoring.py
+}
+
+faults() {
+    python3 scripts/faults.py && python3 scripts/allocation_counts.py
 }
 
 # the short form of `make soak`
@@ -108,7 +120,7 @@ cp crates/desk_audit_cli/out/desk_audit_cli build/desk-audit
 part demo demo
 part_with cases setpriv jq -- cases
 part_with peers root sudo visudo cvtsudoers faketime unshare curl nc sqlite3 nginx openssl -- peers
-part_with faults cc -- python3 scripts/faults.py
+part_with faults cc -- faults
 part_with soak root cc visudo unshare mount prlimit setpriv -- soak
 part_with types root apt-get -- bash scripts/types.sh
 part_with relays-test root apt-get -- bash relays/test.sh
@@ -121,5 +133,6 @@ part_with peers nginx haproxy openssl sqlite3 strace flock -- front
 part_with package-test root dpkg-buildpackage dh lintian systemd-analyze sudo faketime unshare ip \
     nginx haproxy openssl strace epmd -- package_test
 part_with several root unshare mount -- bash scripts/several.sh --short
+cat "$failures"
 echo "$passed passed, $failed failed"
 [ "$failed" = 0 ]

@@ -43,8 +43,8 @@ build() {
         cat "$room/log" >&2
         return 1
     fi
-    # `desk --version` names the kit that the program is proved with, and this one is not.
-    LC_ALL=C sed -i 's/proved with rattle-kit/NOT PROVED: rattle-kit/' "$room/taken"
+    # `desk --version` names the logic that the program is proved in, and this one is not.
+    LC_ALL=C sed -i 's/proved with rattle logic/NOT PROVED: rattle logic/' "$room/taken"
     mv "$room/taken" "build/$name-unproved"
     chmod 0755 "build/$name-unproved"
     if "build/$name-unproved" --version 2> /dev/null | grep 'proved with'; then

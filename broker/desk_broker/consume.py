@@ -8,14 +8,13 @@ No message holds up those behind it by what a relay wrote into it: headers decid
 (reading.py), and one at which this program itself fails twice is put by as a refusal is. One that
 ends the program's process each time is put by by the broker, after as many deliveries as its policy
 says (definitions.py). So that this counts against hardly any other, the head of the queue comes
-alone after each start: each start settles at least one of the few that were posted at once, and
+alone after each start: each start settles at least one of the few that were posted before it, and
 then that message is the head.
 """
 
 from __future__ import annotations
 
 import argparse
-import contextlib
 import logging
 import os
 import signal
@@ -39,6 +38,7 @@ LOG = logging.getLogger("desk-consume")
 PREFETCH = 256
 HEARTBEAT = 60  # seconds: more than a post to the desk may take
 EMPTY = 0.5  # seconds between two looks at a queue that is empty
+LOOK = 0.01  # seconds between two looks at a queue, while messages are on their way to the desk
 
 
 class Link:
@@ -51,14 +51,9 @@ class Link:
         self._channel = connection.channel()
         self._acks = Acks()
 
-    def wake(self) -> None:
-        """Ends `wait`; any thread may call it."""
-        with contextlib.suppress(*AWAY):
-            self.connection.add_callback_threadsafe(lambda: None)
-
-    def wait(self) -> None:
-        """Waits for what comes, or until it is woken, for a while."""
-        self.connection.process_data_events(EMPTY)
+    def wait(self, most: float) -> None:
+        """Takes what came, and waits for it so many seconds."""
+        self.connection.process_data_events(most)
 
     def take_head(self, flight: Flight) -> bool:
         """Takes the message at the head of the queue alone, where there is one."""
@@ -88,10 +83,11 @@ class Link:
     def settle(self, delivery: Delivery) -> None:
         self._acks.settle(delivery.tag)
 
-    def acknowledge(self) -> None:
-        """Takes off the queue what is settled, up to the first that is not."""
+    def acknowledge(self, flight: Flight) -> None:
+        """Takes off the queue what is settled, up to the first that is not, by one word."""
         if (last := self._acks.due()) is not None:
             self._channel.basic_ack(last, multiple=True)
+            flight.acknowledged(last)
 
 
 class Consumer:
@@ -131,7 +127,7 @@ class Consumer:
         try:
             LOG.info("desk %s: connected to %s", self._name, parameters.host)
             link = Link(connection, names.queue(self._name))
-            flight = Flight(self._name, self._desk, self.tally, self.is_stopping, link.wake)
+            flight = Flight(self._name, self._desk, self.tally, self.is_stopping)
             try:
                 self._carry(link, flight)
             finally:
@@ -143,17 +139,21 @@ class Consumer:
         """The head of the queue alone; once that is settled many at a time."""
         is_open = link.take_head(flight)
         while is_open and not self._stopping:
-            link.wait()
-            is_open = not self._settle_done(link, flight)
+            is_open = not self._go_on(link, flight)
         if not self._stopping:
             link.take_all(flight)
         while not self._stopping and link.is_taking():
-            link.wait()
-            self._settle_done(link, flight)
+            self._go_on(link, flight)
             self.tally.tell_if_due()
         if self._stopping:
             flight.finish()
             self._settle_done(link, flight)
+
+    def _go_on(self, link: Link, flight: Flight) -> int:
+        """Takes what came from the queue, and posts for a while; how many answers there were."""
+        link.wait(min(EMPTY, flight.idle_for()))
+        flight.go_on(LOOK)
+        return self._settle_done(link, flight)
 
     def _settle_done(self, link: Link, flight: Flight) -> int:
         """Takes off the queue what was answered; how many answers there were."""
@@ -162,7 +162,7 @@ class Consumer:
             count += 1
             if self._settle(link.connection, link.refusals, delivery, answer):
                 link.settle(delivery)
-        link.acknowledge()
+        link.acknowledge(flight)
         return count
 
     def _settle(
@@ -170,11 +170,9 @@ class Consumer:
         connection: BlockingConnection,
         refusals: BlockingChannel,
         delivery: Delivery,
-        answer: Answer | None,
+        answer: Answer,
     ) -> bool:
         """Whether the message may leave the queue; not, where it is time to stop before."""
-        if answer is None:
-            return False
         if answer.kind is Kind.REFUSED and not self._put_by(connection, refusals, delivery, answer):
             return False
         self.tally.done(answer.kind is Kind.TAKEN, delivery.lag())

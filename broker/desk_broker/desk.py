@@ -5,7 +5,9 @@ from __future__ import annotations
 import dataclasses
 import enum
 import re
+import select
 import socket
+import time
 import urllib.parse
 from http.client import HTTPException, IncompleteRead, RemoteDisconnected
 
@@ -52,35 +54,76 @@ HEAD = re.compile(rb"HTTP/1\.[01] ([0-9]{3})(?: [^\r\n]*)?\r\n((?:[^\r\n]+\r\n)*
 LENGTH = re.compile(rb"^content-length: *([0-9]{1,9}) *\r$", re.IGNORECASE | re.MULTILINE)
 
 
-def read_reply(peer: socket.socket) -> tuple[int, str]:
-    """The status of the one reply of a connection, and the first of its text.
+class Post:
+    """A message that a desk was sent, over a connection of its own: the desk closes it after its
+    reply. Whoever has many waits for their descriptors, and reads each when it is ready.
 
     (http.client takes nine times as much of the processor, most of it for fields that say nothing
     here. A reply in chunks is none of a desk's, and is judged so by its text.)
     """
-    whole = b""
-    while (head := HEAD.match(whole)) is None:
-        piece = peer.recv(MOST_HEAD)
-        if not piece or len(whole) > MOST_HEAD:
-            raise RemoteDisconnected("")
-        whole += piece
-    length = LENGTH.search(head[2])
-    end = head.end() + min(MOST_REPLY, int(length[1]) if length else MOST_REPLY)
-    while len(whole) < end:
-        piece = peer.recv(MOST_REPLY)
-        if not piece and length is not None:
-            raise IncompleteRead(whole)
-        if not piece:
-            break
-        whole += piece
-    return int(head[1]), whole[head.end() : end].decode("utf-8", "replace")
+
+    def __init__(self, peer: socket.socket, patience: float) -> None:
+        self._peer, self._whole = peer, b""
+        self.begun = time.monotonic()
+        self.until = self.begun + patience
+
+    def fileno(self) -> int:
+        return self._peer.fileno()
+
+    def read(self) -> Answer | None:
+        """Reads what came; the answer, where that is whole. Its connection is closed then."""
+        try:
+            piece = self._peer.recv(MOST_HEAD)
+            self._whole += piece
+            answer = self._answer(is_over=not piece)
+        except (OSError, HTTPException) as error:
+            answer = no_reply(error)
+        if answer is not None:
+            self.close()
+        return answer
+
+    def _answer(self, is_over: bool) -> Answer | None:
+        if (head := HEAD.match(self._whole)) is None:
+            if is_over or len(self._whole) > MOST_HEAD:
+                raise RemoteDisconnected("")
+            return None
+        length = LENGTH.search(head[2])
+        end = head.end() + min(MOST_REPLY, int(length[1]) if length else MOST_REPLY)
+        if len(self._whole) < end:
+            if not is_over:
+                return None
+            if length is not None:
+                raise IncompleteRead(self._whole)
+        return judge(int(head[1]), self._whole[head.end() : end].decode("utf-8", "replace"))
+
+    def wait(self) -> Answer:
+        """The answer to this one alone."""
+        answer = None
+        while answer is None:
+            left = self.until - time.monotonic()
+            if left <= 0 or not select.select([self._peer], [], [], left)[0]:
+                answer = self.give_up()
+            else:
+                answer = self.read()
+        return answer
+
+    def give_up(self) -> Answer:
+        """Nobody waits for it any longer."""
+        self.close()
+        return no_reply(TimeoutError())
+
+    def close(self) -> None:
+        self._peer.close()
+
+
+def no_reply(error: Exception) -> Answer:
+    said = "timed out" if isinstance(error, TimeoutError) else type(error).__name__
+    return Answer(Kind.WAITS, f"no reply: {said}")
 
 
 class Desk:
-    """A desk at its address, as `unix:/run/desk/desk.sock` or `http://127.0.0.1:8080`.
-
-    Each post has a connection of its own: the desk closes it after its reply. Any thread may post.
-    """
+    """A desk at its address, as `unix:/run/desk/desk.sock` or `http://127.0.0.1:8080`. A post may
+    take so many seconds."""
 
     def __init__(self, address: str, patience: float = 20.0) -> None:
         self._path = address.removeprefix("unix:") if address.startswith("unix:/") else ""
@@ -92,7 +135,7 @@ class Desk:
             raise BadAddress(f"{address!r} is neither unix:/PATH nor http://HOST:PORT")
         self._host, self._port = parts.hostname, parts.port or 80
 
-    def connected(self) -> socket.socket:
+    def _connected(self) -> socket.socket:
         if not self._path:
             return socket.create_connection((self._host, self._port), self._patience)
         peer = socket.socket(socket.AF_UNIX)
@@ -104,18 +147,29 @@ class Desk:
             raise
         return peer
 
-    def post(self, relay: str, body: bytes) -> Answer:
-        """Posts a message as the relay's."""
+    def begin(self, relay: str, body: bytes) -> Post | Answer:
+        """Sends a message as the relay's; the post, or the answer where there is one already.
+
+        (A desk on this machine is connected to at once, or not at all, and there is room for the
+        longest message on the way to it: nothing waits here.)
+        """
         if len(body) > MOST_BYTES:
             # the desk says so by the length alone, and need not be sent the bytes
             return Answer(Kind.REFUSED, TOO_LONG)
         head = f"POST /v1/relays/{relay}/messages HTTP/1.1\r\nHost: desk\r\n"
         head += f"Content-Length: {len(body)}\r\nConnection: close\r\n\r\n"
         try:
-            with self.connected() as peer:
+            peer = self._connected()
+            try:
                 peer.sendall(head.encode("ascii") + body)
-                return judge(*read_reply(peer))
-        except TimeoutError:
-            return Answer(Kind.WAITS, "no reply: timed out")
-        except (OSError, HTTPException) as error:
-            return Answer(Kind.WAITS, f"no reply: {type(error).__name__}")
+            except OSError:
+                peer.close()
+                raise
+        except OSError as error:
+            return no_reply(error)
+        return Post(peer, self._patience)
+
+    def post(self, relay: str, body: bytes) -> Answer:
+        """Posts a message as the relay's, and waits for the answer."""
+        begun = self.begin(relay, body)
+        return begun if isinstance(begun, Answer) else begun.wait()

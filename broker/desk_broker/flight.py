@@ -1,30 +1,34 @@
 """Messages on their way from a queue to a desk, several at once.
 
 Order means nothing to a desk, so while it answers no message waits for another. Where it does not
-answer one, that one alone is tried again, at waits that double, and nobody begins another post
-until it was answered: a desk that is away is asked by one, and not by all.
+answer one, that one alone is tried again, at waits that double, and no other post begins until it
+was answered: a desk that is away is asked by one, and not by all.
+
+All of it runs in one thread, which waits for the desk's replies together: with a thread for each
+post, handing over the interpreter cost more than the posts.
 """
 
 from __future__ import annotations
 
 import dataclasses
 import logging
-import threading
+import select
 import time
 from collections import deque
 from collections.abc import Callable, Iterator
-from concurrent.futures import ThreadPoolExecutor
 
 import pika
 
 from desk_broker import names
 from desk_broker.backoff import Backoff
-from desk_broker.desk import Answer, Desk, Kind
+from desk_broker.desk import Answer, Desk, Kind, Post
 from desk_broker.tally import Tally
 
 LOG = logging.getLogger("desk-consume")
 POSTS = 16  # at once
+AHEAD = 2 * POSTS  # begun, from the first that is not acknowledged on
 TRIES = 2  # of a message at which this program fails
+PAUSE = 1.0  # seconds between these
 TICK = 0.2  # seconds between two looks at whether it is time to stop
 
 
@@ -75,104 +79,180 @@ class Acks:
 
 
 class Flight:
-    """The posts of one connection to the broker. Once it is ended, or it is time to stop, none
-    begins; those that have begun are answered, or given up at their next wait."""
+    """The posts of one connection to the broker. Once it is time to stop, none begins.
+
+    A channel numbers its deliveries one after the other. None begins that is more than `AHEAD`
+    places behind the last one acknowledged: so where a message ends this program, at most so many
+    stand in the queue from the first that is left up to it.
+    """
 
     def __init__(
-        self,
-        name: str,
-        desk: Desk,
-        tally: Tally,
-        is_stopping: Callable[[], bool] = lambda: False,
-        wake: Callable[[], None] = lambda: None,
+        self, name: str, desk: Desk, tally: Tally, is_stopping: Callable[[], bool] = lambda: False
     ) -> None:
-        """`wake` is called, by any thread, when a message is done."""
         self._name, self._desk, self._tally = name, desk, tally
-        self._is_stopping, self._wake = is_stopping, wake
-        self._is_ended = False
-        self._trying = threading.Lock()  # of the one message that is tried again
-        self._went_on = 0.0  # when the desk last answered one that was tried again
-        self._done: deque[tuple[Delivery, Answer | None]] = deque()
-        self._pool = ThreadPoolExecutor(POSTS, "desk-post")
+        self._is_stopping = is_stopping
+        self._poller = select.epoll()
+        self._waiting: deque[Delivery] = deque()
+        self._open: dict[int, tuple[Delivery, Post]] = {}  # by their descriptors
+        self._done: deque[tuple[Delivery, Answer]] = deque()
+        self._last_acknowledged = 0
+        self._unanswered: deque[Delivery] = deque()  # the first of these alone is tried
+        self._backoff, self._next_try = Backoff(0.1, 10.0), 0.0
+        self._lacking_since = self._went_on = 0.0  # an answer; and when there was one again
+        self._failed: dict[int, tuple[int, float, Delivery]] = {}  # how often, and until when not
 
     def begin(self, delivery: Delivery) -> None:
-        self._pool.submit(self._post, delivery)
+        self._waiting.append(delivery)
 
-    def done(self) -> Iterator[tuple[Delivery, Answer | None]]:
-        """What was answered since; None as an answer: it stays in the queue."""
+    def acknowledged(self, last: int) -> None:
+        """All up to this one are off the queue."""
+        self._last_acknowledged = last
+
+    def done(self) -> Iterator[tuple[Delivery, Answer]]:
+        """What was answered since."""
         while self._done:
             yield self._done.popleft()
 
+    def go_on(self, most: float) -> None:
+        """Posts what there is, for so many seconds, or until enough is answered, or nothing is left
+        that has begun."""
+        until = time.monotonic() + most
+        self._begin_more()
+        while self._open and len(self._done) < POSTS and (left := until - time.monotonic()) > 0:
+            self._read(min(left, TICK))
+            self._begin_more()
+
+    def idle_for(self) -> float:
+        """The seconds for which there is nothing to do here, if nothing comes from the queue."""
+        if self._open or self._is_stopping() or (self._waiting and not self._unanswered):
+            return 0.0
+        times = [until for _, until, _ in self._failed.values()]
+        times += [self._next_try] if self._unanswered else []
+        return max(0.0, min(times) - time.monotonic()) if times else float("inf")
+
     def finish(self) -> None:
         """Waits for the posts that have begun."""
-        self._pool.shutdown(wait=True, cancel_futures=True)
+        while self._open:
+            self._read(TICK)
 
     def end(self) -> None:
         """Nobody asks for the answers any longer."""
-        self._is_ended = True
-        self._pool.shutdown(wait=False, cancel_futures=True)
+        for _, post in self._open.values():
+            post.close()
+        self._open.clear()
+        self._poller.close()
 
-    # All below runs in the threads of the pool.
+    def _begin_more(self) -> None:
+        while (
+            len(self._open) < POSTS
+            and not self._is_stopping()
+            and (delivery := self._next()) is not None
+        ):
+            self._begin(delivery)
 
-    def _post(self, delivery: Delivery) -> None:
-        self._done.append((delivery, self.judged(delivery)))
-        self._wake()
+    def _next(self) -> Delivery | None:
+        """The message whose post begins now."""
+        now = time.monotonic()
+        if self._unanswered:
+            first = self._unanswered[0]
+            is_tried = any(delivery is first for delivery, _ in self._open.values())
+            return None if is_tried or now < self._next_try else first
+        for number, until, delivery in self._failed.values():
+            if until <= now:
+                self._failed[delivery.tag] = number, float("inf"), delivery
+                return delivery
+        if self._waiting and self._waiting[0].tag <= self._last_acknowledged + AHEAD:
+            return self._waiting.popleft()
+        return None
 
-    def judged(self, delivery: Delivery) -> Answer | None:
-        """The last word on a message; None: it is time to stop before. One at which this program
-        fails is tried once more, and then refused."""
-        for number in range(1, TRIES + 1):
-            try:
-                return self._answer(delivery)
-            except Exception:
-                LOG.exception(
-                    "desk %s: failed at a message, relay %s, %d bytes, try %d of %d",
-                    self._name, delivery.relay, len(delivery.body), number, TRIES,
-                )
-                self._pause(1.0)
-        return None if self._is_over() else Answer(Kind.REFUSED, names.FAILS)
+    def _begin(self, delivery: Delivery) -> None:
+        try:
+            if delivery.fault is not None or delivery.relay is None:
+                self._finish(delivery, Answer(Kind.REFUSED, delivery.fault or names.NO_RELAY))
+                return
+            begun = self._desk.begin(delivery.relay, delivery.body)
+            if isinstance(begun, Answer):
+                self._judge(delivery, begun, time.monotonic())
+                return
+            self._poller.register(begun, select.EPOLLIN)
+            self._open[begun.fileno()] = delivery, begun
+        except Exception:
+            self._fail(delivery)
 
-    def _answer(self, delivery: Delivery) -> Answer | None:
-        if delivery.fault is not None or delivery.relay is None:
-            return Answer(Kind.REFUSED, delivery.fault or names.NO_RELAY)
-        with self._trying:
-            pass  # (while one is tried again, nobody begins)
-        if self._is_over():
-            return None
-        begun = time.monotonic()
-        answer = self._desk.post(delivery.relay, delivery.body)
+    def _read(self, most: float) -> None:
+        """Reads what came within so many seconds, and gives up what came too late."""
+        for place, _ in self._poller.poll(most):
+            self._take(place, Post.read)
+        now = time.monotonic()
+        for place in [place for place, (_, post) in self._open.items() if post.until <= now]:
+            self._take(place, Post.give_up)
+
+    def _take(self, place: int, read: Callable[[Post], Answer | None]) -> None:
+        """What one post has to say, and what follows. (Its descriptor leaves the poller when it is
+        closed.)"""
+        delivery, post = self._open[place]
+        try:
+            if (answer := read(post)) is not None:
+                del self._open[place]
+                self._judge(delivery, answer, post.begun)
+        except Exception:
+            self._open.pop(place, None)
+            post.close()
+            self._fail(delivery)
+
+    def _judge(self, delivery: Delivery, answer: Answer, begun: float) -> None:
+        is_first = bool(self._unanswered) and self._unanswered[0] is delivery
         if answer.kind is not Kind.WAITS:
-            return answer
-        with self._trying:
-            if self._went_on > begun:
-                answer = self._desk.post(delivery.relay, delivery.body)
-            return self._again(delivery.relay, delivery.body, answer)
+            if is_first:
+                self._go_on_again()
+            self._finish(delivery, answer)
+            return
+        if self._is_stopping():
+            return
+        if not is_first:
+            self._unanswered.append(delivery)
+        if self._unanswered[0] is delivery and (is_first or begun >= self._went_on):
+            self._wait(answer)
 
-    def _again(self, relay: str, body: bytes, answer: Answer) -> Answer | None:
-        """The desk's last word, after as many tries as it takes; None: stopped."""
-        backoff, begun = Backoff(0.1, 10.0), time.monotonic()
-        while answer.kind is Kind.WAITS:
-            if self._is_over():
-                return None
-            wait = backoff.next()
-            self._tally.tried_again += 1
-            LOG.warning(
-                "desk %s: no answer (%s), try %d; the next in %.1f s",
-                self._name, answer.said, backoff.tries, wait,
-            )
-            self._pause(wait)
-            if self._is_over():
-                return None
-            answer = self._desk.post(relay, body)
+    def _wait(self, answer: Answer) -> None:
+        """The first of those without an answer is tried again, later."""
+        now = time.monotonic()
+        if not self._backoff.tries:
+            self._lacking_since = now
+        wait = self._backoff.next()
+        self._next_try = now + wait
+        self._tally.tried_again += 1
+        LOG.warning(
+            "desk %s: no answer (%s), try %d; the next in %.1f s",
+            self._name, answer.said, self._backoff.tries, wait,
+        )
+
+    def _go_on_again(self) -> None:
+        """The desk answered the one that was tried; the next one without an answer has its turn."""
+        self._unanswered.popleft()
         self._went_on = time.monotonic()
-        if backoff.tries:
-            LOG.info("desk %s: it goes on after %.1f s", self._name, self._went_on - begun)
-        return answer
+        self._next_try = self._went_on
+        if self._backoff.tries:
+            lasted = self._went_on - self._lacking_since
+            LOG.info("desk %s: it goes on after %.1f s", self._name, lasted)
+        self._backoff.reset()
 
-    def _pause(self, seconds: float) -> None:
-        until = time.monotonic() + seconds
-        while not self._is_over() and (left := until - time.monotonic()) > 0:
-            time.sleep(min(left, TICK))
+    def _fail(self, delivery: Delivery) -> None:
+        """One at which this program fails is tried once more, and then refused."""
+        number = self._failed[delivery.tag][0] + 1 if delivery.tag in self._failed else 1
+        LOG.exception(
+            "desk %s: failed at a message, relay %s, %d bytes, try %d of %d",
+            self._name, delivery.relay, len(delivery.body), number, TRIES,
+        )
+        if self._unanswered and self._unanswered[0] is delivery:
+            self._unanswered.popleft()
+            self._next_try = time.monotonic()
+            self._backoff.reset()
+        if number < TRIES:
+            self._failed[delivery.tag] = number, time.monotonic() + PAUSE, delivery
+        elif not self._is_stopping():
+            self._finish(delivery, Answer(Kind.REFUSED, names.FAILS))
 
-    def _is_over(self) -> bool:
-        return self._is_ended or self._is_stopping()
+    def _finish(self, delivery: Delivery, answer: Answer) -> None:
+        self._failed.pop(delivery.tag, None)
+        self._done.append((delivery, answer))

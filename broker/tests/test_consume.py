@@ -40,7 +40,7 @@ class Told:
         self.answers, self.on_post = list(answers), on_post
         self.posted: list[tuple[str, bytes]] = []
 
-    def post(self, relay: str, body: bytes) -> Answer:
+    def begin(self, relay: str, body: bytes) -> Answer:
         self.posted.append((relay, body))
         called(self.on_post)
         return self.answers.pop(0)
@@ -79,7 +79,7 @@ class Refusals:
 def quick(monkeypatch: pytest.MonkeyPatch) -> None:
     for module in (consume, flight):
         monkeypatch.setattr(module, "Backoff", lambda first, most: Quick())
-    monkeypatch.setattr(Flight, "_pause", lambda self, seconds: time.sleep(seconds / 50))
+    monkeypatch.setattr(flight, "PAUSE", 0.02)
 
 
 class Quick:
@@ -93,9 +93,21 @@ class Quick:
         self.tries = 0
 
 
+def answers(on_its_way: Flight, consumer: Consumer) -> list[tuple[Delivery, Answer]]:
+    """What was answered before it was time to stop."""
+    until = time.monotonic() + 30
+    found: list[tuple[Delivery, Answer]] = []
+    while not found and not consumer.is_stopping() and time.monotonic() < until:
+        on_its_way.go_on(0.01)
+        found = list(on_its_way.done())
+        time.sleep(min(0.01, on_its_way.idle_for()))
+    on_its_way.end()
+    return found
+
+
 def delivery(user: str | None = "relay-web", **more: Any) -> Delivery:
     properties = pika.BasicProperties(user_id=user, headers={"sent-ms": 5_000}, **more)
-    return Delivery.of(7, properties, b"{}")
+    return Delivery.of(1, properties, b"{}")
 
 
 def settle(
@@ -111,8 +123,13 @@ def settle(
     if desk.on_post == "stop":
         desk.on_post = consumer.stop
     on_its_way = Flight("a", cast(Desk, desk), consumer.tally, consumer.is_stopping)
-    answer = on_its_way.judged(given)
-    return consumer, consumer._settle(link, refusals or Refusals(), given, answer)
+    on_its_way.begin(given)
+    refusals = refusals or Refusals()
+    settled = [
+        consumer._settle(cast(Any, link), cast(Any, refusals), *found)
+        for found in answers(on_its_way, consumer)
+    ]
+    return consumer, settled == [True]
 
 
 def test_the_relay_is_the_account_that_published() -> None:
@@ -142,12 +159,12 @@ class Fails(Told):
         super().__init__([TAKEN], on_post)
         self.often = often
 
-    def post(self, relay: str, body: bytes) -> Answer:
+    def begin(self, relay: str, body: bytes) -> Answer:
         if self.often:
             called(self.on_post)
             self.often -= 1
             raise RecursionError
-        return super().post(relay, body)
+        return super().begin(relay, body)
 
 
 def test_what_fails_once_is_tried_again() -> None:
@@ -227,13 +244,10 @@ class Queue:
 
     def __init__(self, bodies: Iterable[bytes], at_once: int = 3) -> None:
         self.bodies, self.at_once, self.connection = list(bodies), at_once, Link()
-        self.tag, self.acknowledged, self.acks = 0, 0, Acks()
+        self.tag, self.acknowledged, self.acks, self.words = 0, 0, Acks(), 0
         self.steps: list[str | tuple[str, int]] = []
         self.flight: Flight
         self.stop: Callable[[], None]
-
-    def wake(self) -> None:
-        pass
 
     def _give(self) -> None:
         self.tag += 1
@@ -251,8 +265,8 @@ class Queue:
     def take_all(self, _: Flight) -> None:
         self.steps.append(("all", self.acknowledged))
 
-    def wait(self) -> None:
-        time.sleep(0.01)
+    def wait(self, most: float) -> None:
+        time.sleep(min(most, 0.01))
         while "all" in str(self.steps) and self.bodies and self.open() < self.at_once:
             self._give()
         if not self.bodies and not self.open():
@@ -267,15 +281,17 @@ class Queue:
     def settle(self, delivery: Delivery) -> None:
         self.acks.settle(delivery.tag)
 
-    def acknowledge(self) -> None:
-        self.acknowledged = self.acks.due() or self.acknowledged
+    def acknowledge(self, flight: Flight) -> None:
+        if (last := self.acks.due()) is not None:
+            self.acknowledged, self.words = last, self.words + 1
+            flight.acknowledged(last)
 
 
 def carried(desk: Told, queue: Queue) -> Consumer:
     consumer = Consumer("a", cast(Desk, desk), BROKER)
     queue.stop = consumer.stop
     posts = cast(Desk, desk)
-    on_its_way = Flight("a", posts, consumer.tally, consumer.is_stopping, queue.wake)
+    on_its_way = Flight("a", posts, consumer.tally, consumer.is_stopping)
     consumer._carry(cast(RealLink, queue), on_its_way)
     on_its_way.end()
     return consumer
@@ -287,6 +303,14 @@ def test_the_head_comes_alone_and_then_many() -> None:
     assert queue.steps == ["head", ("all", 1)]
     assert (queue.acknowledged, consumer.tally.taken) == (50, 50)
     assert {body for _, body in desk.posted} == {b"%d" % number for number in range(50)}
+
+
+def test_many_are_acknowledged_by_one_word() -> None:
+    count = 20 * flight.POSTS
+    queue = Queue([b"%d" % number for number in range(count)], 4 * flight.POSTS)
+    carried(Told([TAKEN] * count), queue)
+    assert queue.acknowledged == count
+    assert queue.words <= 2 + count // flight.POSTS, "one for the head, and for so many each"
 
 
 def test_an_empty_queue_is_taken_from_at_once() -> None:

@@ -2,31 +2,49 @@
 
 from __future__ import annotations
 
-import threading
+import logging
+import socket
 import time
+from collections.abc import Callable
 from typing import Any, cast
 
 import pytest
-from desk_broker.desk import Answer, Desk, Kind
-from desk_broker.flight import POSTS, Acks, Delivery, Flight
+from desk_broker import flight as module
+from desk_broker.desk import Answer, Desk, Kind, Post
+from desk_broker.flight import AHEAD, POSTS, Acks, Delivery, Flight
 from desk_broker.tally import Tally
 
 TAKEN, BUSY = Answer(Kind.TAKEN, "ack"), Answer(Kind.WAITS, "503 K4 Storage")
+ACK, STORAGE = (b"HTTP/1.1 %s\r\nContent-Length: %d\r\n\r\n%s" % reply for reply in (
+    (b"200 OK", 4, b"ack\n"), (b"503 No", 11, b"K4 Storage\n"),
+))
 PATIENCE = 30
+
+
+class Sockets:
+    """A desk that says to each post what it is told to, or nothing yet."""
+
+    def __init__(self, said: Callable[[int, bytes], bytes], patience: float = PATIENCE) -> None:
+        """`said` has the number of the post, from 1, and its body."""
+        self.said, self.patience = said, patience
+        self.posted: list[bytes] = []
+        self.peers: dict[bytes, socket.socket] = {}
+
+    def begin(self, relay: str, body: bytes) -> Post | Answer:
+        self.posted.append(body)
+        ours, theirs = socket.socketpair()
+        self.peers[body] = theirs
+        self.say(body, self.said(len(self.posted), body))
+        return Post(ours, self.patience)
+
+    def say(self, body: bytes, said: bytes) -> None:
+        if said:
+            self.peers[body].sendall(said)
+            self.peers.pop(body).close()
 
 
 def delivery(tag: int) -> Delivery:
     return Delivery(tag, "web", b"%d" % tag, None)
-
-
-def answers(flight: Flight, count: int) -> dict[int, Answer | None]:
-    """So many answers, by the tags of their messages."""
-    found: dict[int, Answer | None] = {}
-    until = time.monotonic() + PATIENCE
-    while len(found) < count and time.monotonic() < until:
-        found |= {given.tag: answer for given, answer in flight.done()}
-        time.sleep(0.01)
-    return found
 
 
 def started(desk: object, count: int, **more: Any) -> Flight:
@@ -36,44 +54,76 @@ def started(desk: object, count: int, **more: Any) -> Flight:
     return flight
 
 
-class Meeting:
-    """A desk that answers when so many posts wait for it at once."""
+def answers(flight: Flight, count: int) -> dict[int, Answer | None]:
+    """So many answers, by the tags of their messages; all are acknowledged."""
+    found: dict[int, Answer | None] = {}
+    until = time.monotonic() + PATIENCE
+    while len(found) < count and time.monotonic() < until:
+        found |= answered(flight)
+        flight.acknowledged(max(found, default=0))
+        time.sleep(min(0.01, flight.idle_for()))
+    return found
 
-    def __init__(self, count: int) -> None:
-        self.barrier = threading.Barrier(count)
 
-    def post(self, relay: str, body: bytes) -> Answer:
-        self.barrier.wait(PATIENCE)
-        return TAKEN
+def answered(flight: Flight) -> dict[int, Answer]:
+    """What is answered at once."""
+    flight.go_on(0.01)
+    return {given.tag: answer for given, answer in flight.done()}
 
 
 def test_so_many_are_posted_at_once() -> None:
-    woken = []
-    flight = started(Meeting(POSTS), 3 * POSTS, wake=lambda: woken.append(1))
-    assert answers(flight, 3 * POSTS) == {tag: TAKEN for tag in range(1, 3 * POSTS + 1)}
-    flight.finish()
-    assert len(woken) == 3 * POSTS
+    desk = Sockets(lambda number, body: b"")
+    flight = started(desk, 3 * POSTS)
+    assert answered(flight) == {}
+    assert len(desk.posted) == POSTS
+    for body in list(desk.peers):
+        desk.say(body, ACK)
+    assert answered(flight) == {tag: TAKEN for tag in range(1, POSTS + 1)}
+    assert len(desk.posted) == 2 * POSTS, "each answer makes room for another"
+    flight.end()
 
 
-class Away:
-    """A desk that begins to answer when it was asked so often, and remembers by what and when."""
+def test_it_is_idle_when_nothing_waits() -> None:
+    flight = started(Sockets(lambda number, body: ACK), 3 * POSTS)
+    found: set[int] = set()
+    while len(found) < 3 * POSTS:
+        assert flight.idle_for() == 0.0
+        new = answered(flight)
+        assert new
+        found |= {*new}
+        flight.acknowledged(max(found))
+    assert flight.idle_for() == float("inf")
+    flight.end()
 
-    def __init__(self, often: int) -> None:
-        self.often, self.lock = often, threading.Lock()
-        self.posted: list[bytes] = []
-        self.all_came = threading.Barrier(POSTS)
 
-    def post(self, relay: str, body: bytes) -> Answer:
-        with self.lock:
-            self.posted.append(body)
-            number = len(self.posted)
-        if number <= POSTS:
-            self.all_came.wait(PATIENCE)
-        return BUSY if number <= self.often else TAKEN
+def test_the_replies_come_in_any_order_and_in_pieces() -> None:
+    desk = Sockets(lambda number, body: b"")
+    flight = started(desk, 2)
+    flight.go_on(0.0)
+    desk.peers[b"1"].sendall(ACK[:20])
+    desk.say(b"2", ACK)
+    assert answered(flight) == {2: TAKEN}
+    desk.say(b"1", ACK[20:])
+    assert answered(flight) == {1: TAKEN}
+    flight.end()
+
+
+def test_none_begins_far_ahead_of_one_that_is_not_acknowledged() -> None:
+    desk = Sockets(lambda number, body: ACK if body != b"1" else b"")
+    flight = started(desk, 3 * AHEAD)
+    found: dict[int, Answer] = {}
+    for _ in range(20):
+        found |= answered(flight)
+    assert found == {tag: TAKEN for tag in range(2, AHEAD + 1)}
+    desk.say(b"1", ACK)
+    assert answered(flight) == {1: TAKEN}
+    flight.acknowledged(AHEAD)
+    assert min(answered(flight)) == AHEAD + 1
+    flight.end()
 
 
 def test_a_desk_that_is_away_is_asked_by_one() -> None:
-    desk = Away(POSTS + 4)
+    desk = Sockets(lambda number, body: STORAGE if number <= POSTS + 4 else ACK)
     flight = started(desk, 100)
     assert answers(flight, 100) == {tag: TAKEN for tag in range(1, 101)}
     again = desk.posted[POSTS : POSTS + 5]
@@ -81,54 +131,112 @@ def test_a_desk_that_is_away_is_asked_by_one() -> None:
     assert len({*again}) == 1, "one is tried again until the desk answers"
     assert len(desk.posted) == 100 + POSTS + 4, "and no other waits after that"
     assert flight._tally.tried_again == 5
+    flight.end()
 
 
-class Odd:
-    """A desk whose one message never has an answer, until it is told to."""
-
-    def __init__(self) -> None:
-        self.is_well = threading.Event()
-
-    def post(self, relay: str, body: bytes) -> Answer:
-        if body != b"3":
-            time.sleep(0.05)
-        return TAKEN if body != b"3" or self.is_well.is_set() else BUSY
+def test_one_that_fails_after_the_desk_went_on_is_tried_at_once() -> None:
+    desk = Sockets(lambda number, body: b"" if number <= 2 else ACK)
+    flight = started(desk, 2)
+    flight.go_on(0.0)
+    desk.say(b"1", STORAGE)
+    assert answers(flight, 1) == {1: TAKEN}
+    desk.say(b"2", STORAGE)
+    assert answered(flight) == {2: TAKEN}
+    assert flight._tally.tried_again == 1
+    flight.end()
 
 
 def test_one_that_is_never_answered_holds_up_those_behind_it() -> None:
-    desk, count = Odd(), 40 * POSTS
+    said = [STORAGE]
+    desk = Sockets(lambda number, body: said[0] if body == b"3" else ACK)
+    count = 40 * POSTS
     flight = started(desk, count)
-    found = answers_until_quiet(flight)
+    flight.acknowledged(count)
+    found: dict[int, Answer | None] = {}
+    until = time.monotonic() + 2
+    while time.monotonic() < until:
+        found |= answered(flight)
+        time.sleep(min(0.01, flight.idle_for()))
     assert 3 not in found
-    assert len(found) < count / 2
-    desk.is_well.set()
+    assert len(found) <= POSTS
+    said[0] = ACK
     found |= answers(flight, count - len(found))
     assert found == {tag: TAKEN for tag in range(1, count + 1)}
+    flight.end()
 
 
-def answers_until_quiet(flight: Flight) -> dict[int, Answer | None]:
-    """What was answered until nothing more comes."""
-    found: dict[int, Answer | None] = {}
-    new: dict[int, Answer | None] = {0: None}
-    while new:
-        time.sleep(0.7)
-        new = {given.tag: answer for given, answer in flight.done()}
-        found |= new
-    return found
+def test_a_reply_that_does_not_come_is_waited_for_so_long() -> None:
+    desk = Sockets(lambda number, body: b"" if number == 1 else ACK, patience=0.2)
+    flight = started(desk, 1)
+    assert answered(flight) == {}
+    first = desk.peers[b"1"]
+    assert answers(flight, 1) == {1: TAKEN}
+    assert desk.posted == [b"1", b"1"]
+    assert first.recv(1) == b"", "the first is given up, and its connection closed"
+    flight.end()
 
 
 @pytest.mark.parametrize("how", ["ended", "stopped"])
 def test_over_it_gives_up_and_begins_none(how: str) -> None:
-    stopping = threading.Event()
-    desk = Away(1_000)
-    flight = started(desk, 100, is_stopping=stopping.is_set)
-    desk_is_asked = time.monotonic() + PATIENCE
-    while len(desk.posted) < POSTS + 1 and time.monotonic() < desk_is_asked:
+    stopped: list[bool] = []
+    desk = Sockets(lambda number, body: STORAGE)
+    flight = started(desk, 100, is_stopping=lambda: bool(stopped))
+    until = time.monotonic() + PATIENCE
+    while len(desk.posted) < POSTS + 1 and time.monotonic() < until:
+        flight.go_on(0.01)
         time.sleep(0.01)
-    flight.end() if how == "ended" else stopping.set()
+    stopped.append(True)
+    count = len(desk.posted)
+    if how == "ended":
+        flight.end()
+    flight.go_on(0.3)
     flight.finish()
-    assert {answer for _, answer in flight.done()} == {None}
-    assert len({*desk.posted[POSTS:]}) == 1, "none begins"
+    assert list(flight.done()) == []
+    assert len(desk.posted) == count, "none begins"
+    assert len({*desk.posted[POSTS:]}) == 1
+
+
+def test_when_it_is_time_to_stop_those_that_have_begun_are_answered() -> None:
+    stopped: list[bool] = []
+    desk = Sockets(lambda number, body: b"")
+    flight = started(desk, POSTS + 1, is_stopping=lambda: bool(stopped))
+    flight.go_on(0.0)
+    stopped.append(True)
+    desk.say(b"1", STORAGE)
+    for body in list(desk.peers):
+        desk.say(body, ACK)
+    flight.finish()
+    assert {given.tag for given, _ in flight.done()} == set(range(2, POSTS + 1))
+    assert flight._tally.tried_again == 0, "nobody says that it is tried again"
+    flight.end()
+
+
+class Fails(Sockets):
+    """A desk whose client fails so often at one message."""
+
+    def __init__(self, body: bytes, often: int) -> None:
+        super().__init__(lambda number, body: ACK)
+        self.body, self.often = body, often
+
+    def begin(self, relay: str, body: bytes) -> Post | Answer:
+        if body == self.body and self.often:
+            self.often -= 1
+            raise RecursionError
+        return super().begin(relay, body)
+
+
+@pytest.mark.parametrize("often", [1, 2])
+def test_one_at_which_it_fails_holds_up_none(
+    often: int, monkeypatch: pytest.MonkeyPatch, caplog: pytest.LogCaptureFixture
+) -> None:
+    monkeypatch.setattr(module, "PAUSE", 0.3)
+    flight = started(Fails(b"3", often), 10)
+    with caplog.at_level(logging.ERROR):
+        assert answers(flight, 9) == {tag: TAKEN for tag in range(1, 11) if tag != 3}
+        last = TAKEN if often == 1 else Answer(Kind.REFUSED, "C3 Fails")
+        assert answers(flight, 1) == {3: last}
+    assert caplog.text.count("failed at a message") == often
+    flight.end()
 
 
 def test_what_may_be_acknowledged() -> None:

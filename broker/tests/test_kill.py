@@ -42,25 +42,29 @@ def wait_until(is_so: Callable[[], bool]) -> None:
 
 def test_a_desk_is_killed_with_posts_in_flight(tmp_path: Path) -> None:
     desk, tally = Stub(tmp_path / "desk.sock"), Tally("a")
-    answers: list[tuple[Delivery, Answer | None]] = []
+    answers: list[tuple[Delivery, Answer]] = []
     desk.start()
     os.kill(desk.process.pid, signal.SIGSTOP)
     flight = Flight("a", Address(desk.address), tally)
     for tag in range(1, 4 * POSTS + 1):
         flight.begin(Delivery(tag, "web", b"%d" % tag, None))
+    flight.go_on(0.1)
     wait_until(lambda: desk.in_flight() >= POSTS)
     desk.process.kill()
     desk.process.wait()
-    wait_until(lambda: tally.tried_again == 3)
-    desk.start()
 
-    def is_done() -> bool:
+    def is_so_far(is_so: Callable[[], bool]) -> bool:
+        flight.go_on(0.05)
         answers.extend(flight.done())
-        return len(answers) == 4 * POSTS
+        flight.acknowledged(len(answers))
+        return is_so()
 
-    wait_until(is_done)
-    assert {answer and answer.said for _, answer in answers} == {"ack"}
+    wait_until(lambda: is_so_far(lambda: tally.tried_again == 3))
+    desk.start()
+    wait_until(lambda: is_so_far(lambda: len(answers) == 4 * POSTS))
+    assert {answer.said for _, answer in answers} == {"ack"}
+    assert len({given.tag for given, _ in answers}) == 4 * POSTS
     assert desk.count() == 4 * POSTS
-    flight.finish()
+    flight.end()
     desk.process.kill()
     desk.process.wait()

@@ -15,8 +15,8 @@ Each may be given with the others. One line on the output, and the status 0 (all
 (somebody has to look), 2 (the desk does not answer, what is looked at cannot be read, or a limit is
 passed) or 3 (the words are wrong: nothing was looked at). With --textfile the figures are written
 there as well, in one step. It asks the desk only what an auditor's certificate may: /v1/parked and
-/v1/reviews/NOW; and with `--roster` /v1/messages and /v1/grants, to remark below that line each
-grant that begins after the last day on which its asker may ask.
+/v1/reviews/NOW; and with `--roster` /v1/requests/after/NOW, to remark below that line each grant
+that begins after the last day on which its asker may ask.
 """
 
 import argparse
@@ -239,22 +239,16 @@ def late_grants(given: argparse.Namespace, now: float) -> list[str]:
 
     with open(given.roster, "rb") as file:
         roster = tomllib.load(file)
-    moments = {stamp(now)}
-    for line in ask(given, "/v1/messages").splitlines():
-        it = json.loads(line)
-        if it["kind"] == "request" and it["from"] > stamp(now):
-            ceiling = roster["ceilings"].get(it["ceiling"])
-            if ceiling and it["from"][:8] > last_day(roster, it["by"], ceiling["ask"]):
-                moments.add(it["from"])
-    found = set()
-    for moment in sorted(moments):
-        for line in ask(given, f"/v1/grants/{moment}").splitlines():
-            person, number, ceiling, first, _ = line.split()
-            day = last_day(roster, person, roster["ceilings"][ceiling]["ask"])
-            if first[:8] > day:
-                said = f"{person}'s last day is {day or 'none'}"
-                found.add(f"{person} {number} begins at {first}, and {said}")
-    return sorted(found)
+    found = []
+    for it in json.loads(ask(given, f"/v1/requests/after/{stamp(now)}"))["names"]:
+        if it["status"] != "granted":
+            continue
+        ceiling, first = it["requests"][0]["ceiling"], it["window"]["from"]
+        day = last_day(roster, it["by"], roster["ceilings"][ceiling]["ask"])
+        if first[:8] > day:
+            said = f"{it['by']}'s last day is {day or 'none'}"
+            found.append(f"{it['by']} {it['no']} begins at {first}, and {said}")
+    return found
 
 
 def size(store: str) -> int:

@@ -51,10 +51,12 @@ def openssl(*words: str) -> None:
 class Front:
     """nginx before a site's page."""
 
-    def __init__(self, site: Site, people: list[str]) -> None:
+    def __init__(
+        self, site: Site, people: list[str], certified: list[str] | None = None
+    ) -> None:
         self.folder, self.tls = site.folder, free_port()
         self.ports = {person: free_port() for person in people}
-        self.certificates(people)
+        self.certificates(people if certified is None else certified)
         values = {"folder": self.folder, "page": site.socket, "secret": SECRET}
         (self.folder / "page.front").write_text(f"proxy_set_header X-Desk-Front {SECRET};\n")
         shipped = EXAMPLE.read_text().replace("8443", f"127.0.0.1:{self.tls}")

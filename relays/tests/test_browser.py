@@ -7,14 +7,12 @@ from pathlib import Path
 
 import pytest
 from selenium import webdriver
-from selenium.common.exceptions import NoSuchElementException, StaleElementReferenceException
-from selenium.webdriver.chrome.service import Service
 from selenium.webdriver.common.by import By
 from selenium.webdriver.common.keys import Keys
-from selenium.webdriver.support.wait import WebDriverWait
 
 from relays.moments import now, of_stamp, stamp
 from relays.tests import sudo_says
+from relays.tests.chromium import browser, press, see
 from relays.tests.front import Front
 from relays.tests.site import ROOT, Site
 
@@ -32,28 +30,6 @@ return [...document.querySelectorAll('body *')].filter(e => !e.closest('svg') &&
   const a = light(rgb(getComputedStyle(e).color)), b = light(behind(e));
   return [(Math.max(a, b) + .05) / (Math.min(a, b) + .05), e.tagName + e.textContent.trim()]; });
 """
-
-
-def browser(folder: Path, with_scripts: bool = False) -> webdriver.Chrome:
-    options = webdriver.ChromeOptions()
-    options.binary_location = "/usr/bin/chromium"
-    for word in (
-        "--headless=new",
-        "--no-sandbox",
-        "--disable-gpu",
-        "--disable-dev-shm-usage",
-        "--window-size=1100,1400",
-        "--no-first-run",
-        "--disable-background-networking",
-        f"--user-data-dir={folder}",
-    ):
-        options.add_argument(word)
-    if not with_scripts:
-        blocked = {"profile.managed_default_content_settings.javascript": 2}
-        options.add_experimental_option("prefs", blocked)
-    found = webdriver.Chrome(service=Service("/usr/bin/chromedriver"), options=options)
-    found.set_page_load_timeout(180)
-    return found
 
 
 @pytest.fixture(scope="module")
@@ -84,21 +60,6 @@ def browsers(tmp_path_factory: pytest.TempPathFactory) -> Iterator[dict[str, web
 
 def shoot(driver: webdriver.Chrome, name: str) -> None:
     driver.save_screenshot(str(SHOTS / f"{name}.png"))
-
-
-def see(driver: webdriver.Chrome, *pieces: str) -> None:
-    """Waits until the page has these texts."""
-
-    def is_there(each: webdriver.Chrome) -> bool:
-        text = each.find_element(By.TAG_NAME, "body").text
-        return all(piece in text for piece in pieces)
-
-    faults = [NoSuchElementException, StaleElementReferenceException]
-    WebDriverWait(driver, 90, ignored_exceptions=faults).until(is_there, str(pieces))
-
-
-def press(driver: webdriver.Chrome, selector: str) -> None:
-    driver.find_element(By.CSS_SELECTOR, selector).click()
 
 
 def fetched(site: Site) -> str:

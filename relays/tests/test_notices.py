@@ -5,6 +5,7 @@ import contextlib
 import json
 import os
 import random
+import ssl
 import subprocess
 import threading
 import time
@@ -24,6 +25,7 @@ from relays.moments import now, of_stamp
 from relays.notices import Notices, look, run
 from relays.outbox import Outbox
 from relays.standing import Knowledge
+from relays.tests.front import AUTHORITY
 from relays.tests.site import ROOT, Site
 from relays.tests.test_fuzz import answer
 from relays.tests.test_outbox import AT, WISH
@@ -121,6 +123,27 @@ def test_by_mail(site: Site, mails: Mails) -> None:
     assert "approve ann 2" in first and "https://desk/" in first
     assert len({it["Message-ID"] for it in mails.mails}) == len(mails.mails)
     assert (site.folder / "notify.log").read_text().count(": told") == len(wanted) + 1
+
+
+def test_by_an_smtp_server(mails: Mails) -> None:
+    """Past sendmail, and with an exit that says so where the server is away."""
+    event = {"id": "e" * 32, "event": "asked", "subject": "ann asks", "text": "ann asks."}
+    words = [MAIL, "--from", "desk@site.example", "--domain", "site.example", "--smtp"]
+
+    def ran(port: int) -> subprocess.CompletedProcess[str]:
+        given = json.dumps(event | {"to": ["bob", "carol"]})
+        server = f"127.0.0.1:{port}"
+        return subprocess.run(
+            [*words, server], input=given, capture_output=True, text=True, timeout=60, check=False
+        )
+
+    done = ran(mails.port)
+    assert done.returncode == 0, done
+    [mail] = mails.mails
+    assert mail["Subject"] == "[desk] ann asks" and mail["From"] == "desk@site.example"
+    assert mail["Rcpt"] == "bob@site.example,carol@site.example"
+    done = ran(free_port())
+    assert done.returncode == 1 and "notify-mail: " in done.stderr, done
 
 
 def tables(site: Site) -> str:
@@ -287,6 +310,26 @@ def test_in_a_chat_room(tmp_path: Path, kind: str) -> None:
     assert "@all" not in text and "`id`" not in text
     assert ("<!channel>" in text) == (kind != "slack")
     assert "secret" not in log.read_text() and "token" not in log.read_text()
+
+
+def test_a_chat_server_of_the_sites_authority(tmp_path: Path) -> None:
+    """It is told where its certificate is of the authority that is named, and not else."""
+    for name in ("init", "server 127.0.0.1 127.0.0.1"):
+        subprocess.run(["sh", AUTHORITY, str(tmp_path / "ca"), *name.split()], check=True)
+    room, file = Room(), tmp_path / "hook"
+    context = ssl.SSLContext(ssl.PROTOCOL_TLS_SERVER)
+    context.load_cert_chain(tmp_path / "ca" / "server.pem", tmp_path / "ca" / "server.key")
+    room.socket = context.wrap_socket(room.socket, server_side=True)
+    file.write_text(f"https://127.0.0.1:{room.server_port}/hooks/secret\n")
+    event = json.dumps({"id": "e" * 32, "event": "asked", "text": "ann asks."})
+    named = ["--ca", str(tmp_path / "ca" / "ca.pem")]
+    cases: list[tuple[list[str], bool]] = [([], False), (named, True)]
+    with contextlib.closing(room.socket):
+        for words, is_told in cases:
+            line = [WEBHOOK, "slack", str(file), *words]
+            ran = subprocess.run(line, input=event, text=True, timeout=60, check=False)
+            assert (ran.returncode == 0) == is_told and len(room.came) == is_told
+        room.shutdown()
 
 
 BAD = ["", 'program = "mail"', 'program = ["mail"]', "program = [7]", 'program = ["/a"]\nx = 1',

@@ -6,12 +6,13 @@ import pty
 import random
 import re
 import subprocess
+import time
 from datetime import timedelta
 
 from relays.admission import objections
 from relays.config import read_config
 from relays.messages import Request, Wish
-from relays.moments import now, stamp
+from relays.moments import now, of_stamp, stamp
 from relays.page import create_app
 from relays.roster import Roster
 from relays.tests.site import BASE, DESK, ROSTER, SECRET, Site
@@ -175,3 +176,25 @@ def test_the_page_offers_the_same(quiet_site: Site) -> None:
     own = {"X-Desk-Front": SECRET, "X-Desk-Person": "ann"}
     shown = page.post("/ask", data=fields, headers=own).get_data(as_text=True)
     assert "The desk will refuse this: web1 is outside db-care" in shown and "Yes, ask" in shown
+
+
+def test_the_same_at_another_time_and_for_another_ticket(site: Site) -> None:
+    """`again` takes a window and a ticket in place of those that the request had."""
+    first = json.loads(site.run("ann", f"{ASK} --json /usr/bin/id --and /usr/bin/id x").stdout)
+    told = site.data("ann", "again 1 --from +1h --until +90m --ticket OPS-2 --yes")
+    assert isinstance(told, dict) and first["ticket"] == "T-1"
+    assert told["no"] == 2 and told["ticket"] == "OPS-2"
+    assert all(told[name] == first[name] for name in ("hosts", "runas", "commands", "why"))
+    begins, ends = of_stamp(told["from"]), of_stamp(told["until"])
+    assert ends - begins == timedelta(minutes=30)
+    assert timedelta(minutes=59) < begins - of_stamp(first["from"]) < timedelta(minutes=65)
+
+
+def test_a_revocation_once_more(site: Site) -> None:
+    assert site.run("ann", f"{ASK} /usr/bin/id").returncode == 0
+    assert site.run("ann", "revoke ann 1 --yes").returncode == 0
+    ran = site.run("ann", "revoke ann 1 --yes")
+    assert ran.returncode == 1 and "You revoked it already" in ran.stdout, ran
+    time.sleep(1.1)  # (a verdict of the same second is the same message)
+    assert site.run("ann", "revoke ann 1 --yes --again").returncode == 0
+    assert len(site.kept()) == 3

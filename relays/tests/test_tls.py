@@ -23,7 +23,7 @@ TLS = '[tls]\ncertificate = "{ca}/relay-chat.pem"\nkey = "{ca}/relay-chat.key"\n
 def fronted(site: Site, more: str) -> Iterator[None]:
     """The site's desk behind nginx, and the relay's settings for that, with more of them."""
     folder, port = site.folder, free_port()
-    ca = folder / "ca"
+    ca = folder / "desk-ca"
     for words in (
         ["init"],
         ["server", "127.0.0.1", "127.0.0.1"],
@@ -34,7 +34,7 @@ def fronted(site: Site, more: str) -> Iterator[None]:
     text = FRONT.read_text(encoding="utf-8").replace("/etc/desk/front", str(ca))
     text = text.replace("/var/log/nginx", str(folder)).replace("listen 443", f"listen {port}")
     text = text.replace("unix:/run/desk/desk.sock", site.url)
-    conf = folder / "nginx.conf"
+    conf = folder / "desk-nginx.conf"
     conf.write_text(
         f"{'user root;' if os.geteuid() == 0 else ''} daemon off; pid {folder}/pid; error_log {folder}/error.log;\nevents {{}}\n"
         f"http {{ client_body_temp_path {folder}/b; proxy_temp_path {folder}/p;\n{text}}}\n"

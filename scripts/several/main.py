@@ -109,12 +109,12 @@ def judge(
 
 
 def rate(words: argparse.Namespace, folder: pathlib.Path, started: Programs) -> int:
-    """The rates alone."""
+    """The rates alone; 1 where that to three desks is too low."""
     bench = Bench(WHOLE, words.seed, words.desk or PROGRAM, folder, started)
     start(bench)
-    rates.measure(bench, bench.site.accepted(3 * WHOLE.rated))
+    rate = rates.measure(bench, bench.site.accepted(3 * WHOLE.rated))
     rates.measure_stubs(bench, bench.site.accepted(WHOLE.rated))
-    return 0
+    return 0 if rates.judged(rate) else 1
 
 
 def run(words: argparse.Namespace, folder: pathlib.Path, started: Programs) -> int:
@@ -164,14 +164,16 @@ def main() -> int:
     words = arguments()
     words.desk = words.desk or os.environ.get("DESK", "").split()
     folder = pathlib.Path(tempfile.mkdtemp(prefix="several-", dir=place(words)))
-    status = 1
+    status, is_whole = 1, False
     try:
         with programs() as started:
             status = (rate if words.rate else run)(words, folder, started)
+        # (a rate that is too low leaves nothing to look for in the logs)
+        is_whole = words.rate or status == 0
     except Failure as error:
         print(f"FAILED: {error}")
     finally:
-        if words.keep or status:
+        if words.keep or not is_whole:
             print(f"the logs are in {folder}")
         else:
             faults.unmount_small_disk(folder)

@@ -138,7 +138,7 @@ class Cluster:
                     env=self._environment(number),
                     capture_output=True,
                     text=True,
-                    timeout=90,
+                    timeout=300,
                     check=False,
                 )
                 if ran.returncode == 0:

@@ -23,7 +23,7 @@ class Plan:
 
 
 WHOLE = Plan(
-    messages=20_000, pace=200.0, rated=1_000, desk_kills=3, consumer_kills=3, leader_kills=2,
+    messages=20_000, pace=200.0, rated=6_000, desk_kills=3, consumer_kills=3, leader_kills=2,
     majority=True, down=4.0, full=15.0, held=60.0,
 )
 SHORT = Plan(

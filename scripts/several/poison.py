@@ -26,12 +26,12 @@ PATIENCE = 30.0  # seconds
 FAILING = """
 import sys
 from desk_broker import consume, desk
-whole = desk.Desk.post
-def post(self, relay, body):
+whole = desk.Desk.begin
+def begin(self, relay, body):
     if b"FAILS" in body:
         raise RecursionError("for the test")
     return whole(self, relay, body)
-desk.Desk.post = post
+desk.Desk.begin = begin
 sys.exit(consume.main())
 """
 

@@ -2,6 +2,7 @@
 
 from __future__ import annotations
 
+import resource
 import signal
 import sys
 import time
@@ -15,6 +16,7 @@ from several.sites import RELAYS, Post
 
 NAMES = ["a", "b", "c"]
 PATIENCE = 600.0  # seconds
+LEAST = 1_500  # messages a second, to each of three desks
 
 
 def exchange(desk: Desk, body: bytes) -> bytes:
@@ -62,16 +64,20 @@ def through(bench: Bench, posts: list[Post]) -> tuple[float, float]:
     return len(posts) / confirmed, len(posts) / (time.monotonic() - begun)
 
 
-def spent(bench: Bench) -> tuple[float, float, float]:
-    """The processor time of the brokers, of the consumers and of the desks up to now."""
+def spent(bench: Bench) -> list[float]:
+    """The processor time of the brokers, of the consumers, of the desks, and of the relays that
+    have ended, up to now."""
     consumers = [consumer.program for consumer in bench.consumers.values()]
     desks = [desk.program for desk in bench.desks.values()]
     kinds = (bench.cluster.nodes, consumers, desks)
-    brokers, consuming, serving = (sum(one.processor() for one in kind) for kind in kinds)
-    return brokers, consuming, serving
+    ended = resource.getrusage(resource.RUSAGE_CHILDREN)
+    return [
+        *(sum(one.processor() for one in kind) for kind in kinds), ended.ru_utime + ended.ru_stime
+    ]
 
 
-def tell_rates(bench: Bench, posts: list[Post], what: str) -> None:
+def tell_rates(bench: Bench, posts: list[Post], what: str) -> float:
+    """What comes through to all desks, in messages a second."""
     before = spent(bench)
     confirmed, held = through(bench, posts)
     costs = [(now - old) / len(posts) * 1000 for old, now in zip(before, spent(bench))]
@@ -81,12 +87,25 @@ def tell_rates(bench: Bench, posts: list[Post], what: str) -> None:
     )
     bench.tell(
         f"  each took {costs[0]:.2f} ms of the brokers' processors, {costs[1]:.2f} of the"
-        f" consumers', {costs[2]:.2f} of the desks'"
+        f" consumers', {costs[2]:.2f} of the desks', {costs[3]:.2f} of the relays'"
     )
+    return held
 
 
-def measure(bench: Bench, posts: list[Post]) -> None:
-    """Starts one desk after the other, and tells the rates, each of a third of the messages."""
+def judged(rate: float) -> bool:
+    """Prints the rate to three desks beside what is promised of it; whether it holds."""
+    holds = rate >= LEAST
+    print(
+        f"through the broker to each of 3 desks, messages a second: {rate:,.0f}, at least"
+        f" {LEAST:,}: {'holds' if holds else 'FAILS'}"
+    )
+    return holds
+
+
+def measure(bench: Bench, posts: list[Post]) -> float:
+    """Starts one desk after the other, and tells the rates, each of a third of the messages; the
+    last one."""
+    rate = 0.0
     # (a desk that has a message already would be waited for in vain)
     posts = list({post.body: post for post in posts}.values())
     for count in range(1, len(NAMES) + 1):
@@ -97,7 +116,8 @@ def measure(bench: Bench, posts: list[Post]) -> None:
         some = posts[count - 1 :: len(NAMES)]  # (each post is in one part: all are waited for)
         if count == 1:
             bench.tell(f"a desk alone: {alone(bench, some):.0f} messages a second")
-        tell_rates(bench, some, f"{count} desks")
+        rate = tell_rates(bench, some, f"{count} desks")
+    return rate
 
 
 def measure_stubs(bench: Bench, posts: list[Post]) -> None:

@@ -166,7 +166,8 @@ def run(words: Sequence[str], keep: tuple[int, ...] = (), owner: str | None = No
     except OSError as fault:
         raise Failed(f"{words[0]}: {fault.strerror}") from None
     if ran.returncode:
-        said = ran.stderr.decode("utf-8", "replace").strip() or f"status {ran.returncode}"
+        lines = ran.stderr.decode("utf-8", "replace").split("\n")
+        said = "; ".join(filter(None, lines)) or f"status {ran.returncode}"
         raise Failed(f"{os.path.basename(words[0])} {words[1]}: {said}")
     return str(ran.stdout.decode("utf-8", "replace"))
 

@@ -29,7 +29,7 @@ module _ (Empty Desk Old : Type 0) (recorded text : List ℕ) (S : Message → T
 
 -- what the replacing of the roster's text may leave of a keeper that keeps what another did
 pub replaced_by_rebuilding : (Empty Desk Old Desk' Old' : Type 0) (recorded recorded' text : List ℕ) (S T : Message → Type 0) (left : Left) → (¬ Empty)
-    → (Desk → Desk' × (recorded' ≡ recorded) × SameSet S T) → (Old → Old' × SameSet S T)
+    → (Desk → Desk' × (recorded' ≡ recorded) × SameSet S T) → (Old → Old' × SameSet S T × (recorded' ≡ recorded))
     → IsReplacedOrNot Desk' Old' recorded' text T left → IsLeftByRebuilding Empty Desk Old recorded text S left
 replaced_by_rebuilding Empty Desk Old Desk' Old' recorded recorded' text S T left none desk old may = record {
   empty = λ is. absurd (none is);
@@ -37,8 +37,8 @@ replaced_by_rebuilding Empty Desk Old Desk' Old' recorded recorded' text S T lef
     | inl before ↦ inl (same_left recorded recorded' S T left kept.1 kept.2 before)
     | inr new ↦ inr (same_left text text S T left refl kept.2 new)
   ];
-  old = λ is. let kept = old is in elim (may.old kept.0) as (λ _. IsOldDeskOf S left ⊎ IsDeskOf text S left) [
-    | inl before ↦ inl (same_old_left S T left kept.1 before)
+  old = λ is. let kept = old is in elim (may.old kept.0) as (λ _. IsOldDeskOf recorded S left ⊎ IsDeskOf text S left) [
+    | inl before ↦ inl (same_old_left recorded recorded' S T left kept.2 kept.1 before)
     | inr new ↦ inr (same_left text text S T left refl kept.1 new)
   ];
 }

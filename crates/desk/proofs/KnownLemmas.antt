@@ -4,15 +4,17 @@ use Rattle.std.specs.List.{Contains}
 use Rattle.std.specs.Option.{IfSome}
 use Rattle.std.proofs.lemmas.List.Elements.{Contains-append_left, Contains-push, Contains-push_cases}
 use Rattle.messages.specs.declared.message.Message.{Message}
-use Rattle.desk_tables.specs.Sets.{IsNothing, IsWith, Lists, SameSet}
+use Rattle.desk_tables.specs.Sets.{IsWith, Lists, SameSet}
+use Rattle.outcomes.specs.Gathered.{Known as Gathered}
+use Rattle.desk_store.specs.Keeping.{IsKnownOf}
 use Rattle.outcomes.proofs.Membership.{no_member}
 use Rattle.desk.specs.Count.{IsCount}
 use Rattle.desk.proofs.CountLemmas.{count_of_set}
 use Rattle.desk.proofs.QueryLemmas.{same_listed}
 use Rattle.desk.specs.declared.opening.Origin.{Origin}
-use Rattle.desk.specs.declared.opening.Origin.TheVariants.{Made}
+use Rattle.desk.specs.declared.opening.Origin.TheVariants.{Found, Made}
 use Rattle.desk.specs.declared.loading.Known.{Known}
-use Rattle.desk.specs.private.Known.{IsKnown, IsKnownAtFirst, IsKnownIn, IsKnownOfUp}
+use Rattle.desk.specs.private.Known.{IsCounted, IsKnown, IsKnownAtFirst, IsKnownIn, IsKnownOfUp, IsOriginOf}
 
 pub lists_still : (S T : Message → Type 0) (list : List Message) → SameSet S T → Lists S list → Lists T list
 lists_still S T list same lists n = (λ held. (lists n).0 ((same n).1 held), λ among. (same n).0 ((lists n).1 among))
@@ -51,12 +53,16 @@ known_more Up Later S T m (Some g) None known was grown more nothing = tt
 known_more Up Later S T m (Some g) (Some h) known was grown more nothing = λ later.
     let k = known (was later) in (k.0 ++ m ∷ [], with_lists S T m k.0 (grown later) k.1, more k.0 k.2)
 
--- what is known at first is known of what is held: a desk that was made holds nothing
+-- what is known at first is known of what is held
 pub at_first : (Up : Type 0) (S : Message → Type 0) (origin : Origin) (o : Option Known)
-    → IsKnownAtFirst origin o → (Up → origin ≡ Made → IsNothing S) → IsKnown Up S o
-at_first Up S origin None first nothing = tt
-at_first Up S origin (Some g) first nothing = λ up.
-    ([], λ n. (λ held. absurd (nothing up first.0 n held), λ among. absurd (no_member n among)), first.1)
+    → IsKnownAtFirst origin o → (Up → IsOriginOf S origin) → IsKnown Up S o
+at_first Up S Made None first is = tt
+at_first Up S Made (Some g) first is = λ up.
+    ([], λ n. (λ held. absurd (is up n held), λ among. absurd (no_member n among)), first)
+at_first Up S (Found told) None first is = tt
+at_first Up S (Found told) (Some g) first is = λ up.
+    let it = subst (λ (known : Option Gathered). IfSome known (IsKnownOf S)) first.0 (is up) in
+    (it.0, it.1, (it.2, subst (IsCounted it.0) (sym first.1) tt))
 
 -- what is held is the same, and so is its set
 pub known_with : (Up : Type 0) (S : Message → Type 0) (old new : Option Known) → IsKnown Up S old

@@ -1,6 +1,6 @@
 -- What a crash leaves after calls, one after the other, also where the keeper is not up.
 use Rattle.std.proofs.Common.{◌≡◌, ◌⊎◌, inl, inr, List, ℕ, [], ◌∷◌, ◌++◌, Option, Some, None, Result, Ok, Err, Global, refl, sym, subst}
-use Rattle.std.specs.Prelude.{Contains, IfErr, MatchResult, IsErrAnd, IsOk, OnErr, OnOk, String}
+use Rattle.std.specs.Prelude.{Contains, IfErr, MatchResult, IsErrAnd, IsOk, OnErr, OnOk}
 use Rattle.std.proofs.lemmas.List.Elements.{Contains-append_left, Contains-push}
 use Rattle.sudo_words.specs.declared.cmnd.Cmnd.{Cmnd}
 use Rattle.messages.specs.declared.message.Message.{Message}
@@ -12,6 +12,7 @@ use Rattle.desk_store.specs.declared.keeper.Keeper.{Ghosts}
 use Rattle.desk_store.specs.declared.error.KeeperError.{KeeperError}
 use Rattle.desk_store.specs.declared.error.KeeperError.TheVariants as errors
 use Rattle.desk_store.specs.declared.found.Found.{Found}
+use Rattle.desk_store.specs.declared.found.FoundDesk.{FoundDesk}
 use Rattle.desk_store.specs.declared.found.Found.TheVariants as found
 use Rattle.desk_store.proofs.SameLeft.{same_left}
 use Rattle.desk.specs.Crash.{IsAcceptable, IsAddedByDelivery, IsLeftByDeliveries}
@@ -50,8 +51,8 @@ told_live errors.NoMemory (Ok x) P Q is = absurd is
 told_live errors.Storage (Err e) P Q is = inl (inr is)
 told_live errors.NoMemory (Err e) P Q is = inl (inl is)
 
-pub is_desk : (f : Found) (text : String Global) → f ≡ found.Desk text → IsSomeDesk f
-is_desk f text is = subst IsSomeDesk (sym is) tt
+pub is_desk : (f : Found) (desk : FoundDesk) → f ≡ found.Desk desk → IsSomeDesk f
+is_desk f desk is = subst IsSomeDesk (sym is) tt
 
 pub is_old_desk : (f : Found) → f ≡ found.OldDesk → IsSomeDesk f
 is_old_desk f is = subst IsSomeDesk (sym is) tt

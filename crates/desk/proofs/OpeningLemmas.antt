@@ -1,19 +1,24 @@
 -- What a look tells of a keeper with a desk.
-use Rattle.std.proofs.Common.{◌≡◌, ◌≢◌, ◌⊎◌, ◌∙◌, ℕ, List, Global, inl, inr, refl, sym, subst}
-use Rattle.std.specs.Prelude.{⊤, String, string_bytes}
-use Rattle.desk_store.specs.Keeping.{Tells}
+use Rattle.std.proofs.Common.{◌≡◌, ◌≢◌, ◌⊎◌, ◌∙◌, ℕ, List, Option, Some, None, inl, inr, refl, sym, subst}
+use Rattle.std.specs.Prelude.{⊤, IfSome, string_bytes}
+use Rattle.messages.specs.declared.message.Message.{Message}
+use Rattle.outcomes.specs.Gathered.{Known}
+use Rattle.desk_tables.specs.Sets.{SameSet}
+use Rattle.desk_store.specs.Keeping.{IsKnownOf, Tells, TellsKnown}
 use Rattle.desk_store.specs.declared.found.Found.{Found}
+use Rattle.desk_store.specs.declared.found.FoundDesk.{FoundDesk}
 use Rattle.desk_store.specs.declared.found.Found.TheVariants as found
 use Rattle.desk.specs.Opening.{Refuses}
 use Rattle.desk.specs.Refusals.{IsWant}
+use Rattle.desk.proofs.KnownLemmas.{lists_still}
 use Rattle.desk.specs.declared.refusal.Refusal.{Refusal}
 use Rattle.desk.specs.declared.refusal.Refusal.TheVariants.{UnknownRelay, UnknownHost, TooLong, NotCanonical, BadField, Denied, TooManyRules}
 use Rattle.desk.specs.declared.refusal.Refusal.TheVariants.{RosterChanged, NotADesk, OldSchema, Storage, NoMemory, BaseTooLarge}
 
 module _ (Empty Kept Old : Type 0) (roster : List ℕ) (tells : Found) where
-  pub told_desk : (text : String Global) → tells ≡ found.Desk text
-      → Tells Empty Kept Old roster tells → Kept × (¬ Empty) × (¬ Old) × (string_bytes text ≡ roster)
-  told_desk text is told = let P : Found → Type 0 = Tells Empty Kept Old roster in subst P is told
+  pub told_desk : (desk : FoundDesk) → tells ≡ found.Desk desk
+      → Tells Empty Kept Old roster tells → Kept × (¬ Empty) × (¬ Old) × (string_bytes desk.roster ≡ roster)
+  told_desk desk is told = let P : Found → Type 0 = Tells Empty Kept Old roster in subst P is told
 
   -- and of one with nothing of a desk's
   pub told_empty : tells ≡ found.Empty → Tells Empty Kept Old roster tells → Empty × (¬ Kept) × (¬ Old)
@@ -26,6 +31,15 @@ module _ (Empty Kept Old : Type 0) (roster : List ℕ) (tells : Found) where
   -- and of one with something of a desk's that is not a desk
   pub told_no_desk : tells ≡ found.NotADesk → Tells Empty Kept Old roster tells → (¬ Empty) × (¬ Kept) × (¬ Old)
   told_no_desk is told = let P : Found → Type 0 = Tells Empty Kept Old roster in subst P is told
+
+-- a keeper that keeps the same still holds what the look told of
+pub told_still : (S T : Message → Type 0) (tells : Found) (desk : FoundDesk) → tells ≡ found.Desk desk
+    → SameSet S T → TellsKnown S tells → IfSome desk.known (IsKnownOf T)
+told_still S T tells desk is same told = still desk.known (subst (TellsKnown S) is told)
+  where
+    still : (known : Option Known) → IfSome known (IsKnownOf S) → IfSome known (IsKnownOf T)
+    still None told = tt
+    still (Some known) told = (told.0, lists_still S T told.0 same told.1, told.2)
 
 -- why no desk is found or made is why none is opened over a base that fits
 pub refused_over : (Fits Empty Kept Old : Type 0) (recorded said text : List ℕ) (e : Refusal) → Fits → said ≡ text → e ≢ BaseTooLarge

@@ -18,7 +18,7 @@ pub record IsLeftByOpening (Empty Desk Old : Type 0) (recorded text : List ℕ)
     (S : Message → Type 0) (left : Left) : Type 0 where
   pub empty : Empty → IsNothingOrFresh text left
   pub desk : Desk → IsDeskOf recorded S left
-  pub old : Old → IsOldDeskOf S left
+  pub old : Old → IsOldDeskOf recorded S left
 
 -- While a desk is rebuilt: where there was nothing of a desk's, there is nothing still, or a whole
 -- desk of the roster's text, with no message; and where there was a desk, of either form, it is
@@ -27,7 +27,7 @@ pub record IsLeftByRebuilding (Empty Desk Old : Type 0)
     (recorded text : List ℕ) (S : Message → Type 0) (left : Left) : Type 0 where
   pub empty : Empty → IsNothingOrFresh text left
   pub desk : Desk → IsDeskOf recorded S left ⊎ IsDeskOf text S left
-  pub old : Old → IsOldDeskOf S left ⊎ IsDeskOf text S left
+  pub old : Old → IsOldDeskOf recorded S left ⊎ IsDeskOf text S left
 
 -- An opening commits only the making of a desk, by a keeper that was up and kept nothing of a
 -- desk's: a whole desk of the roster's text, with no message.

@@ -22,7 +22,7 @@ mod texts;
 
 pub use ack::Ack;
 pub use desk::Desk;
-pub use desk_store::{Keeper, MemoryKeeper};
+pub use desk_store::{Keeper, MemoryKeeper, SqliteKeeper};
 pub use holdings::Holdings;
 pub use outcomes::{Live, RequestName};
 pub use rebuilding_laws::{rebuild_again, rebuild_twice};

@@ -2,32 +2,30 @@
 
 ghost use Rattle.std.specs.Prelude.{◌≡◌, ◌≢◌, ◌⊎◌, ⊤, IfOk, OnOk, OnErr, IfErr, MatchResult};
 ghost use Rattle.desk_store.specs.Left.{AddsOnly, IsDeskOf, LeavesOnly};
-ghost use Rattle.desk_tables.specs.Sets.{IsNothing};
 ghost use Rattle.desk.specs.Crash.{IsLeftByOpening, IsMadeByOpening};
-ghost use Rattle.desk.specs.private.Known.{IsKnownAtFirst};
+ghost use Rattle.desk.specs.private.Known.{IsKnownAtFirst, IsOriginOf};
 ghost use Rattle.desk.specs.Opening.{IsOpeningRefusal, IsUnseen, Opens, Refuses};
 ghost use Rattle.desk.specs.Refusals.{IsWant};
 ghost use Rattle.desk.specs.Serving.{ServesAnswer};
-ghost use Rattle.desk.specs.declared.opening.Origin.TheVariants as origins;
 ghost use Rattle.desk.specs.declared.refusal.Refusal.TheVariants as refusal;
 
 use crate::loading::Known;
 use crate::refusal::Refusal;
-use desk_store::{Found, Keeper};
+use desk_store::{Found, FoundDesk, Keeper};
 use outcomes::Gathered;
 use std::alloc::Global;
 
 /// Where a desk comes from.
-#[derive(Clone, Copy)]
+#[derive(Drop)]
 pub(crate) enum Origin {
-    /// It was there.
-    Found,
+    /// It was there, and this is known of its messages, if the look told it.
+    Found(Option<Gathered>),
     /// It was made, without messages.
     Made,
 }
 
 /// What is known of a desk's messages at first: a desk that was made has none, and for one that was
-/// found it is gathered when it is asked for.
+/// found it is what the look told, or else it is gathered when it is asked for.
 pub(crate) fn known_at_first(alloc: Global, origin: Origin) -> Option<Known>
     ensures { IsKnownAtFirst origin result }
 {
@@ -36,15 +34,27 @@ pub(crate) fn known_at_first(alloc: Global, origin: Origin) -> Option<Known>
             gathered: Gathered::new(alloc),
             count: Some(0),
         }),
-        Origin::Found => None,
+        Origin::Found(Some(gathered)) => Some(Known {
+            gathered,
+            count: None,
+        }),
+        Origin::Found(None) => None,
     }
+}
+
+/// What the look told of the messages of the desk that it found.
+fn known_in(desk: FoundDesk) -> Option<Gathered>
+    ensures { result ≡ desk.known }
+{
+    let FoundDesk { roster, known } = desk;
+    drop(roster);
+    known
 }
 
 /// Finds the keeper's desk of this roster's text, or makes one where the keeper keeps nothing of a
 /// desk's.
 pub(crate) fn find_or_make<K: Keeper>(keeper: &mut K, text: &str) -> Result<Origin, Refusal>
-    ensures made { K.is_up keeper.new
-        → IfOk result (λ origin. origin ≡ origins.Made → IsNothing (K.holds keeper.new)) }
+    ensures first { K.is_up keeper.new → IfOk result (IsOriginOf (K.holds keeper.new)) }
     ensures desk { K.is_up keeper.new → OnOk result (K.is_desk keeper.new) }
     ensures roster { K.is_up keeper.new → OnOk result (K.roster keeper.new ≡ text.now) }
     ensures opens { K.is_up keeper.new
@@ -73,7 +83,7 @@ pub(crate) fn find_or_make<K: Keeper>(keeper: &mut K, text: &str) -> Result<Orig
             keeper.make(text)?;
             Ok(Origin::Made)
         }
-        Found::Desk(recorded) if recorded.as_str() == text => Ok(Origin::Found),
+        Found::Desk(desk) if desk.roster.as_str() == text => Ok(Origin::Found(known_in(desk))),
         Found::Desk(_) => Err(Refusal::RosterChanged),
         Found::OldDesk => Err(Refusal::OldSchema),
         Found::NotADesk => Err(Refusal::NotADesk),

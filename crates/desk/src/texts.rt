@@ -18,6 +18,25 @@ use std::alloc::Global;
 use sudo_words::NoMemory;
 
 impl<K: Keeper> Desk<K> {
+    /// All messages, in no order that is promised.
+    pub fn messages(&mut self) -> Result<Vec<Message>, Refusal>
+        ensures messages { K.is_up self.new.keeper
+            → IfOk result (λ list. Lists (K.holds self.old.keeper) list.items) }
+        ensures err { IfErr result IsWant }
+        ensures desk { K.is_up self.new.keeper → K.is_desk self.new.keeper }
+        ensures unchanged { K.is_up self.new.keeper → K.is_same self.old.keeper self.new.keeper }
+        ensures roster { self.new.roster ≡ self.old.roster }
+        ensures base { self.new.base ≡ self.old.base }
+        ensures served { ServesAnswer K.Keeper self.old.keeper self.new.keeper result }
+        ensures asks { OnlyAsks K.Keeper self.old.keeper self.new.keeper result }
+    {
+        // What is known stays only where the keeper answers.
+        let remembered = self.known.take();
+        let list = listed(&mut self.keeper, &remembered)?;
+        self.known = remembered;
+        Ok(list)
+    }
+
     /// The texts of all messages, each once, in byte order: delivered to another desk of the same
     /// roster they make the same set.
     pub fn texts(&mut self) -> Result<Vec<String>, Refusal>

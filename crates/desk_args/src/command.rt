@@ -14,8 +14,8 @@ use clap::error::ErrorKind;
 use clap::{Arg, ArgAction, ArgMatches, Command};
 use std::alloc::{AllocError, Global};
 
-/// The program's version, and the toolchain that it is proved with.
-const VERSION: &str = "0.15.0\nproved with rattle-kit-13b logic dac8208d650f15bf";
+/// The program's version, and the logic that it is proved in, as `rt version` names it.
+const VERSION: &str = "0.16.0\nproved with rattle logic dac8208d650f15bf";
 
 /// The text below each help.
 const ENDS: &str =

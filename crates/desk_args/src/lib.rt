@@ -6,6 +6,7 @@ mod command;
 mod command_line;
 mod fault;
 pub mod laws;
+mod named;
 mod status;
 mod task;
 mod text;
@@ -13,6 +14,7 @@ mod values;
 
 pub use command_line::job;
 pub use fault::{JobFault, show};
+pub use named::{FilePaths, paths};
 pub use status::{Status, code};
 pub use task::{Address, Job, Places, Store};
 pub use text::Text;

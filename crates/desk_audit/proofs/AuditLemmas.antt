@@ -1,5 +1,5 @@
 -- The entries of an audit: all that a map has, each with what it comes to.
-use Rattle.std.proofs.Common.{◌≡◌, ℕ, List, [], ◌∷◌, ◌++◌, map, Option, Some, None, refl, sym, ap, ◌∙◌, subst, inl, inr}
+use Rattle.std.proofs.Common.{◌≡◌, ℕ, List, [], ◌∷◌, ◌++◌, map, Option, Some, None, Result, ◌⊎◌, refl, sym, ap, ◌∙◌, subst, inl, inr}
 use Rattle.std.specs.List.{AllByRecursion, Contains}
 use Rattle.std.specs.List.Sorted.{IsStrictlySortedBy}
 use Rattle.std.specs.Map.{keys_of}
@@ -18,7 +18,11 @@ use Rattle.messages.specs.declared.message.Message.{Message}
 use Rattle.messages.specs.declared.request_name.RequestName.{RequestName}
 use Rattle.messages.proofs.NameOrder.{lower_from_less}
 use Rattle.roster.specs.Fields.{RosterFields}
+use Rattle.desk_store.specs.Left.{AddsOnly}
 use Rattle.desk_store.specs.Sets.{Lists, SameSet}
+use Rattle.desk_store.specs.declared.keeper.Keeper.{Ghosts}
+use Rattle.desk.specs.Serving.{OnlyAsks}
+use Rattle.desk.specs.declared.refusal.Refusal.{Refusal}
 use Rattle.outcomes.specs.Outcomes.{ComesTo}
 use Rattle.outcomes.specs.private.ByName.{at_name}
 use Rattle.outcomes.proofs.GivenLists.{turn_split}
@@ -36,6 +40,19 @@ use Rattle.desk_audit.proofs.ListLemmas.{from_mapped, to_mapped}
 -- A list of one set is a list of each set with the same messages.
 pub lists_same : (S T : Message → Type 0) (list : List Message) → SameSet S T → Lists S list → Lists T list
 lists_same S T list same lists m = (λ held. (lists m).0 ((same m).1 held), λ there. (same m).0 ((lists m).1 there))
+
+-- ---- questions, one after the other
+
+module _ {K : Type 0} (g : Ghosts K) (a b c : K) where
+  -- both commit nothing
+  pub adds_both : (g.is_clean c → g.is_clean b) → (g.is_clean b → AddsOnly (g.may_leave a) (g.may_leave b) (λ _. ⊥))
+      → (g.is_clean c → AddsOnly (g.may_leave b) (g.may_leave c) (λ _. ⊥)) → g.is_clean c → AddsOnly (g.may_leave a) (g.may_leave c) (λ _. ⊥)
+  adds_both was first second clean left may =
+      elim (second clean left may) as (λ _. g.may_leave a left ⊎ ⊥) [ inl before ↦ first (was clean) left before | inr none ↦ absurd none ]
+
+  pub asks_both : {T : Type 0} (r : Result T Refusal) → (g.is_clean c → g.is_clean b)
+      → (g.is_clean b → AddsOnly (g.may_leave a) (g.may_leave b) (λ _. ⊥)) → OnlyAsks g b c r → OnlyAsks g a c r
+  asks_both r was first asks = record { live = asks.live; leaves = adds_both was first asks.leaves }
 
 -- ---- as in the map
 

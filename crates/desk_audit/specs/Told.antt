@@ -1,14 +1,12 @@
 -- What is told about a name's messages.
-use Rattle.std.specs.Prelude.{◌≡◌, ◌↔◌, ◌<◌, List, Contains, length}
+use Rattle.std.specs.Prelude.{◌≡◌, ◌↔◌, List, Contains}
 use Rattle.messages.specs.Fields.{RequestFields, VerdictFields}
 use Rattle.messages.specs.Names.{name_meant, name_of}
 use Rattle.messages.specs.Order.{AreInOrder, TextPrecedes}
-use Rattle.messages.specs.Wire.{request_text, verdict_text, wire}
+use Rattle.messages.specs.Wire.{request_text, verdict_text}
 use Rattle.messages.specs.declared.message.Message.{Message}
 use Rattle.messages.specs.declared.message.Message.TheVariants.{Request, Verdict}
 use Rattle.messages.specs.declared.request_name.RequestName.{RequestName}
-use Rattle.desk.specs.declared.refusal.Refusal.{Refusal}
-use Rattle.desk.specs.declared.refusal.Refusal.TheVariants.{TooLong}
 use Rattle.findings.specs.declared.entry.About.{About}
 
 -- the name that a request asks under, or that a verdict is about
@@ -28,8 +26,3 @@ pub record TellsMessages (messages : List Message)
       → Contains about.requests.items q ↔ (Contains messages (Request q) × (name_of q ≡ name))
   pub verdicts : (v : VerdictFields)
       → Contains about.verdicts.items v ↔ (Contains messages (Verdict v) × (name_meant v ≡ name))
-
--- The set is refused because it has a text of over 16,384 bytes, which no delivery brings.
-abbrev pub IsTooLong : List Message → Refusal → Type 0
-IsTooLong messages e =
-    (e ≡ TooLong) × (m : Message) × Contains messages m × (16_384 < length (wire m))

@@ -1,3 +1,5 @@
 -- What only private clauses and proofs cite: no public contract speaks of it.
 -- what a set of messages says, by name
 pub mod ByName
+-- and by text
+pub mod ByText

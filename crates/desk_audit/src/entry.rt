@@ -1,15 +1,14 @@
 //! What the audit tells about each name.
 
-ghost use Rattle.std.specs.Prelude.{◌≡◌, ◌⊎◌, List, IfOk, IsErr, IfErr, Err};
+ghost use Rattle.std.specs.Prelude.{◌≡◌, List, IfOk, IsErr, IfErr, Err};
 ghost use Rattle.messages.specs.declared.message.Message.{Message as AnyMessage};
 ghost use Rattle.desk_store.specs.Serves.{Serves};
 ghost use Rattle.desk_store.specs.Sets.{Lists};
 ghost use Rattle.outcomes.specs.Outcomes.{ComesTo};
 ghost use Rattle.desk.specs.Refusals.{IsWant};
-ghost use Rattle.desk.specs.Serving.{ServesAnswer};
+ghost use Rattle.desk.specs.Serving.{OnlyAsks, ServesAnswer};
 ghost use Rattle.desk.specs.declared.refusal.Refusal.TheVariants as refusal;
 ghost use Rattle.desk_audit.specs.Audit.{IsAudit};
-ghost use Rattle.desk_audit.specs.Told.{IsTooLong};
 ghost use Rattle.desk_audit.specs.private.ByName.{Gathers};
 
 use crate::gathering::{ByName, gather};
@@ -34,6 +33,7 @@ fn entry_of<K: Keeper>(
     ensures base { desk.new.base ≡ desk.old.base }
     ensures served { Serves K.Keeper desk.old.keeper desk.new.keeper
         (result ≡ Err refusal.Storage) (IsErr result) }
+    ensures asks { OnlyAsks K.Keeper desk.old.keeper desk.new.keeper result }
 {
     let status = desk.status_of(&name)?;
     Ok(Entry {
@@ -58,6 +58,8 @@ fn entries_of<K: Keeper>(
     ensures base { desk.new.base ≡ desk.old.base }
     ensures served { Serves K.Keeper desk.old.keeper desk.new.keeper
         (result ≡ Err refusal.Storage) (IsErr result) }
+    ensures asks { (K.is_clean desk.old.keeper → K.is_up desk.old.keeper)
+        → OnlyAsks K.Keeper desk.old.keeper desk.new.keeper result }
 {
     let mut entries = Vec::new(alloc);
     for (name, about) in all {
@@ -70,22 +72,21 @@ fn entries_of<K: Keeper>(
 /// The entries of all names that somebody asks under or that a verdict is about, in the order of
 /// names, each once and with all its messages.
 ///
-/// Each status is what the messages about the name come to. Apart from want of memory and of
-/// storage there is one refusal: `TooLong`, if the desk holds a text of over 16,384 bytes, which no
-/// delivery brings. Nothing in the desk changes.
+/// Each status is what the messages about the name come to. It is refused only for want of memory
+/// or of storage. Nothing in the desk changes.
 pub fn audit<K: Keeper>(desk: &mut Desk<K>) -> Result<Vec<Entry>, Refusal>
     ensures audit { (set : List AnyMessage) → K.is_up desk.new.keeper
         → Lists (K.holds desk.old.keeper) set
         → IfOk result (λ entries. IsAudit desk.old.roster.says set entries.items) }
-    ensures refused { (set : List AnyMessage) → K.is_up desk.new.keeper
-        → Lists (K.holds desk.old.keeper) set → IfErr result (λ e. IsWant e ⊎ IsTooLong set e) }
+    ensures err { IfErr result IsWant }
     ensures unchanged { K.is_up desk.new.keeper → K.is_same desk.old.keeper desk.new.keeper }
     ensures roster { desk.new.roster ≡ desk.old.roster }
     ensures base { desk.new.base ≡ desk.old.base }
     ensures served { ServesAnswer K.Keeper desk.old.keeper desk.new.keeper result }
+    ensures asks { OnlyAsks K.Keeper desk.old.keeper desk.new.keeper result }
 {
-    let texts = desk.texts()?;
-    let alloc = *texts.allocator();
-    let all = gather(alloc, &texts)?;
+    let list = desk.messages()?;
+    let alloc = *list.allocator();
+    let all = gather(alloc, list)?;
     entries_of(alloc, desk, all)
 }

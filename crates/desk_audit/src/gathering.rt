@@ -1,24 +1,24 @@
-//! What the texts of a desk's messages say, name by name.
+//! What a desk's messages say, name by name.
 
-ghost use Rattle.std.specs.Prelude.{◌≡◌, ◌≢◌, ◌⊎◌, ◌<◌, ◌++◌, ◌∷◌, [], List, map};
-ghost use Rattle.std.specs.Prelude.{Contains, IfOk, IfErr, OnOk, length, string_bytes};
-ghost use Rattle.messages.specs.Wire.{wire, IsMessage};
+ghost use Rattle.std.specs.Prelude.{◌≡◌, ◌++◌, ◌∷◌, [], List, Contains, IfOk, OnOk};
+ghost use Rattle.messages.specs.Wire.{IsMessage};
 ghost use Rattle.messages.specs.declared.message.Message.{Message as AnyMessage};
-ghost use Rattle.desk.specs.Refusals.{IsWant};
-ghost use Rattle.desk.specs.Texts.{AreTexts};
-ghost use Rattle.desk.specs.declared.refusal.Refusal.TheVariants as refusal;
-ghost use Rattle.desk_audit.specs.Told.{name_in, TellsMessages, IsTooLong};
+ghost use Rattle.desk_audit.specs.Told.{TellsMessages, name_in};
 ghost use Rattle.desk_audit.specs.private.ByName.{Gathers, IsBehind};
+ghost use Rattle.desk_audit.specs.private.ByText.{AreByText};
 
-use desk::Refusal;
+use crate::any_text::{AnyText, text_word};
 use findings::About;
-use messages::{Message, MessageReader, Request, RequestName, Verdict};
+use messages::{Message, RequestName};
 use std::alloc::{AllocError, Global};
 use std::collections::BTreeMap;
-use sudo_words::NoMemory;
+use sudo_words::{NoMemory, Word};
 
 /// What is said about each name, in the order of names.
 pub(crate) type ByName = BTreeMap<RequestName, About>;
+
+/// Messages by their texts, in the byte order of these.
+type ByText = BTreeMap<Word<AnyText>, Message>;
 
 /// No messages about a name.
 fn nothing(alloc: Global) -> About
@@ -81,31 +81,34 @@ fn put(alloc: Global, all: &mut ByName, message: Message) -> Result<(), NoMemory
     Ok(())
 }
 
-/// The message of a text.
-fn read(alloc: Global, reader: &mut MessageReader, text: &str) -> Result<Message, Refusal>
-    ensures found { IfOk result (λ m. (text.now ≡ wire m) × IsMessage m) }
-    ensures refused { (m : AnyMessage) → IsMessage m → text.now ≡ wire m
-        → IfErr result (λ e. IsWant e ⊎ ((e ≡ refusal.TooLong) × (16_384 < length text.now))) }
-    ensures unasked { IfErr result (λ e. e ≢ refusal.Storage) }
+/// The messages by their texts.
+fn by_text(alloc: Global, list: Vec<Message>) -> Result<ByText, NoMemory>
+    ensures { IfOk result (AreByText list.items) }
 {
-    Ok(reader.read(alloc, text.as_bytes())?)
+    let mut all = BTreeMap::new(alloc);
+    for message in list {
+        let text = text_word(alloc, &message)?;
+        all.insert(text, message)?;
+    }
+    Ok(all)
 }
 
-/// What the texts of a set say about each name. They are read in the order given; if that is their
-/// byte order, it is also the order of their moments.
-pub(crate) fn gather(alloc: Global, texts: &[String]) -> Result<ByName, Refusal>
-    ensures gathers { (set : List AnyMessage) → ((m : AnyMessage) → Contains set m → IsMessage m)
-        → AreTexts set (map string_bytes texts.now) → IfOk result (Gathers set) }
-    ensures refused { (set : List AnyMessage) → ((m : AnyMessage) → Contains set m → IsMessage m)
-        → AreTexts set (map string_bytes texts.now)
-        → IfErr result (λ e. IsWant e ⊎ IsTooLong set e) }
-    ensures unasked { IfErr result (λ e. e ≢ refusal.Storage) }
+/// What messages say about each name, taken in the order of their texts.
+fn gather_in_order(alloc: Global, sorted: ByText) -> Result<ByName, NoMemory>
+    ensures { (list : List AnyMessage) → AreByText list sorted
+        → ((m : AnyMessage) → Contains list m → IsMessage m) → IfOk result (Gathers list) }
 {
-    let mut reader = MessageReader::new(alloc);
     let mut all = BTreeMap::new(alloc);
-    for text in texts {
-        let message = read(alloc, &mut reader, text.as_str())?;
+    for (_text, message) in sorted {
         put(alloc, &mut all, message)?;
     }
     Ok(all)
+}
+
+/// What the messages say about each name.
+pub(crate) fn gather(alloc: Global, list: Vec<Message>) -> Result<ByName, NoMemory>
+    ensures { ((m : AnyMessage) → Contains list.items m → IsMessage m)
+        → IfOk result (Gathers list.items) }
+{
+    gather_in_order(alloc, by_text(alloc, list)?)
 }

@@ -2,15 +2,17 @@
 //! of these counted and why the others did not, who may still approve it, and on which hosts it is
 //! in force.
 //!
-//! A clause of `audit` says which names it tells, with which messages and which status. A clause of
-//! `counts` says whether a verdict counts, which rests on those of `Roster::eligible` and
-//! `Roster::may_revoke`. The rest, including the printed texts, is safe, and is tested against a
-//! second reading of the rules.
+//! A clause of `audit` says which names it tells, with which messages and which status, and one of
+//! `document` and of `document_of` that the text is the document of what is told. The text for a
+//! terminal is safe, and is tested against a second reading of the rules.
 #![tactic(auto)]
 
+mod any_text;
+mod as_json;
 mod entry;
 mod gathering;
 
+pub use as_json::{document, document_of};
 pub use entry::audit;
 pub use findings::{
     About, Effect, Entry, Pick, Question, WordsFault, asked_by, counts, json, text,

@@ -4,17 +4,26 @@ use crate::copies::copy_of;
 use crate::sources::take_lines;
 use crate::trouble::Trouble;
 use desk::{Desk, Keeper, MemoryKeeper};
-use desk_audit::{Question, audit, json, text};
-use desk_commands::open_over;
-use std::{fs, io};
+use desk_audit::{Question, audit, document, text};
+use desk_commands::{Refusal, open_over};
+use desk_process::{MOST_POLICY, MOST_ROSTER, read_file};
+use roster::RosterFault;
 
-/// The bytes of a file.
-fn file(rt: &HostRuntime, path: &str) -> Result<Vec<u8>, Trouble> {
-    match fs::read(rt, path) {
+/// The bytes of a file, but no more than one over the most.
+fn file(rt: &HostRuntime, path: &str, most: u64) -> Result<Vec<u8>, Trouble> {
+    match read_file(rt, path, most) {
         Ok(bytes) => Ok(bytes),
-        Err(error) if error.kind() == io::ErrorKind::OutOfMemory => Err(Trouble::NoMemory),
-        Err(_) => Err(Trouble::FileFailed),
+        Err(error) => Err(Trouble::of_system(rt.alloc(), path, error)),
     }
+}
+
+/// The bytes of a roster's file. One that is much too long is refused unread, as out of range.
+fn roster_file(rt: &HostRuntime, path: &str) -> Result<Vec<u8>, Trouble> {
+    let bytes = file(rt, path, MOST_ROSTER)?;
+    if bytes.len() as u64 <= MOST_ROSTER {
+        return Ok(bytes);
+    }
+    Err(Trouble::Refused(Refusal::Roster(RosterFault::OutOfRange)))
 }
 
 /// What the desk tells.
@@ -24,13 +33,11 @@ fn told_by<K: Keeper>(
     desk: &mut Desk<K>,
 ) -> Result<String, Trouble> {
     let pick = &question.pick;
-    let entries = pick.among(audit(desk)?);
-    let roster = desk.roster();
     if question.as_json {
-        Ok(json(rt.alloc(), roster, pick, &entries)?)
-    } else {
-        Ok(text(rt.alloc(), roster, pick, &entries)?)
+        return Ok(document(desk, pick)?);
     }
+    let entries = pick.among(audit(desk)?);
+    Ok(text(rt.alloc(), desk.roster(), pick, &entries)?)
 }
 
 /// The desk of the question's roster and base, over what the keeper keeps.
@@ -39,8 +46,8 @@ fn desk_over<K: Keeper + Drop>(
     question: &Question,
     keeper: K,
 ) -> Result<Desk<K>, Trouble> {
-    let roster = file(rt, question.roster.as_str())?;
-    let base = file(rt, question.base.as_str())?;
+    let roster = roster_file(rt, question.roster.as_str())?;
+    let base = file(rt, question.base.as_str(), MOST_POLICY)?;
     match open_over(rt.alloc(), &roster, &base, keeper) {
         Ok(desk) => Ok(desk),
         Err((refusal, _)) => Err(refusal.into()),

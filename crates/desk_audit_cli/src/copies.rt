@@ -5,6 +5,7 @@ ghost use Rattle.std.specs.Prelude.{IfOk, IsTrue};
 ghost use Rattle.sqlite_disk.specs.Memory.{memory_is_usable};
 
 use crate::trouble::Trouble;
+use desk_process::read_file;
 use desk_store::{Found, Keeper, KeeperError, SqliteKeeper};
 use sqlite::{Connection, Error, ErrorCode};
 use sqlite_disk::{Disk, Files, Memory};
@@ -16,6 +17,9 @@ use std::{fs, io};
 /// How often the files are read again in the hope that nobody writes meanwhile.
 const TRIES: u32 = 20;
 
+/// The bytes of a log's header.
+const HEADER_LEN: u64 = 32;
+
 /// A keeper over a store's copy in memory.
 pub(crate) type Copied = SqliteKeeper<FileStore<Memory>>;
 
@@ -26,13 +30,20 @@ struct Pair {
     log: Vec<u8>,
 }
 
+/// The bytes of a file. A device and a pipe are not read: they may have no end.
+fn read(rt: &HostRuntime, path: &str) -> io::Result<Vec<u8>> {
+    if !fs::metadata(rt, path)?.is_file() {
+        return Err(io::Error::other("not a regular file"));
+    }
+    fs::read(rt, path)
+}
+
 /// The bytes of a file, or none if there is no such file.
 fn bytes_of(rt: &HostRuntime, path: &str) -> Result<Option<Vec<u8>>, Trouble> {
-    match fs::read(rt, path) {
+    match read(rt, path) {
         Ok(bytes) => Ok(Some(bytes)),
         Err(error) if error.kind() == io::ErrorKind::NotFound => Ok(None),
-        Err(error) if error.kind() == io::ErrorKind::OutOfMemory => Err(Trouble::NoMemory),
-        Err(_) => Err(Trouble::FileFailed),
+        Err(error) => Err(Trouble::of_system(rt.alloc(), path, error)),
     }
 }
 
@@ -48,26 +59,62 @@ fn read_pair(rt: &HostRuntime, path: &str, log_path: &str) -> Result<Pair, Troub
     Ok(Pair { db, log })
 }
 
-/// Whether the two readings gave the same bytes for both files.
-fn are_same(one: &Pair, other: &Pair) -> bool {
-    one.db.as_slice() == other.db.as_slice() && one.log.as_slice() == other.log.as_slice()
+/// The header of a log, or what is there of it: each use of the log begins with another one
+/// (`SQLite`'s file format, section 4.1, 'WAL File Format').
+fn log_header(rt: &HostRuntime, log_path: &str) -> Result<Vec<u8>, Trouble> {
+    match read_file(rt, log_path, HEADER_LEN - 1) {
+        Ok(bytes) => Ok(bytes),
+        Err(error) if error.kind() == io::ErrorKind::NotFound => Ok(Vec::new(rt.alloc())),
+        Err(error) => Err(Trouble::of_system(rt.alloc(), log_path, error)),
+    }
 }
 
-/// What both files held at one moment: they are read until two readings in a row give the same
-/// bytes. Unless a byte was changed and changed back meanwhile, each file then stayed the same from
-/// the end of its first reading to the beginning of its second, so both held these bytes when the
-/// log's first reading ended. A process that was killed at that moment would have left them like
-/// that.
+/// Whether a log that was read begins with this header.
+fn begins_with(log: &[u8], header: &[u8]) -> bool {
+    match log.get(..header.len()) {
+        Some(front) => front == header,
+        None => false,
+    }
+}
+
+/// Whether what was read of both files is what they held at one moment, where this was the log's
+/// header before.
+fn is_settled(
+    rt: &HostRuntime,
+    path: &str,
+    log_path: &str,
+    header: &[u8],
+    read: &Pair,
+) -> Result<bool, Trouble> {
+    if !begins_with(read.log.as_slice(), header) {
+        return Ok(false);
+    }
+    if header.len() as u64 == HEADER_LEN {
+        let after = log_header(rt, log_path)?;
+        return Ok(after.as_slice() == header);
+    }
+    let again = read_pair(rt, path, log_path)?;
+    Ok(again.db.as_slice() == read.db.as_slice() && again.log.as_slice() == read.log.as_slice())
+}
+
+/// What both files held at one moment. They are read until they were not changed meanwhile, as far
+/// as it matters.
+///
+/// While a log is in use, who writes appends to it, and what goes from it into the file stays in it
+/// as well: it is begun anew, with another header, only once all of it is in the file. So where the
+/// header is the same before the file is read and after the log is, what the file lacks is in the
+/// log that was read behind it; of a commit that was being written only a part may be there, which
+/// has no meaning for who opens the files. A process that was killed then would have left them like
+/// that. Where no log is in use, both are read until two readings in a row are the same.
 fn settled(rt: &HostRuntime, path: &str) -> Result<Pair, Trouble> {
     let alloc = rt.alloc();
     let log_path = format!(in alloc; "{path}-wal")?;
-    let mut last = read_pair(rt, path, log_path.as_str())?;
     for _try in 0..TRIES {
-        let next = read_pair(rt, path, log_path.as_str())?;
-        if are_same(&next, &last) {
-            return Ok(next);
+        let header = log_header(rt, log_path.as_str())?;
+        let read = read_pair(rt, path, log_path.as_str())?;
+        if is_settled(rt, path, log_path.as_str(), header.as_slice(), &read)? {
+            return Ok(read);
         }
-        last = next;
     }
     Err(Trouble::Busy(String::from_str(rt.alloc(), path)?))
 }
@@ -87,13 +134,13 @@ fn memory_of(alloc: Global, bytes: &[u8]) -> Result<Memory, Trouble>
 }
 
 /// A keeper over a copy of the two files.
-fn keeper_of(alloc: Global, pair: &Pair) -> Result<Copied, Trouble> {
+fn keeper_of(alloc: Global, path: &str, pair: &Pair) -> Result<Copied, Trouble> {
     let log = memory_of(alloc, pair.log.as_slice())?;
     let db = memory_of(alloc, pair.db.as_slice())?;
     match Connection::open_files(alloc, Files { log, db }, Options::new(0)) {
         Ok(conn) => Ok(SqliteKeeper::new(alloc, conn)),
         Err((Error::SqliteFailure(ErrorCode::OutOfMemory), _)) => Err(Trouble::NoMemory),
-        Err(_) => Err(Trouble::FileFailed),
+        Err((error, _)) => Err(Trouble::at(alloc, path, &error)),
     }
 }
 
@@ -112,6 +159,6 @@ fn looked(rt: &HostRuntime, path: &str, mut keeper: Copied) -> Result<Copied, Tr
 /// desk's in it, the path is named; nothing is created there.
 pub(crate) fn copy_of(rt: &HostRuntime, path: &str) -> Result<Copied, Trouble> {
     let pair = settled(rt, path)?;
-    let keeper = keeper_of(rt.alloc(), &pair)?;
+    let keeper = keeper_of(rt.alloc(), path, &pair)?;
     looked(rt, path, keeper)
 }

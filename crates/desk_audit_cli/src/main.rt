@@ -37,10 +37,14 @@ fn write_out(rt: &HostRuntime, text: &str) -> Result<(), Trouble> {
     let Ok(mut out) = BufWriter::new(rt.alloc(), rt.stdout()) else {
         return Err(Trouble::NoMemory);
     };
-    if out.write_all(text.as_bytes()).is_err() || out.flush().is_err() {
-        return Err(Trouble::FileFailed);
+    let mut written = out.write_all(text.as_bytes());
+    if written.is_ok() {
+        written = out.flush();
     }
-    Ok(())
+    match written {
+        Ok(()) => Ok(()),
+        Err(error) => Err(Trouble::of_system(rt.alloc(), "standard output", error)),
+    }
 }
 
 /// Does what the words say.

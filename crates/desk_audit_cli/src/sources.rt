@@ -2,20 +2,20 @@
 
 use crate::trouble::Trouble;
 use desk::{Desk, MemoryKeeper, Refusal};
+use desk_process::Lines;
 use std::alloc::Global;
 use std::io::{BufReader, Read, Write};
-use std::{io, mem};
+use std::mem;
 
-/// All of the standard input.
+/// The standard input; of a line that is too long for a message, no more than shows that.
 fn whole(rt: &HostRuntime) -> Result<Vec<u8>, Trouble> {
-    let Ok(mut input) = BufReader::new(rt.alloc(), rt.stdin()) else {
+    let Ok(reader) = BufReader::new(rt.alloc(), rt.stdin()) else {
         return Err(Trouble::NoMemory);
     };
     let mut bytes = Vec::new(rt.alloc());
-    match input.read_to_end(&mut bytes) {
+    match Lines::new(reader).read_to_end(&mut bytes) {
         Ok(_) => Ok(bytes),
-        Err(error) if error.kind() == io::ErrorKind::OutOfMemory => Err(Trouble::NoMemory),
-        Err(_) => Err(Trouble::FileFailed),
+        Err(error) => Err(Trouble::of_system(rt.alloc(), "standard input", error)),
     }
 }
 
@@ -39,10 +39,10 @@ fn lines(alloc: Global, bytes: &[u8]) -> Result<Vec<Vec<u8>>, Trouble> {
 /// Says on the standard error why the desk does not take a line.
 fn complain(rt: &HostRuntime, number: usize, refusal: Refusal) -> Result<(), Trouble> {
     let mut err = rt.stderr();
-    if writeln!(err, "line {number}: {refusal}").is_err() {
-        return Err(Trouble::FileFailed);
+    match writeln!(err, "line {number}: {refusal}") {
+        Ok(()) => Ok(()),
+        Err(error) => Err(Trouble::of_system(rt.alloc(), "standard error", error)),
     }
-    Ok(())
 }
 
 /// Delivers a line to the desk. A line that the desk does not take is named on the standard error;

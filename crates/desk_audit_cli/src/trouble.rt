@@ -2,8 +2,8 @@
 
 use desk_audit::WordsFault;
 use desk_commands::Refusal;
-use std::alloc::{AllocError, AllocFailed};
-use std::fmt;
+use std::alloc::{AllocError, AllocFailed, Global};
+use std::{fmt, io};
 use sudo_words::NoMemory;
 
 /// Why there is no answer.
@@ -15,8 +15,8 @@ pub(crate) enum Trouble {
     BadWord,
     /// Memory ran out.
     NoMemory,
-    /// A file could not be read, or the answer could not be written.
-    FileFailed,
+    /// A file could not be read, or the answer could not be written: which, and why.
+    FileFailed(String),
     /// There is no store at this path.
     NoStore(String),
     /// The store at this path changed each time that it was read.
@@ -33,11 +33,32 @@ impl fmt::Display for Trouble {
             ),
             Trouble::BadWord => Refusal::BadWord.fmt(f),
             Trouble::NoMemory => Refusal::NoMemory.fmt(f),
-            Trouble::FileFailed => Refusal::FileFailed.fmt(f),
+            Trouble::FileFailed(cause) => write!(f, "{}\ncause: {cause}", Refusal::FileFailed),
             Trouble::NoStore(path) => write!(f, "no store here: {path}"),
-            Trouble::Busy(path) => write!(f, "the store is written to: {path}"),
+            Trouble::Busy(path) => write!(
+                f,
+                "the store is written to: {path}\ntry again, or stop what writes to it (fuser {path}), or ask a backup (man desk-store)"
+            ),
             Trouble::Refused(refusal) => write!(f, "{refusal}"),
         }
+    }
+}
+
+impl Trouble {
+    /// This failed, for that reason.
+    pub(crate) fn at<T: fmt::Display>(alloc: Global, what: &str, why: &T) -> Trouble {
+        match format!(in alloc; "{what}: {why}") {
+            Ok(cause) => Trouble::FileFailed(cause),
+            Err(_) => Trouble::NoMemory,
+        }
+    }
+
+    /// What the system says of a file or a stream.
+    pub(crate) fn of_system(alloc: Global, what: &str, error: io::Error) -> Trouble {
+        if error.kind() == io::ErrorKind::OutOfMemory {
+            return Trouble::NoMemory;
+        }
+        Trouble::at(alloc, what, &error)
     }
 }
 

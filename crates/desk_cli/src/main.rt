@@ -28,7 +28,7 @@ fn idle(rt: &HostRuntime, fault: JobFault) -> Result<Status, Refusal> {
 
 fn outcome(rt: &HostRuntime) -> Result<Status, Refusal> {
     match job(rt.alloc(), words(rt)?) {
-        Ok(job) => work(rt, &job),
+        Ok(job) => Ok(work(rt, &job)),
         Err(fault) => idle(rt, fault),
     }
 }

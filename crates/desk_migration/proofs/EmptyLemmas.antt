@@ -17,7 +17,7 @@ use Rattle.sqlite_rules.specs.Lists.{Has}
 use Rattle.sqlite_rules.proofs.ListLemmas.{all_has}
 use Rattle.sqlite_tied.specs.Compute.{everything}
 use Rattle.desk_tables.specs.Kept.{table_in}
-use Rattle.desk_tables.specs.Stored.{Finds, IsUnreferred, tree_of}
+use Rattle.desk_tables.specs.Stored.{IsUnreferred, tree_of}
 use Rattle.desk_tables.proofs.QueriesOf.{Means}
 use Rattle.desk_tables.proofs.QueryLemmas.{asks_inside, shown_same}
 use Rattle.desk_tables.proofs.Takes as takes
@@ -26,11 +26,11 @@ use Rattle.desk_tables.proofs.Where as where'
 use Rattle.desk_schema.specs.declared.part.Part.{Part}
 use Rattle.desk_schema.specs.declared.part.Part.TheVariants.{Desk, Messages, Names, Marks, Verdicts, Parked}
 use Rattle.desk_schema.specs.Migratable.{IsMigratable}
-use Rattle.desk_schema.specs.Parts.{name_of, table_at}
+use Rattle.desk_schema.specs.Parts.{name_of}
 use Rattle.desk_schema.specs.Shapes.{FindsPart, IsOld}
-use Rattle.desk_schema.proofs.RecognizedLemmas.{tree_is}
 use Rattle.desk_schema.proofs.ShapeLemmas.{tree_in}
-use Rattle.desk_opening.specs.private.Selecting.{ShowsPart, select_of, shown_of}
+use Rattle.desk_opening.specs.Statements.{select_of}
+use Rattle.desk_opening.specs.private.Selecting.{ShowsPart, shown_of}
 use Rattle.desk_opening.proofs.ReadLemmas.{part_plain, part_shown}
 use Rattle.desk_migration.specs.private.Clearing.{Cleared, Clears, Deleted, Deletes, Left, delete_of}
 use Rattle.desk_migration.specs.private.Moving.{Emptied, Empties}
@@ -47,20 +47,20 @@ parts Marks = record { p = _; parsed = refl; statement = refl; formats = refl }
 parts Verdicts = record { p = _; parsed = refl; statement = refl; formats = refl }
 parts Parked = record { p = _; parsed = refl; statement = refl; formats = refl }
 
-means : (p : Part) (s : Schema) (at tree : ℕ) → Finds s (name_of p) at (table_at p tree)
-    → Means s (delete_of p) (command.Delete at (record { lets = []; body = scanning (table_at p tree).tree }))
-means p s at tree found = where'.clears s (delete_of p) (name_of p) (parts p) at (table_at p tree) found
+means : (p : Part) (s : Schema) (it : FindsPart s p)
+    → Means s (delete_of p) (command.Delete it.at (record { lets = []; body = scanning it.table.tree }))
+means p s it = where'.clears s (delete_of p) (name_of p) (parts p) it.at it.table it.finds
 
 deletes : (p : Part) (old new : State) (count : ℕ) → FindsPart old.now.schema p
     → IsUnreferred old.now.schema (tree_of old.now.schema (name_of p)) → Executes (delete_of p) [] old new (Ok count) → Deletes p old.now new.now
 deletes p old new count it alone ran =
     let s = old.now.schema in
     let sql = delete_of p in
-    let t = table_at p it.1 in
-    let tree : tree_of s (name_of p) ≡ t.tree = tree_in s p it ∙ sym (tree_is p it.1) in
-    let is = means p s it.0 it.1 it.2 in
-    let w = runs_as sql [] old new s refl (command.Delete it.0 (record { lets = []; body = scanning t.tree })) is.command is.plain count ran in
-    let done = takes.clears t s it.0 it.2.has it.2.stored (subst (IsUnreferred s) tree alone) old.step_limit
+    let t = it.table in
+    let tree : tree_of s (name_of p) ≡ t.tree = tree_in s p it in
+    let is = means p s it in
+    let w = runs_as sql [] old new s refl (command.Delete it.at (record { lets = []; body = scanning t.tree })) is.command is.plain count ran in
+    let done = takes.clears t s it.at it.finds.has it.finds.stored (subst (IsUnreferred s) tree alone) old.step_limit
     (statement_of sql (understood s sql)) old.now.trees new.now w.tally w.changed in
     record {
       schema = done.1;

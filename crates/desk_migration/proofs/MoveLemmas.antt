@@ -11,9 +11,9 @@ use Rattle.sqlite_rules.specs.Lists.{Has}
 use Rattle.messages.specs.declared.message.Message.{Message}
 use Rattle.desk_tables.specs.Kept.{HasRows, Holds, HoldsText, IsDeskDatabase, Spares, table_in}
 use Rattle.desk_tables.specs.Sets.{Lists}
-use Rattle.desk_tables.specs.Stored.{Texts, content_of, is_stray, recorded, texts_of}
-use Rattle.desk_tables.specs.private.Stepping.{IsBare, Marked, Marks, Says}
-use Rattle.desk_tables.specs.private.Turning.{Refilled, Refills, texts_in}
+use Rattle.desk_tables.specs.Stored.{Texts, content_of, is_stray, recorded, recorded_before, texts_of}
+use Rattle.desk_tables.specs.Steps.{IsBare, Marked, Marks, Says}
+use Rattle.desk_tables.specs.Steps.{Refilled, Refills, texts_in}
 use Rattle.desk_tables.proofs.OneSchema.{again, same_tables, unused_again}
 use Rattle.desk_tables.proofs.RefillLemmas.{no_rows}
 use Rattle.desk_tables.proofs.ReplaceLemmas as replacing
@@ -68,7 +68,7 @@ module _ (roster : List ℕ) (utf8 : IsUtf8 roster) (ms : List Message) (a b c d
   migrates = record {
     sound = r.sound put.sound;
     kept = record { desk = desk; unmarked = unmarked_still b d p.tidy.desk spares (inr p.marks) };
-    content = λ i. record { roster = unwrap_or (marked i) []; texts = texts i };
+    content = λ i. record { roster = unwrap_or (marked i) (unwrap_or (recorded_before (table_in d (codes "desk"))) []); texts = texts i };
     grown = (p.grown.0, ap (λ s. s.tables) spares.schema ∙ p.grown.1);
     others = λ t there beside.
         spares.foreign t (subst (λ ts. Has ts t) (sym p.grown.1) (has_before a.schema.tables _ t there)) (p.foreign t there beside) ∙ p.others t there beside;
@@ -98,10 +98,13 @@ module _ (a b : Database) (first : IsDatabase a) (second : IsDatabase b) (same :
   unmarked_again unmarked = elim unmarked as (λ _. IsUnmarked b) [
     | inl lacks ↦ inl (unused_again a.schema b.schema a.trees first sound (codes "marks") lacks)
     | inr it ↦ inr (record {
-      at = it.at;
-      tree = it.tree;
-      finds = finds_by a.schema b.schema (codes "marks") it.at _ tables it.finds;
-      empty = ap (λ (db : Trees). db it.tree) same ∙ it.empty;
+      marks = record {
+        at = it.marks.at;
+        table = it.marks.table;
+        finds = finds_by a.schema b.schema (codes "marks") it.marks.at it.marks.table tables it.marks.finds;
+        is = it.marks.is;
+      };
+      empty = ap (λ (db : Trees). db it.marks.table.tree) same ∙ it.empty;
     })
   ]
 

@@ -11,14 +11,14 @@ use Rattle.sqlite_rules.specs.Lists.{Has}
 use Rattle.sqlite_schema.specs.Names.{same_name}
 use Rattle.desk_tables.specs.Kept.{table_in}
 use Rattle.desk_tables.specs.Stored.{Finds, tree_of}
-use Rattle.desk_tables.specs.private.Stepping.{KeepsBut}
+use Rattle.desk_tables.specs.Steps.{KeepsBut}
 use Rattle.desk_tables.proofs.AddLemmas.{all_at}
 use Rattle.desk_schema.specs.declared.part.Part.{Part}
 use Rattle.desk_schema.specs.declared.part.Part.TheVariants.{Desk, Messages, Names, Marks, Verdicts, Parked}
-use Rattle.desk_schema.specs.Parts.{name_of, table_at}
+use Rattle.desk_schema.specs.Parts.{name_of}
 use Rattle.desk_schema.specs.Shapes.{FindsPart}
 use Rattle.desk_schema.proofs.Grown.{grows, indexes_grow}
-use Rattle.desk_schema.proofs.RecognizedLemmas.{tree_is}
+use Rattle.desk_schema.proofs.RecognizedLemmas.{name_in}
 use Rattle.desk_schema.proofs.ShapeLemmas.{tree_in}
 
 -- ---- told apart by the first letters
@@ -34,33 +34,34 @@ mark_of Marks = 28001
 mark_of Verdicts = 30309
 mark_of Parked = 28769
 
-mark_is : (p : Part) (n : ℕ) → letters (table_at p n).name ≡ mark_of p
-mark_is Desk n = refl
-mark_is Messages n = refl
-mark_is Names n = refl
-mark_is Marks n = refl
-mark_is Verdicts n = refl
-mark_is Parked n = refl
+mark_is : (p : Part) → letters (name_of p) ≡ mark_of p
+mark_is Desk = refl
+mark_is Messages = refl
+mark_is Names = refl
+mark_is Marks = refl
+mark_is Verdicts = refl
+mark_is Parked = refl
+
+marked : (s : Schema) (p : Part) (it : FindsPart s p) → letters it.table.name ≡ mark_of p
+marked s p it = ap letters (name_in p it.table it.is) ∙ mark_is p
 
 -- two parts have two trees
 pub apart : (s : Schema) (p q : Part) → FindsPart s p → FindsPart s q → mark_of p ≢ mark_of q → tree_of s (name_of p) ≢ tree_of s (name_of q)
 apart s p q one two differ same =
-    let t = table_at p one.1 in
-    let u = table_at q two.1 in
-    let trees : t.tree ≡ u.tree = tree_is p one.1 ∙ sym (tree_in s p one) ∙ same ∙ tree_in s q two ∙ sym (tree_is q two.1) in
-    let both : Some (table_at p one.1) ≡ Some (table_at q two.1) =
-    sym one.2.by_tree ∙ ap (λ n. find (λ (v : Table). v.tree == n) s.tables) trees ∙ two.2.by_tree in
-    let is : table_at p one.1 ≡ table_at q two.1 = cc in
-    differ (sym (mark_is p one.1) ∙ ap (λ (v : Table). letters v.name) is ∙ mark_is q two.1)
+    let t = one.table in
+    let u = two.table in
+    let trees : t.tree ≡ u.tree = sym (tree_in s p one) ∙ same ∙ tree_in s q two in
+    let both : Some t ≡ Some u = sym one.finds.by_tree ∙ ap (λ n. find (λ (v : Table). v.tree == n) s.tables) trees ∙ two.finds.by_tree in
+    let is : t ≡ u = cc in
+    differ (sym (marked s p one) ∙ ap (λ (v : Table). letters v.name) is ∙ marked s q two)
 
 -- a change of one part's table leaves another's as it is
 pub still : (p q : Part) (a b : Database) → FindsPart a.schema p → FindsPart a.schema q → mark_of p ≢ mark_of q
     → b.schema ≡ a.schema → KeepsBut (name_of p) a b → table_in b (name_of q) ≡ table_in a (name_of q)
 still p q a b one two differ schema others =
-    let tree : (table_at q two.1).tree ≡ tree_of a.schema (name_of q) = tree_is q two.1 ∙ sym (tree_in a.schema q two) in
-    let same = all_at (λ (v : Table). v.tree ≢ tree_of a.schema (name_of p) → b.trees v.tree ≡ a.trees v.tree) a.schema.tables two.0
-    (table_at q two.1) two.2.has others
-    (λ e. apart a.schema p q one two differ (sym e ∙ tree)) in
+    let tree : two.table.tree ≡ tree_of a.schema (name_of q) = sym (tree_in a.schema q two) in
+    let same = all_at (λ (v : Table). v.tree ≢ tree_of a.schema (name_of p) → b.trees v.tree ≡ a.trees v.tree) a.schema.tables two.at
+    two.table two.finds.has others (λ e. apart a.schema p q one two differ (sym e ∙ tree)) in
     ap (λ s. b.trees (tree_of s (name_of q))) schema ∙ ap b.trees (sym tree) ∙ same ∙ ap a.trees tree
 
 -- ---- the tables of a schema

@@ -1,5 +1,5 @@
 -- An older desk's tables, emptied and with `verdicts` added, are those of a desk of today.
-use Rattle.std.proofs.Common.{◌≡◌, ◌≢◌, ◌++◌, [], ◌∷◌, length, codes, sym, ap, subst, ◌∙◌, arith}
+use Rattle.std.proofs.Common.{◌≡◌, ◌≢◌, ◌++◌, [], ◌∷◌, length, codes, refl, sym, ap, subst, ◌∙◌, arith}
 use Rattle.std.specs.List.{AllByRecursion}
 use Rattle.sqlite.specs.Schema.{Schema}
 use Rattle.sqlite.specs.Table.{Table}
@@ -16,7 +16,8 @@ use Rattle.desk_schema.specs.declared.part.Part.TheVariants as part
 use Rattle.desk_schema.specs.Migratable.{IsMigratable}
 use Rattle.desk_schema.specs.Parts.{name_of, table_at}
 use Rattle.desk_schema.specs.Shapes.{FindsPart, IsOld, Lacks}
-use Rattle.desk_schema.specs.private.Making.{Adds, AddsPart, Grows, HasEmpty}
+use Rattle.desk_schema.specs.Founding.{Adds, AddsPart}
+use Rattle.desk_schema.specs.private.Making.{Grows, HasEmpty}
 use Rattle.desk_schema.proofs.GrowLemmas.{grows_more, same_itself}
 use Rattle.desk_schema.proofs.Grown.{finds_new, finds_still}
 use Rattle.desk_schema.proofs.MadeLemmas.{alone, append_none, bare, keeps_itself, none_in}
@@ -28,9 +29,7 @@ use Rattle.desk_migration.proofs.PartLemmas.{apart, below_next, has_got, mark_of
 has_empty : (b : Database) (p : Part) (it : FindsPart b.schema p) → table_in b (name_of p) ≡ []
     → IsUnreferred b.schema (tree_of b.schema (name_of p)) → HasEmpty b p
 has_empty b p it none alone' = record {
-  at = it.0;
-  tree = it.1;
-  finds = it.2;
+  found = it;
   empty = ap b.trees (sym (tree_in b.schema p it)) ∙ none;
   alone = subst (IsUnreferred b.schema) (tree_in b.schema p it) alone';
 }
@@ -38,12 +37,13 @@ has_empty b p it none alone' = record {
 module _ (b c : Database) (adds : Adds (table_at part.Verdicts 0) b c) where
   -- a table that is found is still found, in its tree
   found_still : (p : Part) → FindsPart b.schema p → FindsPart c.schema p
-  found_still p it = (
-    it.0,
-    it.1,
-    subst (λ (s : Schema). Finds s (name_of p) it.0 (table_at p it.1)) (sym adds.schema)
-        (finds_still b.schema (table_at part.Verdicts 0) (name_of p) it.0 (table_at p it.1) it.2),
-  )
+  found_still p it = record {
+    at = it.at;
+    table = it.table;
+    finds = subst (λ (s : Schema). Finds s (name_of p) it.at it.table) (sym adds.schema)
+        (finds_still b.schema (table_at part.Verdicts 0) (name_of p) it.at it.table it.finds);
+    is = it.is;
+  }
 
   tree_still : (p : Part) → FindsPart b.schema p → tree_of c.schema (name_of p) ≡ tree_of b.schema (name_of p)
   unfolding found_still
@@ -51,12 +51,13 @@ module _ (b c : Database) (adds : Adds (table_at part.Verdicts 0) b c) where
 
   -- the new table is found after them
   fresh : Lacks b.schema part.Verdicts → tree_of c.schema (codes "verdicts") ≡ next_tree b.schema
-  fresh lacks = tree_in c.schema part.Verdicts (
-    length b.schema.tables,
-    next_tree b.schema,
-    subst (λ (s : Schema). Finds s (codes "verdicts") (length b.schema.tables) (table_at part.Verdicts (next_tree b.schema))) (sym adds.schema)
-        (finds_new b.schema (table_at part.Verdicts 0) (codes "verdicts") lacks.table (same_itself part.Verdicts 0) adds.stored),
-  )
+  fresh lacks = tree_in c.schema part.Verdicts (record {
+    at = length b.schema.tables;
+    table = table_at part.Verdicts (next_tree b.schema);
+    finds = subst (λ (s : Schema). Finds s (codes "verdicts") (length b.schema.tables) (table_at part.Verdicts (next_tree b.schema))) (sym adds.schema)
+        (finds_new b.schema (table_at part.Verdicts 0) (codes "verdicts") lacks.table (same_itself part.Verdicts 0) adds.stored);
+    is = refl;
+  })
 
 module _ (a b c : Database) (was : IsOld a.schema) (may_a : IsMigratable a.schema) (e : EmptiesAll a b) (adds : Adds (table_at part.Verdicts 0) b c) where
   old : IsOld b.schema
@@ -102,11 +103,11 @@ module _ (a b c : Database) (was : IsOld a.schema) (may_a : IsMigratable a.schem
   tidy : IsTidy c
   tidy = record {
     desk = desk_of c.schema (record {
-      desk = (d.at, d.tree, d.finds);
+      desk = d.found;
       messages = found_still b c adds part.Messages old.common.messages;
-      names = (n.at, n.tree, n.finds);
-      parked = (p.at, p.tree, p.finds);
-    }) (v.at, v.tree, v.finds) (alone c part.Desk d) (alone c part.Names n) (alone c part.Verdicts v) (alone c part.Parked p);
+      names = n.found;
+      parked = p.found;
+    }) v.found (alone c part.Desk d) (alone c part.Names n) (alone c part.Verdicts v) (alone c part.Parked p);
     names = neat_none 1 _ (none_in _ (bare c part.Names n));
     verdicts = keyed_none _ (none_in _ (bare c part.Verdicts v));
     parked = neat_none 2 _ (none_in _ (bare c part.Parked p));
@@ -127,11 +128,11 @@ module _ (a b c : Database) (was : IsOld a.schema) (may_a : IsMigratable a.schem
       let m = was.common.messages in
       let tree = tree_in a.schema part.Messages m in
       let other = λ (q : Part) (it : FindsPart a.schema q) (differ : mark_of part.Messages ≢ mark_of q).
-      λ (same : m.1 ≡ tree_of a.schema (name_of q)). apart a.schema part.Messages q m it differ (tree ∙ same) in
-      let now : tree_of c.schema (codes "messages") ≡ m.1 =
+      λ (same : m.table.tree ≡ tree_of a.schema (name_of q)). apart a.schema part.Messages q m it differ (tree ∙ same) in
+      let now : tree_of c.schema (codes "messages") ≡ m.table.tree =
       tree_still b c adds part.Messages old.common.messages ∙ ap (λ s. tree_of s (codes "messages")) e.schema ∙ tree in
       ap c.trees now
-      ∙ rows_kept (table_at part.Messages m.1) (has_got a.schema.tables m.0 (table_at part.Messages m.1) m.2.has) (
+      ∙ rows_kept m.table (has_got a.schema.tables m.at m.table m.finds.has) (
         other part.Desk was.common.desk (λ e. omega (arith, e)),
         (
           other part.Marks was.marks (λ e. omega (arith, e)),
@@ -161,7 +162,7 @@ module _ (a b c : Database) (was : IsOld a.schema) (may_a : IsMigratable a.schem
     names = bare c part.Names n;
     verdicts = bare c part.Verdicts v;
     parked = bare c part.Parked p;
-    marks = record { at = k.at; tree = k.tree; finds = k.finds; empty = k.empty };
+    marks = record { marks = k.found; empty = k.empty };
     messages = messages_kept;
     grown = (
       next_tree b.schema,

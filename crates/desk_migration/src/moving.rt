@@ -4,8 +4,8 @@ ghost use Rattle.std.specs.Prelude.{◌≡◌, ◌≢◌, AllPairs, Contains, On
 ghost use Rattle.sqlite.specs.Held.{state};
 ghost use Rattle.messages.specs.Wire.{IsMessage};
 ghost use Rattle.messages.specs.declared.message.Message.{Message as AnyMessage};
-ghost use Rattle.desk_tables.specs.private.Stepping.{InStep};
-ghost use Rattle.desk_tables.specs.private.Steps.{IsStep};
+ghost use Rattle.desk_tables.specs.Steps.{InStep};
+ghost use Rattle.desk_tables.specs.Steps.{IsStep};
 ghost use Rattle.desk_migration.specs.private.Moving.{Moved, Prepared};
 
 use crate::clearing::clear_all;

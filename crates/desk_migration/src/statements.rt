@@ -2,8 +2,8 @@
 
 ghost use Rattle.std.specs.Prelude.{◌≡◌, IfOk, OnOk};
 ghost use Rattle.sqlite.specs.Held.{state};
-ghost use Rattle.desk_tables.specs.private.Stepping.{InStep};
-ghost use Rattle.desk_tables.specs.private.Steps.{IsStep};
+ghost use Rattle.desk_tables.specs.Steps.{InStep};
+ghost use Rattle.desk_tables.specs.Steps.{IsStep};
 ghost use Rattle.desk_migration.specs.private.Clearing.{Deleted, Left, delete_of};
 
 use desk_opening::select_of;

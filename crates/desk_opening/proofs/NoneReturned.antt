@@ -1,5 +1,5 @@
 -- A SELECT has no RETURNING, whatever the schema is: so a part's statement commits nothing.
-use Rattle.std.proofs.Common.{◌≡◌, List, ℕ, ◌+◌, [], Option, None, Ok, Err, Result, false, true, IfOk, IsSome, if◌then◌else◌, refl, sym, subst}
+use Rattle.std.proofs.Common.{◌≡◌, List, ℕ, ◌+◌, [], Option, None, Ok, Err, Result, false, true, IfOk, IsSome, if◌then◌else◌, refl, subst}
 use Rattle.sqlite.specs.Tree.{Trees}
 use Rattle.sqlite.specs.Schema.{Schema}
 use Rattle.sqlite.specs.State.{State, CommitsShowing}
@@ -18,7 +18,7 @@ use Rattle.sqlite_schema.specs.declared.command.Returning.{Returning}
 use Rattle.sqlite_resolve.specs.Scope.{Name}
 use Rattle.desk_schema.specs.declared.part.Part.{Part}
 use Rattle.desk_schema.specs.declared.part.Part.TheVariants.{Desk, Messages, Names, Marks, Verdicts, Parked}
-use Rattle.desk_opening.specs.private.Selecting.{select_of}
+use Rattle.desk_opening.specs.Statements.{select_of}
 
 -- the text parses as a SELECT
 record IsQuery (text : List ℕ) : Type 0 where

@@ -9,7 +9,7 @@ use Rattle.messages.specs.declared.message.Message.{Message}
 use Rattle.desk_tables.specs.Kept.{HoldsText, IsNoReal, table_in}
 use Rattle.desk_tables.specs.Rows.{AreRows, IsRow}
 use Rattle.desk_tables.specs.Sets.{SameSet}
-use Rattle.desk_tables.specs.Stored.{content_of}
+use Rattle.desk_tables.specs.Stored.{content_of, recorded_before}
 use Rattle.desk_tables.proofs.RowSets.{rows_same}
 use Rattle.desk_schema.specs.declared.part.Part.TheVariants as part
 use Rattle.desk_schema.specs.References.{AreUnreferred}
@@ -24,16 +24,16 @@ use Rattle.desk_opening.specs.private.Compare.{are_kept}
 use Rattle.desk_opening.specs.private.Reading.{AreHeld}
 use Rattle.desk_opening.specs.private.Selecting.{ShowsRows, ShowsTexts}
 use Rattle.desk_opening.proofs.KeptLemmas.{held_where_kept, kept_where_held}
-use Rattle.desk_opening.proofs.Shown.{SameRows, held_too, identified, recorded_two, same_back, same_rows_in}
+use Rattle.desk_opening.proofs.Shown.{SameRows, held_too, identified, recorded_two, roster_before, same_back, same_rows_in}
 use Rattle.desk_opening.proofs.TextsShown.{contents_there, messages_listed, none_there}
 
 -- ---- parts that are there
 
 pub not_vacant : (s : Rattle.sqlite.specs.Schema.Schema) → HasCommon s → ¬ IsVacant s
-not_vacant s has vacant = let e : ◌≡◌ {A = Option ℕ} (Some has.desk.0) None = sym has.desk.2.named ∙ vacant.desk.table in absurd cc
+not_vacant s has vacant = let e : ◌≡◌ {A = Option ℕ} (Some has.desk.at) None = sym has.desk.finds.named ∙ vacant.desk.table in absurd cc
 
 pub not_old : (s : Rattle.sqlite.specs.Schema.Schema) → FindsPart s part.Verdicts → ¬ IsOld s
-not_old s has old = let e : ◌≡◌ {A = Option ℕ} (Some has.0) None = sym has.2.named ∙ old.verdicts.table in absurd cc
+not_old s has old = let e : ◌≡◌ {A = Option ℕ} (Some has.at) None = sym has.finds.named ∙ old.verdicts.table in absurd cc
 
 -- ---- a desk of today
 
@@ -108,7 +108,8 @@ module _ (db : Database) (sound : IsDatabase db) (common : HasCommon db.schema) 
       }
 
   roster_is : (roster : List ℕ) → HasContents 2 db roster → (content_of db).roster ≡ roster
-  roster_is roster contents = ap (λ o. unwrap_or o []) (sym (recorded_two (table_in db (codes "desk"))) ∙ contents.marked)
+  roster_is roster contents = ap (λ o. unwrap_or o (unwrap_or (recorded_before (table_in db (codes "desk"))) []))
+      (sym (recorded_two (table_in db (codes "desk"))) ∙ contents.marked)
 
   pub desk_in : (c : Contents) → AreContents 2 D M (string_bytes c.roster) c.messages.items
       → alone ≡ true → are_kept c.messages.items N V P ≡ true → FoundIn db (found.Desk c)
@@ -150,7 +151,7 @@ pub old_in : (db : Database) → IsOld db.schema → (D M : List Row) → ShowsT
 old_in db old D M texts c are =
     let contents = contents_there 1 db D M texts (string_bytes c.roster) c.messages.items are in (
       record { tables = old; contents = (string_bytes c.roster, contents) },
-      contents.marked,
+      roster_before (table_in db (codes "desk")) (string_bytes c.roster) contents.marked,
       messages_listed 1 db D M texts (string_bytes c.roster) c.messages.items are,
     )
 

@@ -1,5 +1,6 @@
 -- What the statements that read a desk's tables mean, for any schema that finds the tables by name.
-use Rattle.std.proofs.Common.{None, pos, negsuc, true, false, ◌≡◌, List, [], ◌∷◌, ◌++◌, map, ℕ, Ok, codes, refl}
+use Rattle.std.proofs.Common.{None, Some, pos, negsuc, true, false, cond, ◌≡◌, ◌+◌, List, [], ◌∷◌, ◌++◌, map, ℕ, Ok, codes, refl, ap, subst, ◌∙◌}
+use Rattle.std.specs.List.{position_from}
 use Rattle.sqlite.specs.declared.types.Value.TheVariants.{Int}
 use Rattle.sqlite.specs.Term.{Term, lit, col}
 use Rattle.sqlite.specs.Query.{Query, inner, end}
@@ -8,7 +9,7 @@ use Rattle.sqlite.specs.Schema.{Schema}
 use Rattle.sqlite.specs.Table.{Table}
 use Rattle.sqlite_tied.specs.Compute.{everything}
 use Rattle.sqlite_schema.specs.declared.schema.Column.{Column}
-use Rattle.sqlite_schema.specs.Names.{same_name}
+use Rattle.sqlite_schema.specs.Names.{column_named, same_name}
 use Rattle.sqlite_schema.specs.declared.schema.Kind.TheVariants as kind
 use Rattle.sqlite_resolve.specs.declared.state.State.{State}
 use Rattle.sqlite_resolve.specs.declared.scope.Output.{Output}
@@ -22,12 +23,15 @@ use Rattle.sqlite_ast.specs.declared.Core.{out-Core}
 use Rattle.desk_tables.specs.DeskTables.{column_of, keyed, names_at, parked_at, verdicts}
 use Rattle.desk_tables.specs.Stored.{Finds}
 use Rattle.desk_tables.proofs.Selects.{IsSimple, begun, draft_of, level_at, select_is}
+use Rattle.desk_tables.proofs.Layers.{result_one}
 use Rattle.desk_tables.proofs.QueriesOf.{IsColumn, Means, after_column, column_shown, list_means, means, roster_means, roster_names, shown_column}
 use Rattle.desk_schema.specs.declared.part.Part.{Part}
 use Rattle.desk_schema.specs.declared.part.Part.TheVariants.{Desk, Messages, Names, Marks, Verdicts, Parked}
-use Rattle.desk_schema.specs.Parts.{name_of, table_at}
-use Rattle.desk_opening.specs.private.Selecting.{select_of}
-use Rattle.desk_opening.proofs.Rowids.{after_rowid, result_five, result_four, result_six, rowid_name, rowid_output, rowid_shown}
+use Rattle.desk_schema.specs.Parts.{marks, names_of}
+use Rattle.desk_schema.specs.Shapes.{FindsPart}
+use Rattle.desk_opening.specs.Statements.{select_of}
+use Rattle.desk_opening.proofs.Rowids.{any_rowid_output, any_rowid_shown, after_rowid, result_five, result_four, result_six}
+use Rattle.desk_opening.proofs.Rowids.{rowid_name, rowid_output, rowid_shown}
 
 -- all rows of the table in this tree
 abbrev pub showing : ℕ → List Term → Query
@@ -47,7 +51,7 @@ abbrev pub project_of : Part → List Term
 project_of Desk = col 1 0 ∷ col 1 2 ∷ col 1 3 ∷ []
 project_of Messages = col 1 1 ∷ []
 project_of Names = col 1 0 ∷ col 1 1 ∷ col 1 2 ∷ col 1 3 ∷ col 1 4 ∷ []
-project_of Marks = col 1 0 ∷ col 1 1 ∷ col 1 2 ∷ col 1 3 ∷ col 1 4 ∷ col 1 5 ∷ []
+project_of Marks = col 1 0 ∷ []
 project_of Verdicts = col 1 0 ∷ col 1 1 ∷ col 1 2 ∷ col 1 3 ∷ col 1 4 ∷ col 1 5 ∷ []
 project_of Parked = col 1 0 ∷ col 1 1 ∷ col 1 2 ∷ col 1 3 ∷ []
 
@@ -163,7 +167,14 @@ verdicts_parts = record {
   f_is = record { e = _; text = _; one = refl; expr = refl };
 }
 
-marks_parts : ShowsSix (select_of Marks) (codes "marks")
+-- the statement shows the rowid alone
+pub record ShowsRowid (sql table : Name) : Type 0 where
+  it : IsSimple sql table
+  a : Written
+  are : (out-Core (out-Select it.sel).first).shown ≡ a ∷ []
+  a_is : IsColumn a rowid_name
+
+marks_parts : ShowsRowid (select_of Marks) (codes "marks")
 unfolding everything
 marks_parts = record {
   it = record {
@@ -186,18 +197,8 @@ marks_parts = record {
     having = refl;
   };
   a = _;
-  b = _;
-  c = _;
-  d = _;
-  e = _;
-  f = _;
   are = refl;
   a_is = record { e = _; text = _; one = refl; expr = refl };
-  b_is = record { e = _; text = _; one = refl; expr = refl };
-  c_is = record { e = _; text = _; one = refl; expr = refl };
-  d_is = record { e = _; text = _; one = refl; expr = refl };
-  e_is = record { e = _; text = _; one = refl; expr = refl };
-  f_is = record { e = _; text = _; one = refl; expr = refl };
 }
 
 -- the statement shows the rowid and these three columns of the table
@@ -445,12 +446,49 @@ module _ (s : Schema) (at tree : ℕ) (parts : ShowsFour (select_of Parked) (cod
       means s (select_of Parked) _
       (select_is s (select_of Parked) (codes "parked") parts.it at four_t four_d4 _ _ found.named found.has all refl refl four_typed) refl refl
 
+-- ---- `marks`, of which the names of the columns are known
+
+by_names : (name : Name) (i : ℕ) (cs : List Column)
+    → position_from (λ (c : Column). same_name c.name name) i cs ≡ position_from (λ n. same_name n name) i (names_of cs)
+by_names name i [] = refl
+by_names name i (c ∷ cs) = ap (cond (same_name c.name name) (Some i)) (by_names name (i + 1) cs)
+
+unnamed : position_from (λ n. same_name n rowid_name) 0 (names_of marks.columns) ≡ None
+unfolding same_name
+unnamed = refl
+
+module _ (s : Schema) (at : ℕ) (t : Table) (parts : ShowsRowid (select_of Marks) (codes "marks"))
+    (found : Finds s (codes "marks") at t) (columns : names_of t.columns ≡ names_of marks.columns) where
+  -- no column is called like the rowid
+  no_rowid : column_named t rowid_name ≡ None
+  no_rowid = by_names rowid_name 0 t.columns ∙ ap (position_from (λ n. same_name n rowid_name) 0) columns ∙ unnamed
+
+  abbrev rowid_shows : List Output
+  rowid_shows = any_rowid_output t ∷ []
+
+  rowid_typed : program s [] (draft_of t.tree rowid_shows) ≡ Ok (record { lets = []; body = showing t.tree (project_of Marks) })
+  unfolding program
+  rowid_typed = rw (found.stored, found.by_tree) refl
+
+  pub rowid_means :
+      Means s (select_of Marks) (command.Select (record { lets = []; body = showing t.tree (project_of Marks) }) (map (λ (o : Output). o.name) rowid_shows))
+  rowid_means =
+      let core = (out-Select parts.it.sel).first in
+      let a = any_rowid_shown s (codes "marks") at t parts.a [] begun parts.a_is refl found.has no_rowid found.stored in
+      let all = result_one lower (outermost s) (level_at (codes "marks") at) core parts.a _ begun _ parts.are a in
+      means s (select_of Marks) _
+      (select_is s (select_of Marks) (codes "marks") parts.it at t rowid_shows _ _ found.named found.has all refl refl rowid_typed) refl refl
+
 -- what the part's statement means
-pub means_of : (s : Schema) (p : Part) (at tree : ℕ) → Finds s (name_of p) at (table_at p tree)
-    → (names : List Name) × Means s (select_of p) (command.Select (record { lets = []; body = showing tree (project_of p) }) names)
-means_of s Desk at tree found = (roster_names, roster_means s at tree found)
-means_of s Messages at tree found = (codes "body" ∷ [], list_means s at tree found)
-means_of s Names at tree found = (_, five_means s at tree names_parts found)
-means_of s Marks at tree found = (_, six_means s at tree (select_of Marks) (codes "marks") (1 ∷ 2 ∷ 3 ∷ 4 ∷ []) marks_parts found)
-means_of s Verdicts at tree found = (_, six_means s at tree (select_of Verdicts) (codes "verdicts") (1 ∷ 2 ∷ 3 ∷ 4 ∷ 5 ∷ []) verdicts_parts found)
-means_of s Parked at tree found = (_, four_means s at tree parked_parts found)
+pub means_of : (s : Schema) (p : Part) (it : FindsPart s p)
+    → (names : List Name) × Means s (select_of p) (command.Select (record { lets = []; body = showing it.table.tree (project_of p) }) names)
+means_of s Desk it = (roster_names, roster_means s it.at it.table.tree (subst (Finds s (codes "desk") it.at) it.is it.finds))
+means_of s Messages it = (codes "body" ∷ [], list_means s it.at it.table.tree (subst (Finds s (codes "messages") it.at) it.is it.finds))
+means_of s Names it = (_, five_means s it.at it.table.tree names_parts (subst (Finds s (codes "names") it.at) it.is it.finds))
+means_of s Marks it = (_, rowid_means s it.at it.table marks_parts it.finds it.is.1)
+means_of s Verdicts it = (
+  _,
+  six_means s it.at it.table.tree (select_of Verdicts) (codes "verdicts") (1 ∷ 2 ∷ 3 ∷ 4 ∷ 5 ∷ []) verdicts_parts
+      (subst (Finds s (codes "verdicts") it.at) it.is it.finds),
+)
+means_of s Parked it = (_, four_means s it.at it.table.tree parked_parts (subst (Finds s (codes "parked") it.at) it.is it.finds))

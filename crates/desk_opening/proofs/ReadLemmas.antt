@@ -23,10 +23,10 @@ use Rattle.sqlite.specs.Effect.{Database}
 use Rattle.desk_tables.specs.SqliteStates.{IsUp, IsAtRest, Rests}
 use Rattle.desk_schema.specs.declared.part.Part.{Part}
 use Rattle.desk_schema.specs.declared.part.Part.TheVariants.{Desk, Messages, Names, Marks, Verdicts, Parked}
-use Rattle.desk_schema.specs.Parts.{table_at}
 use Rattle.desk_schema.specs.Shapes.{FindsPart}
 use Rattle.desk_schema.proofs.ShapeLemmas.{tree_in}
-use Rattle.desk_opening.specs.private.Selecting.{ShowsPart, select_of, shown_of}
+use Rattle.desk_opening.specs.Statements.{select_of}
+use Rattle.desk_opening.specs.private.Selecting.{ShowsPart, shown_of}
 use Rattle.desk_opening.proofs.PartQueries.{means_of, project_of, showing}
 use Rattle.desk_opening.proofs.NoneReturned.{part_commits_none}
 use Rattle.desk_opening.specs.Opened.{Reads}
@@ -188,25 +188,18 @@ seen_is p (r ∷ rs) = λ i. one p i ∷ seen_is p rs i
     one Parked = refl
 
 pub part_plain : (s : State) (p : Part) → FindsPart s.now.schema p → IsPlain (understood s.now.schema (select_of p))
-part_plain s p it = (means_of s.now.schema p it.0 it.1 it.2).1.plain
-
-stored_tree : (p : Part) (tree : ℕ) → (table_at p tree).tree ≡ tree
-stored_tree Desk tree = refl
-stored_tree Messages tree = refl
-stored_tree Names tree = refl
-stored_tree Marks tree = refl
-stored_tree Verdicts tree = refl
-stored_tree Parked tree = refl
+part_plain s p it = (means_of s.now.schema p it).1.plain
 
 pub part_shown : (old new : State) (p : Part) → FindsPart old.now.schema p → (r : Result (Vec Row Global) Error)
     → IfOk r (λ rows. Shown (select_of p) [] old new rows.items) → IfOk r (λ rows. ShowsPart p old.now rows.items)
 part_shown old new p it (Ok rows) shown =
     let s = old.now.schema in
-    let means = (means_of s p it.0 it.1 it.2).1 in
+    let tree = it.table.tree in
+    let means = (means_of s p it).1 in
     let answer = (reads_as (select_of p) [] old new s refl _ means.command means.plain means.unlisted rows.items shown).answer Null in
     subst (λ t. IsPermutation (map (shown_of p) (old.now.trees t)) rows.items) (sym (tree_in s p it))
-    (subst (λ l. IsPermutation l rows.items) (seen_is p (old.now.trees it.1))
-    (shows_all old.now.trees it.1 (project_of p) (subst (λ t. nat_le (2 ^ 31) t ≡ false) (stored_tree p it.1) it.2.stored) rows.items answer))
+    (subst (λ l. IsPermutation l rows.items) (seen_is p (old.now.trees tree))
+    (shows_all old.now.trees tree (project_of p) it.finds.stored rows.items answer))
 part_shown old new p it (Err e) shown = tt
 
 -- ---- the statement of a part

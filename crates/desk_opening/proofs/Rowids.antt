@@ -1,10 +1,11 @@
 -- What a SELECT of the rowid and the columns of one table means, for any schema that finds the table.
 use Rattle.std.proofs.Common.{Bool, None, Some, slice_get, true, false, ◌≡◌, List, [], ◌∷◌, ◌++◌, ◌-◌, ◌^◌}
-use Rattle.std.proofs.Common.{suc, nat_lt, nat_le, ℕ, Ok, codes, refl, sym, ◌∙◌, true≢false, inl, inr, arith}
+use Rattle.std.proofs.Common.{option_and_then, option_map, unwrap_or, suc, nat_lt, nat_le, ℕ, Ok, codes, refl, sym, ◌∙◌, true≢false, inl, inr, arith}
 use Rattle.std.proofs.lemmas.Bool.Decides.{leb_tells}
 use Rattle.sqlite.specs.Term.{Term, col}
 use Rattle.sqlite.specs.Schema.{Schema}
 use Rattle.sqlite.specs.Table.{Table}
+use Rattle.sqlite_schema.specs.declared.schema.Column.{Column as Column'}
 use Rattle.sqlite_schema.specs.Names.{column_named, same_name}
 use Rattle.sqlite_resolve.specs.Lowering.{Checked, begin, either, finish, nothing, spend}
 use Rattle.sqlite_resolve.specs.declared.state.State.{State}
@@ -78,6 +79,27 @@ rowid_shown s table m t a done st is paid has none no_key stored =
     let found = find_rowid s table m 1 t [] [] true true has none (low_is t.tree stored) in
     shown_is lower cx (level_at table m).tables done a is.e rowid_name is.text rowid_name (col 1 0) st (after_rowid st) is.one is.expr
     (lower_rowid 699 cx is.e 1 m st is.expr paid found) (rowid_heading cx is.e is.text 1 m t is.expr found has no_key)
+
+-- the same for a table that may have a key: the rowid is headed by its name
+abbrev pub rowid_named : Table → Name
+rowid_named t = unwrap_or (option_and_then (λ k. option_map (λ (c : Column'). c.name) (slice_get t.columns k)) t.key) rowid_name
+
+any_heading : (cx : Context) (e : Expr) (text : Name) (slot m : ℕ) (t : Table) → out-Expr e ≡ Expr-F.Column None rowid_name
+    → find cx None rowid_name ≡ Ok (Rowid slot m) → slice_get cx.schema.tables m ≡ Some t → heading cx e text ≡ rowid_named t
+unfolding heading declared
+any_heading cx e text slot m t is found has = rw (is, found, has) refl
+
+abbrev pub any_rowid_output : Table → Output
+any_rowid_output t = record { name = rowid_named t; is_alias = false; is_column = true; term = col 1 0; carried = nothing }
+
+pub any_rowid_shown : (s : Schema) (table : Name) (m : ℕ) (t : Table) (a : Written) (done : List Output) (st : State) → IsColumn a rowid_name
+    → nat_lt 1 st.budget ≡ true → slice_get s.tables m ≡ Some t → column_named t rowid_name ≡ None → nat_le (2 ^ 31) t.tree ≡ false
+    → shown lower (within (outermost s) (level_at table m) true) (level_at table m).tables done a st ≡ Ok (done ++ any_rowid_output t ∷ [], after_rowid st)
+any_rowid_shown s table m t a done st is paid has none stored =
+    let cx = within (outermost s) (level_at table m) true in
+    let found = find_rowid s table m 1 t [] [] true true has none (low_is t.tree stored) in
+    shown_is lower cx (level_at table m).tables done a is.e rowid_name is.text (rowid_named t) (col 1 0) st (after_rowid st) is.one is.expr
+    (lower_rowid 699 cx is.e 1 m st is.expr paid found) (any_heading cx is.e is.text 1 m t is.expr found has)
 
 -- ---- more columns
 

@@ -1,14 +1,14 @@
 -- The rows that are read of a desk's tables are the rows of the tables.
-use Rattle.std.proofs.Common.{◌≡◌, ◌==◌, ◌≤◌, inl, inr, ℕ, suc, Bool, true, false, true≢false, not, ◌&&◌, cond, slice_get}
+use Rattle.std.proofs.Common.{◌≡◌, ◌==◌, ◌≤◌, inl, inr, ℕ, ℤ, pos, suc, Bool, true, false, true≢false, not, ◌&&◌, cond}
 use Rattle.std.proofs.Common.{List, [], ◌∷◌, length, map, Option, Some, None, codes, refl, sym, ap, subst, ◌∙◌, arith}
 use Rattle.std.specs.List.Sorted.{IsPermutation}
 use Rattle.std.proofs.lemmas.List.Sorted.{IsPermutation-sym, length_permutation}
-use Rattle.std.proofs.lemmas.Bool.Decides.{Decides-eqb}
+use Rattle.std.specs.Ordering.{int_eq}
+use Rattle.std.proofs.lemmas.Bool.Decides.{Decides-eqb, Decides-int_eq}
 use Rattle.sqlite.specs.declared.types.Value.{Value}
 use Rattle.sqlite.specs.declared.types.Value.TheVariants.{Null, Int, Real, Text, Blob}
 use Rattle.sqlite.specs.Order.{Row, column}
 use Rattle.sqlite.specs.Effect.{Database, IsDatabase}
-use Rattle.sqlite.specs.Table.{Table}
 use Rattle.sqlite.proofs.Callers.{one_permutation}
 use Rattle.sqlite_rules.specs.Lists.{Has}
 use Rattle.sqlite_rules.proofs.ListLemmas.{contains_had, has_contained}
@@ -17,10 +17,10 @@ use Rattle.std.proofs.lemmas.List.Sorted.{Contains-permutation}
 use Rattle.messages.specs.declared.message.Message.{Message}
 use Rattle.desk_tables.specs.Kept.{IsKeyed, table_in}
 use Rattle.desk_tables.specs.Rows.{AreRows, IsRow}
-use Rattle.desk_tables.specs.Stored.{Finds, is_one, is_two, recorded}
+use Rattle.desk_tables.specs.Stored.{is_one, is_two, recorded, roster_of}
 use Rattle.desk_schema.specs.declared.part.Part.{Part}
 use Rattle.desk_schema.specs.declared.part.Part.TheVariants.{Desk, Messages, Names, Marks, Verdicts, Parked}
-use Rattle.desk_schema.specs.Parts.{name_of, table_at}
+use Rattle.desk_schema.specs.Parts.{name_of}
 use Rattle.desk_schema.specs.Shapes.{FindsPart, IsUnmarked}
 use Rattle.desk_schema.proofs.ShapeLemmas.{tree_in}
 use Rattle.desk_opening.specs.Opened.{is_number, recorded_as}
@@ -47,7 +47,7 @@ module _ (db : Database) (sound : IsDatabase db) (p : Part) (reads : IsRead p)
   table = table_in db (name_of p)
 
   whole : (r : Row) → Has table r → IsWholeRow (width_of p) r
-  whole r there = whole_rows db sound p reads it.0 it.1 it.2 r (subst (λ t. Has (db.trees t) r) (tree_in db.schema p it) there)
+  whole r there = whole_rows db sound p reads it r (subst (λ t. Has (db.trees t) r) (tree_in db.schema p it) there)
 
   wide : (r : Row) (n : ℕ) → (w : IsWholeRow n r) → (length r == suc n) ≡ true
   wide r n w = (Decides-eqb (length r) (suc n)).1 (ap length w.is ∙ ap suc w.width_is)
@@ -56,7 +56,7 @@ module _ (db : Database) (sound : IsDatabase db) (p : Part) (reads : IsRead p)
   itself Desk reads r w = absurd reads
   itself Messages reads r w = absurd reads
   itself Names reads r w = sym (five r (wide r 4 w))
-  itself Marks reads r w = sym (six r (wide r 5 w))
+  itself Marks reads r w = absurd reads
   itself Verdicts reads r w = sym (six r (wide r 5 w))
   itself Parked reads r w = sym (four r (wide r 3 w))
 
@@ -151,6 +151,32 @@ recorded_two [] = refl
 recorded_two (r ∷ []) = λ i. cond (one_is (column r 0) i && two_is (column r 2) i) (Rattle.desk_tables.specs.Stored.text_at (column r 3)) None
 recorded_two (r ∷ s ∷ rs) = refl
 
+-- and schema 1 is that of an older one, whose text is then its roster's
+int_both : (n : ℤ) → int_eq n (pos 1) ≡ true → int_eq n (pos 2) ≡ false
+int_both n one = ap (λ m. int_eq m (pos 2)) ((Decides-int_eq n (pos 1)).0 one)
+
+not_two : (v : Value) → is_number 1 v ≡ true → is_two v ≡ false
+not_two Null h = refl
+not_two (Int n) h = int_both n h
+not_two (Real x) h = refl
+not_two (Text t) h = refl
+not_two (Blob b) h = refl
+
+chosen : (id schema : Bool) (text : Option (List ℕ)) (roster : List ℕ) → cond (id && schema) text None ≡ Some roster
+    → (id ≡ true) × (schema ≡ true) × (text ≡ Some roster)
+chosen true true text roster is = (refl, refl, is)
+chosen true false text roster is = absurd cc
+chosen false schema text roster is = absurd cc
+
+pub roster_before : (rows : List Row) (roster : List ℕ) → recorded_as 1 rows ≡ Some roster → roster_of rows ≡ roster
+roster_before [] roster is = absurd cc
+roster_before (r ∷ []) roster is =
+    let it = chosen (is_number 1 (column r 0)) (is_number 1 (column r 2)) (Rattle.desk_tables.specs.Stored.text_at (column r 3)) roster is in
+    let id : is_one (column r 0) ≡ true = sym (one_is (column r 0)) ∙ it.0 in
+    let old : is_one (column r 2) ≡ true = sym (one_is (column r 2)) ∙ it.1 in
+    rw (id, old, not_two (column r 2) it.1, it.2) refl
+roster_before (r ∷ s ∷ rs) roster is = absurd cc
+
 -- ---- the `marks` of an older desk
 
 no_rows : {X : Type 0} (xs : List X) → length xs ≡ 0 → xs ≡ []
@@ -168,16 +194,6 @@ not_true false h = refl
 filled : (n : ℕ) (empty : Bool) → empty ≡ (n == 0) → not empty ≡ true → 0 ≡ n → ⊥
 filled n empty is some none = true≢false (sym ((Decides-eqb n 0).1 (sym none)) ∙ sym is ∙ not_true empty some)
 
--- two finds of `marks` are of one tree
-one_place : (s : Rattle.sqlite.specs.Schema.Schema) (a b at bt : ℕ)
-    → Finds s (name_of Marks) at (table_at Marks a) → Finds s (name_of Marks) bt (table_at Marks b) → a ≡ b
-one_place s a b at bt x y =
-    let place : ◌≡◌ {A = Option ℕ} (Some at) (Some bt) = sym x.named ∙ y.named in
-    let one : at ≡ bt = cc in
-    let here : ◌≡◌ {A = Option Table} (Some (table_at Marks a)) (Some (table_at Marks b)) = sym x.has ∙ ap (slice_get s.tables) one ∙ y.has in
-    let both : table_at Marks a ≡ table_at Marks b = cc in
-    ap (λ (t : Table). t.tree) both
-
 -- whether a row is shown of them tells whether they have one
 pub tells_marks : (db : Database) (it : FindsPart db.schema Marks) (rows : List Row) → ShowsPart Marks db rows
     → (empty : Bool) → empty ≡ (length rows == 0) → (not empty ≡ false → IsUnmarked db) × (not empty ≡ true → ¬ IsUnmarked db)
@@ -194,11 +210,9 @@ tells_marks db it rows shows empty is = (unmarked, marked)
     unmarked no_mark =
         let none : length rows ≡ 0 = (Decides-eqb (length rows) 0).0 (sym is ∙ not_false empty no_mark) in
         let bare : table_in db (name_of Marks) ≡ [] = none_stored _ (table ∙ none) in
-        inr (record { at = it.0; tree = it.1; finds = it.2; empty = subst (λ t. db.trees t ≡ []) (tree_in db.schema Marks it) bare })
+        inr (record { marks = it; empty = subst (λ t. db.trees t ≡ []) (tree_in db.schema Marks it) bare })
 
     marked : not empty ≡ true → ¬ IsUnmarked db
-    marked some (inl lacks) = let e : ◌≡◌ {A = Option ℕ} (Some it.0) None = sym it.2.named ∙ lacks.table in absurd cc
-    marked some (inr bare) =
-        let same = one_place db.schema it.1 bare.tree it.0 bare.at it.2 bare.finds in
-        filled (length rows) empty is some
-        (subst (λ l. length (map (shown_of Marks) l) ≡ length rows) (ap db.trees (tree_in db.schema Marks it ∙ same) ∙ bare.empty) table)
+    marked some (inl lacks) = let e : ◌≡◌ {A = Option ℕ} (Some it.at) None = sym it.finds.named ∙ lacks.table in absurd cc
+    marked some (inr bare) = filled (length rows) empty is some
+        (subst (λ l. length (map (shown_of Marks) l) ≡ length rows) (ap db.trees (tree_in db.schema Marks bare.marks) ∙ bare.empty) table)

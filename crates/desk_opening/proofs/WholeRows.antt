@@ -17,8 +17,9 @@ use Rattle.sqlite_schema.specs.Rules.{are_present, are_typed, has_computed, pass
 use Rattle.desk_tables.proofs.AddLemmas.{all_at}
 use Rattle.desk_schema.specs.declared.part.Part.{Part}
 use Rattle.desk_schema.specs.declared.part.Part.TheVariants.{Desk, Messages, Names, Marks, Verdicts, Parked}
-use Rattle.desk_schema.specs.Parts.{columns_of, name_of, table_at}
-use Rattle.desk_tables.specs.Stored.{Finds}
+use Rattle.desk_tables.specs.DeskTables.{names_at, parked_at, verdicts_at}
+use Rattle.desk_schema.specs.Parts.{table_at}
+use Rattle.desk_schema.specs.Shapes.{FindsPart}
 
 -- a column that takes no NULL
 abbrev IsFirm : Column → Type 0
@@ -80,25 +81,25 @@ module _ (db : Database) (sound : IsDatabase db) (at : ℕ) (t : Table) (has : s
 -- ---- a desk's tables that are read with their rowids
 
 abbrev pub width_of : Part → ℕ
-width_of p = length (columns_of p)
+width_of p = length (table_at p 0).columns
 
--- the part's table has a key of its own, beside the rowid
+-- the part's rows are read with their rowids
 abbrev pub IsRead : Part → Type 0
 IsRead Desk = ⊥
 IsRead Messages = ⊥
 IsRead Names = Unit {0}
-IsRead Marks = Unit {0}
+IsRead Marks = ⊥
 IsRead Verdicts = Unit {0}
 IsRead Parked = Unit {0}
 
-pub whole_rows : (db : Database) → IsDatabase db → (p : Part) → IsRead p → (at tree : ℕ)
-    → Finds db.schema (name_of p) at (table_at p tree) → (r : Row) → Has (db.trees tree) r → IsWholeRow (width_of p) r
-whole_rows db sound Desk reads at tree found r there = absurd reads
-whole_rows db sound Messages reads at tree found r there = absurd reads
-whole_rows db sound Names reads at tree found r there =
-    whole_row db sound at (table_at Names tree) found.has refl _ _ refl (refl, (refl, (refl, (refl, tt)))) r there
-whole_rows db sound Marks reads at tree found r there =
-    whole_row db sound at (table_at Marks tree) found.has refl _ _ refl (refl, (refl, (refl, (refl, (refl, tt))))) r there
-whole_rows db sound Verdicts reads at tree found r there =
-    whole_row db sound at (table_at Verdicts tree) found.has refl _ _ refl (refl, (refl, (refl, (refl, (refl, tt))))) r there
-whole_rows db sound Parked reads at tree found r there = whole_row db sound at (table_at Parked tree) found.has refl _ _ refl (refl, (refl, (refl, tt))) r there
+pub whole_rows : (db : Database) → IsDatabase db → (p : Part) → IsRead p → (it : FindsPart db.schema p)
+    → (r : Row) → Has (db.trees it.table.tree) r → IsWholeRow (width_of p) r
+whole_rows db sound Desk reads it r there = absurd reads
+whole_rows db sound Messages reads it r there = absurd reads
+whole_rows db sound Names reads it r there = whole_row db sound it.at (names_at it.table.tree)
+    (subst (λ t. slice_get db.schema.tables it.at ≡ Some t) it.is it.finds.has) refl _ _ refl (refl, (refl, (refl, (refl, tt)))) r there
+whole_rows db sound Marks reads it r there = absurd reads
+whole_rows db sound Verdicts reads it r there = whole_row db sound it.at (verdicts_at it.table.tree)
+    (subst (λ t. slice_get db.schema.tables it.at ≡ Some t) it.is it.finds.has) refl _ _ refl (refl, (refl, (refl, (refl, (refl, tt))))) r there
+whole_rows db sound Parked reads it r there = whole_row db sound it.at (parked_at it.table.tree)
+    (subst (λ t. slice_get db.schema.tables it.at ≡ Some t) it.is it.finds.has) refl _ _ refl (refl, (refl, (refl, tt))) r there

@@ -74,7 +74,7 @@ FoundIn db Empty = IsVacant db.schema
 FoundIn db (Desk c) = IsKept db × ((content_of db).roster ≡ string_bytes c.roster)
     × Lists (HoldsText db) c.messages.items
 FoundIn db (Old c) =
-    IsOldDesk db × (recorded_as 1 (table_in db (codes "desk")) ≡ Some (string_bytes c.roster))
+    IsOldDesk db × ((content_of db).roster ≡ string_bytes c.roster)
     × Lists (HoldsText db) c.messages.items
 FoundIn db NotADesk = (¬ IsVacant db.schema) × (¬ IsDeskBesideRows db) × (¬ IsOldDesk db)
 

@@ -5,7 +5,8 @@ ghost use Rattle.sqlite.specs.State.{HasCleanDisk};
 ghost use Rattle.sqlite.specs.Held.{state};
 ghost use Rattle.desk_tables.specs.SqliteStates.{IsUp, Rests};
 ghost use Rattle.desk_schema.specs.Shapes.{FindsPart};
-ghost use Rattle.desk_opening.specs.private.Selecting.{ShowsPart, select_of};
+ghost use Rattle.desk_opening.specs.Statements.{select_of};
+ghost use Rattle.desk_opening.specs.private.Selecting.{ShowsPart};
 ghost use Rattle.desk_opening.specs.Opened.{Reads};
 
 use desk_schema::Part;
@@ -19,7 +20,7 @@ pub fn select_of(part: Part) -> &'static str
         Part::Desk => "SELECT id, schema, roster FROM desk",
         Part::Messages => "SELECT body FROM messages",
         Part::Names => "SELECT rowid, asker, no, body, disputed FROM names",
-        Part::Marks => "SELECT rowid, asker, no, person, kind, at FROM marks",
+        Part::Marks => "SELECT rowid FROM marks",
         Part::Verdicts => "SELECT rowid, asker, no, person, kind, at FROM verdicts",
         Part::Parked => "SELECT rowid, body, asker, no FROM parked",
     }

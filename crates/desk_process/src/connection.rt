@@ -5,18 +5,20 @@ use crate::log::Answered;
 use crate::socket::Stream;
 use desk::{Desk, Keeper};
 use mio::{Registry, Token};
-use relay_http::{Ask, Counted, Exchange, Outgoing, Page, ReadFault, Routes, ServeFault};
+use relay_http::{
+    Action, Counted, Exchange, ExchangeBuffer, Outgoing, ReadFault, Routes, ServeFault,
+};
 use std::alloc::Global;
 use std::io::{self, ErrorKind, Read};
 use std::mem;
 
 /// The milliseconds in which a request has to come whole.
-const TO_ASK: u64 = 10_000;
+const TO_RECEIVE: u64 = 10_000;
 
-/// The milliseconds in which a reply has to go out.
-const TO_ANSWER: u64 = 30_000;
+/// The milliseconds in which a response has to go out.
+const TO_RESPOND: u64 = 30_000;
 
-/// The milliseconds that a peer has to close, or to send more, once the reply is out.
+/// The milliseconds that a peer has to close, or to send more, once the response is out.
 const TO_CLOSE: u64 = 1_000;
 
 /// The most reads of what it sends then.
@@ -26,7 +28,7 @@ const MOST_READS: usize = 64;
 const MOST_LAST: usize = 1_024;
 
 /// The most reads of a request, each of which brings a byte: as many as may count.
-const MOST_ASKED: usize = 24_576;
+const MOST_REQUEST_READS: usize = 24_576;
 
 /// The bytes that a peer is taken to have sent when it connects, so that one that has just come is
 /// not taken for a slow one.
@@ -40,7 +42,7 @@ pub(crate) enum Next {
     IsWhole,
     /// It is over.
     Ends,
-    /// It is over before its reply was out.
+    /// It is over before its response was out.
     Fails(ServeFault),
 }
 
@@ -48,12 +50,12 @@ pub(crate) enum Next {
 #[derive(Drop)]
 enum Stage {
     /// So much of the request has come.
-    Asking(Exchange),
+    Receiving(Exchange),
     /// The request is there, whole.
-    Asked(Exchange),
-    /// So much of the reply is left to send.
-    Answering(Outgoing),
-    /// The reply is out, and what still came was read so many times.
+    Received(Exchange),
+    /// So much of the response is left to send.
+    Responding(Outgoing),
+    /// The response is out, and what still came was read so many times.
     Closing { reads: usize },
 }
 
@@ -75,15 +77,15 @@ pub(crate) struct Connection {
 fn take_request(
     stream: &Stream,
     routes: &Routes,
-    page: &mut Page,
+    buffer: &mut ExchangeBuffer,
     exchange: &mut Exchange,
 ) -> Next {
     let mut reader = Counted::new(stream);
-    for _ in 0..=MOST_ASKED {
+    for _ in 0..=MOST_REQUEST_READS {
         if exchange.is_settled() {
             return Next::IsWhole;
         }
-        match exchange.read_on(routes, &mut reader, page) {
+        match exchange.read_on(routes, &mut reader, buffer) {
             Ok(0) => return Next::IsWhole,
             Ok(_) => {}
             Err(ReadFault::Failed(ErrorKind::WouldBlock)) => return Next::Waits,
@@ -94,14 +96,14 @@ fn take_request(
     Next::IsWhole
 }
 
-/// Writes what the socket takes of the rest of a reply. It ends once all of it is out.
-fn send_rest(stream: &Stream, page: &mut Page, reply: &mut Outgoing) -> Next {
+/// Writes what the socket takes of the rest of a response. It ends once all of it is out.
+fn send_rest(stream: &Stream, buffer: &mut ExchangeBuffer, response: &mut Outgoing) -> Next {
     let mut writer = Counted::new(stream);
     for _ in 0..usize::MAX {
-        if reply.is_out() {
+        if response.is_out() {
             break;
         }
-        match reply.send(&mut writer, page) {
+        match response.send(&mut writer, buffer) {
             Ok(0) => return Next::Fails(ServeFault::WriteFailed),
             Ok(_) => {}
             Err(ErrorKind::WouldBlock) => return Next::Waits,
@@ -111,7 +113,8 @@ fn send_rest(stream: &Stream, page: &mut Page, reply: &mut Outgoing) -> Next {
     Next::Ends
 }
 
-/// Takes what the peer still sends, so that it can read the reply before the connection is closed.
+/// Takes what the peer still sends, so that it can read the response before the connection is
+/// closed.
 fn read_last(mut stream: &Stream, chunk: &mut [u8], reads: &mut usize) -> Next {
     for _ in 0..MOST_READS {
         if *reads >= MOST_READS {
@@ -132,10 +135,10 @@ impl Connection {
     pub(crate) fn new(alloc: Global, stream: Stream, now: u64) -> Connection {
         Connection {
             stream,
-            due: now.saturating_add(TO_ASK),
+            due: now.saturating_add(TO_RECEIVE),
             came: now,
             is_watched: false,
-            stage: Stage::Asking(Exchange::new(alloc)),
+            stage: Stage::Receiving(Exchange::new(alloc)),
         }
     }
 
@@ -149,52 +152,59 @@ impl Connection {
     }
 
     /// Whether its request is there, whole, and waits for its turn.
-    pub(crate) fn is_asked(&self) -> bool {
-        matches!(&self.stage, Stage::Asked(_))
+    pub(crate) fn is_received(&self) -> bool {
+        matches!(&self.stage, Stage::Received(_))
     }
 
     /// Whether its request delivers a message.
     pub(crate) fn is_delivery(&self, routes: &Routes) -> bool {
         match &self.stage {
-            Stage::Asked(exchange) => { matches!(exchange.wanted(routes).ask, Ask::Deliver { .. }) }
+            Stage::Received(exchange) => {
+                matches!(exchange.request(routes).action, Action::Deliver { .. })
+            }
             _ => false,
         }
     }
 
     /// How fast it is, where it may be let go for another: the slowest is let go first. One that
     /// was answered comes before all that ask, by the bytes a second that they sent, and these
-    /// before one whose reply is not out. None while its request waits for its turn.
+    /// before one whose response is not out. None while its request waits for its turn.
     pub(crate) fn pace(&self, now: u64) -> Option<u64> {
         match &self.stage {
             Stage::Closing { .. } => Some(0),
-            Stage::Asking(exchange) => {
+            Stage::Receiving(exchange) => {
                 let sent = HEAD_START.saturating_add(exchange.len() as u64);
                 let seconds = now.saturating_sub(self.came) / 1_000;
                 Some((sent / seconds.saturating_add(1)).saturating_add(1))
             }
-            Stage::Answering(_) => Some(u64::MAX),
-            Stage::Asked(_) => None,
+            Stage::Responding(_) => Some(u64::MAX),
+            Stage::Received(_) => None,
         }
     }
 
-    /// The fault if it is let go now: none once its reply is out.
+    /// The fault if it is let go now: none once its response is out.
     pub(crate) fn fault(&self) -> Option<ServeFault> {
         match &self.stage {
-            Stage::Asking(_) | Stage::Asked(_) => Some(ServeFault::ReadFailed),
-            Stage::Answering(_) => Some(ServeFault::WriteFailed),
+            Stage::Receiving(_) | Stage::Received(_) => Some(ServeFault::ReadFailed),
+            Stage::Responding(_) => Some(ServeFault::WriteFailed),
             Stage::Closing { .. } => None,
         }
     }
 
     /// Goes on as far as its peer lets it, up to a whole request.
-    pub(crate) fn go_on(&mut self, routes: &Routes, page: &mut Page, now: u64) -> Next {
+    pub(crate) fn go_on(&mut self, routes: &Routes, buffer: &mut ExchangeBuffer, now: u64) -> Next {
         match &mut self.stage {
-            Stage::Asking(exchange) => match take_request(&self.stream, routes, page, exchange) {
+            Stage::Receiving(exchange) => match take_request(
+                &self.stream,
+                routes,
+                buffer,
+                exchange,
+            ) {
                 Next::IsWhole => self.wait_for_turn(),
                 next => next,
             },
-            Stage::Asked(_) => Next::IsWhole,
-            Stage::Answering(reply) => match send_rest(&self.stream, page, reply) {
+            Stage::Received(_) => Next::IsWhole,
+            Stage::Responding(response) => match send_rest(&self.stream, buffer, response) {
                 Next::Ends => self.close(now),
                 next => next,
             },
@@ -207,13 +217,13 @@ impl Connection {
         self.due = u64::MAX;
         let stage = mem::replace(&mut self.stage, Stage::Closing { reads: 0 });
         self.stage = match stage {
-            Stage::Asking(exchange) => Stage::Asked(exchange),
+            Stage::Receiving(exchange) => Stage::Received(exchange),
             other => other,
         };
         Next::IsWhole
     }
 
-    /// Ends the reply.
+    /// Ends the response.
     fn close(&mut self, now: u64) -> Next {
         if self.stream.end().is_err() {
             return Next::Ends;
@@ -238,17 +248,17 @@ impl Connection {
         routes: &Routes,
         desk: &mut Desk<K>,
     ) -> Option<Answered> {
-        let Stage::Asked(exchange) = &self.stage else {
+        let Stage::Received(exchange) = &self.stage else {
             return None;
         };
-        let reply = exchange.answer(alloc, routes, desk);
-        let answered = Answered::of(reply.status, reply.refusal);
-        self.stage = Stage::Answering(reply.rest);
+        let response = exchange.answer(alloc, routes, desk);
+        let answered = Answered::of(response.status, response.refusal);
+        self.stage = Stage::Responding(response.rest);
         answered
     }
 
-    /// Begins the time in which the reply has to go out.
-    pub(crate) fn begin_reply(&mut self, now: u64) {
-        self.due = now.saturating_add(TO_ANSWER);
+    /// Begins the time in which the response has to go out.
+    pub(crate) fn begin_response(&mut self, now: u64) {
+        self.due = now.saturating_add(TO_RESPOND);
     }
 }

@@ -6,6 +6,9 @@
 //! error.
 #![tactic(auto)]
 
+mod bounded;
+mod changes;
+mod changing;
 mod connection;
 mod files;
 mod listener;
@@ -15,7 +18,10 @@ mod serving;
 mod socket;
 mod stores;
 mod streams;
+mod trouble;
 mod working;
 
+pub use bounded::Lines;
+pub use files::{MOST_POLICY, MOST_ROSTER, read_file};
 pub use streams::hold_streams;
 pub use working::work;

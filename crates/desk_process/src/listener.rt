@@ -3,6 +3,7 @@
 use crate::log::Log;
 use crate::service::{End, Service, events};
 use crate::socket::{At, listen};
+use crate::trouble::Trouble;
 use desk::{Desk, Keeper};
 use desk_commands::Address;
 use std::{fmt, io};
@@ -71,14 +72,27 @@ fn count<K: Keeper>(desk: &mut Desk<K>) -> Option<usize> {
     desk.count().ok()
 }
 
+/// The address without what says of which kind it is.
+fn text_of(addr: &Address) -> &str {
+    match addr {
+        Address::Tcp(place) => place.as_str(),
+        Address::Unix(path) => path.as_str(),
+    }
+}
+
+/// A failure at the address.
+fn failed(rt: &HostRuntime, addr: &Address, error: io::Error) -> Trouble {
+    Trouble::of_system(rt.alloc(), text_of(addr), error)
+}
+
 /// Serves the desk at the address, `HOST:PORT` with port 0 for any free one, or `unix:` and a path.
 /// It serves so many connections; without a number, until the process ends. Their exchanges are
 /// made one after the other, each once its request is there.
 ///
 /// It prints `listening` and the address, once it listens there. On the standard error it says what
 /// it serves, with the digest of the roster; a warning where the address has a port; each 503
-/// that is answered; each connection that is let go before its reply is out; and why it ended. It
-/// ends once the desk's storage is shut after a failure, since the desk would answer nothing any
+/// that is answered; each connection that is let go before its response is out; and why it ended.
+/// It ends once the desk's storage is shut after a failure, since the desk would answer nothing any
 /// more. It fails where the address cannot be listened at, where nothing can be printed, and where
 /// a connection cannot be accepted though no other is open.
 pub(crate) fn serve_at<K: Keeper>(
@@ -87,12 +101,18 @@ pub(crate) fn serve_at<K: Keeper>(
     roster: &str,
     addr: &Address,
     requests: Option<u64>,
-) -> io::Result<End> {
-    let (listener, at) = listen(rt, addr)?;
-    let mut events = events(rt)?;
-    let mut service = Service::new(rt, listener, requests.unwrap_or(u64::MAX))?;
+) -> Result<End, Trouble> {
+    let (listener, at) = listen(rt, addr).map_err(|error| failed(rt, addr, error))?;
+    let mut events = events(rt).map_err(|error| failed(rt, addr, error))?;
+    let mut service = Service::new(rt, listener, requests.unwrap_or(u64::MAX)).map_err(
+        |error| failed(rt, addr, error),
+    )?;
     let mut log = Log::new(rt);
-    println!(rt; "listening {at}")?;
+    println!(rt; "listening {at}").map_err(|error| Trouble::of_system(
+        rt.alloc(),
+        "standard output",
+        error,
+    ))?;
     if at.has_port() {
         log.say(rt, &Warning(&at));
     }
@@ -100,5 +120,5 @@ pub(crate) fn serve_at<K: Keeper>(
     log.say(rt, &Serving { roster, messages });
     let served = service.run(rt, desk, &mut log, &mut events);
     log.say(rt, &Ended(&served));
-    served
+    served.map_err(|error| failed(rt, addr, error))
 }

@@ -33,8 +33,8 @@ pub(crate) struct Log {
 pub(crate) struct Answered(Refusal);
 
 impl Answered {
-    /// What is said about a reply of this status that tells this refusal: nothing, unless it is a
-    /// 503.
+    /// What is said about a response of this status that tells this refusal: nothing, unless it is
+    /// a 503.
     pub(crate) fn of(status: StatusCode, refusal: Option<Refusal>) -> Option<Answered> {
         if status.as_u16() != StatusCode::SERVICE_UNAVAILABLE.as_u16() {
             return None;

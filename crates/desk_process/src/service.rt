@@ -6,7 +6,7 @@ use crate::socket::{Listener, Stream};
 use desk::{Desk, Keeper, Refusal};
 use mio::event::Events;
 use mio::{Poll, Token};
-use relay_http::{Page, Routes, ServeFault};
+use relay_http::{ExchangeBuffer, Routes, ServeFault};
 use std::alloc::{AllocFailed, Global};
 use std::collections::VecDeque;
 use std::io::{self, ErrorKind};
@@ -25,7 +25,7 @@ const MOST_BUSY: u64 = 20;
 /// The milliseconds between two questions of the service's own to a desk whose storage failed.
 const TO_ASK_AGAIN: u64 = 500;
 
-/// The milliseconds that replies still have to go out, once the storage is shut.
+/// The milliseconds that responses still have to go out, once the storage is shut.
 const TO_END: u64 = 500;
 
 /// The token of the listener. A connection's is its place.
@@ -34,7 +34,7 @@ const LISTENER: Token = Token(MOST_CONNECTIONS);
 /// The places of the connections whose requests are whole, each kind in the order in which they
 /// came.
 #[derive(Drop)]
-struct Asked {
+struct RequestQueues {
     deliveries: VecDeque<usize>,
     questions: VecDeque<usize>,
 }
@@ -67,11 +67,11 @@ pub(crate) struct Service {
     poll: Poll,
     listener: Listener,
     routes: Routes,
-    /// Where the bytes of a read come in and a short reply is put together, one connection's after
-    /// another's.
-    page: Page,
+    /// Where the bytes of a read come in and a short response is put together, one connection's
+    /// after another's.
+    buffer: ExchangeBuffer,
     places: Vec<Option<Connection>>,
-    asked: Asked,
+    queues: RequestQueues,
     /// How many connections are open.
     open: usize,
     /// How many are still to be accepted.
@@ -96,10 +96,10 @@ pub(crate) fn events(rt: &HostRuntime) -> io::Result<Events> {
     }
 }
 
-impl Asked {
-    /// None has asked yet.
-    fn new(alloc: Global) -> Asked {
-        Asked {
+impl RequestQueues {
+    /// No request waits yet.
+    fn new(alloc: Global) -> RequestQueues {
+        RequestQueues {
             deliveries: VecDeque::new(alloc),
             questions: VecDeque::new(alloc),
         }
@@ -134,16 +134,17 @@ impl Service {
     ) -> io::Result<Service> {
         let poll = Poll::new(rt)?;
         listener.watch(poll.registry(), LISTENER)?;
-        let (Ok(routes), Ok(page)) = (Routes::new(rt.alloc()), Page::new(rt.alloc())) else {
+        let (Ok(routes), Ok(buffer)) = (Routes::new(rt.alloc()), ExchangeBuffer::new(rt.alloc()))
+        else {
             return Err(io::Error::from(ErrorKind::OutOfMemory));
         };
         Ok(Service {
             poll,
             listener,
             routes,
-            page,
+            buffer,
             places: Vec::new(rt.alloc()),
-            asked: Asked::new(rt.alloc()),
+            queues: RequestQueues::new(rt.alloc()),
             open: 0,
             left: requests,
             more_wait: false,
@@ -174,7 +175,7 @@ impl Service {
         }
     }
 
-    /// Counts a connection that is over, and says why where its reply was not out.
+    /// Counts a connection that is over, and says why where its response was not out.
     fn end(&mut self, rt: &HostRuntime, log: &mut Log, fault: Option<ServeFault>) {
         self.open = self.open.saturating_sub(1);
         if let Some(fault) = fault {
@@ -198,7 +199,7 @@ impl Service {
             },
             Next::IsWhole => {
                 let is_delivery = connection.is_delivery(&self.routes);
-                match self.asked.push(at, is_delivery) {
+                match self.queues.push(at, is_delivery) {
                     Ok(()) => self.put(at, connection),
                     Err(_) => self.end(rt, log, Some(ServeFault::NoMemory)),
                 }
@@ -215,16 +216,17 @@ impl Service {
         let Some(mut connection) = self.take(at) else {
             return Ok(());
         };
-        if connection.is_asked() {
+        if connection.is_received() {
             self.put(at, connection);
             return Ok(());
         }
-        let next = connection.go_on(&self.routes, &mut self.page, now);
+        let next = connection.go_on(&self.routes, &mut self.buffer, now);
         self.settle(rt, log, at, connection, next);
         Ok(())
     }
 
-    /// Has the desk answer the request of the connection at a place, and begins to send the reply.
+    /// Has the desk answer the request of the connection at a place, and begins to send the
+    /// response.
     fn answer<K: Keeper>(
         &mut self,
         rt: &HostRuntime,
@@ -245,8 +247,8 @@ impl Service {
                 self.doubt(now);
             }
         }
-        connection.begin_reply(now);
-        let next = connection.go_on(&self.routes, &mut self.page, now);
+        connection.begin_response(now);
+        let next = connection.go_on(&self.routes, &mut self.buffer, now);
         self.settle(rt, log, at, connection, next);
         Ok(())
     }
@@ -297,14 +299,14 @@ impl Service {
         log: &mut Log,
     ) -> io::Result<()> {
         for _ in 0..MOST_CONNECTIONS {
-            match self.asked.deliveries.pop_front() {
+            match self.queues.deliveries.pop_front() {
                 Some(at) => self.answer(rt, desk, log, at)?,
                 None => break,
             }
         }
         let until = self.busy.saturating_add(MOST_BUSY);
         for _ in 0..MOST_AT_ONCE {
-            match self.asked.questions.pop_front() {
+            match self.queues.questions.pop_front() {
                 Some(at) => self.answer(rt, desk, log, at)?,
                 None => break,
             }
@@ -399,7 +401,7 @@ impl Service {
             if self.is_closed() {
                 return Ok(());
             }
-            if self.asked.len() >= MOST_CONNECTIONS {
+            if self.queues.len() >= MOST_CONNECTIONS {
                 break;
             }
             match self.listener.accept() {
@@ -445,7 +447,7 @@ impl Service {
     /// end where nothing is, and not at all where a request waits for its turn or more may wait to
     /// be accepted.
     fn patience(&self, rt: &HostRuntime) -> io::Result<Option<Duration>> {
-        if self.more_wait || !self.asked.is_empty() {
+        if self.more_wait || !self.queues.is_empty() {
             return Ok(Some(Duration::ZERO));
         }
         let mut first = self.storage_due();

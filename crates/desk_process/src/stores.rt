@@ -1,50 +1,119 @@
 //! Where a job's desk keeps its messages.
 
-use desk_commands::{Job, Refusal, Store, Text};
+use crate::trouble::Trouble;
+use desk_commands::{Job, Refusal, Store};
+use desk_schema::{Shape, shape_of};
 use desk_store::SqliteKeeper;
 use sqlite::{Connection, Error, ErrorCode};
 use sqlite_disk::Unknown;
 use sqlite_std_file::FileFrom;
 use sqlite_store::FileStore;
+use std::fs::OpenOptions;
 
 /// A keeper over a database in a file.
 pub(crate) type Stored = SqliteKeeper<FileStore<FileFrom<Unknown>>>;
 
-/// Where the job's desk keeps its messages, if it has one.
-fn store_of(job: &Job) -> Option<&Store> {
+/// A database in a file.
+type Database = Connection<FileStore<FileFrom<Unknown>>>;
+
+/// A job's database.
+#[derive(Drop)]
+pub(crate) struct Opened {
+    pub(crate) stored: Stored,
+    /// Whether it has nothing of a desk's yet.
+    pub(crate) is_new: bool,
+}
+
+/// The path of the database that the job's desk is kept in, if it is kept in one.
+pub(crate) fn path_of(job: &Job) -> Option<&str> {
     match job {
         Job::Check { .. } | Job::Decide { .. } | Job::Beyond { .. } => None,
         Job::Deliver { places, .. }
         | Job::Print { places, .. }
         | Job::Review { places, .. }
         | Job::Rebuild { places }
-        | Job::Serve { places, .. } => Some(&places.store),
+        | Job::Serve { places, .. } => match &places.store {
+            Store::File(path) => Some(path.as_str()),
+            Store::Memory => None,
+        },
     }
 }
 
-/// A keeper over the database of this path. Where its files open and the disk then refuses them a
-/// read or a write, as a full disk does, the refusal is that the storage failed.
-fn keeper(rt: &HostRuntime, path: &Text) -> Result<Stored, Refusal> {
-    match Connection::open_from(rt, path.as_str(), false, Unknown) {
-        Ok(conn) => Ok(SqliteKeeper::new(rt.alloc(), conn)),
-        Err((Error::SqliteFailure(ErrorCode::OutOfMemory), _)) => Err(Refusal::NoMemory),
-        Err((Error::SqliteFailure(ErrorCode::SystemIoFailure | ErrorCode::DiskFull), Some(_))) => {
-            Err(Refusal::Desk(desk::Refusal::Storage))
+/// Whether the job asks the desk what its messages come to, once it is open.
+fn asks(job: &Job) -> bool {
+    matches!(
+        job,
+        Job::Print { .. } | Job::Review { .. } | Job::Serve { .. }
+    )
+}
+
+/// Why a file is no database that can be opened. What the system says of it is told as well, where
+/// it does not let the program read and write it.
+fn refused(rt: &HostRuntime, path: &str, error: Error) -> Trouble {
+    let alloc = rt.alloc();
+    match OpenOptions::new().read(true).write(true).open(rt, path) {
+        Ok(_) => Trouble::at(alloc, Refusal::FileFailed, path, &error),
+        Err(system) => match format!(in alloc; "{error}: {system}") {
+            Ok(why) => Trouble::at(alloc, Refusal::FileFailed, path, &why),
+            Err(_) => Trouble::from(Refusal::NoMemory),
+        },
+    }
+}
+
+/// Whether a database has nothing of a desk's.
+fn is_vacant(conn: &Database) -> bool {
+    matches!(shape_of(conn.schema()), Shape::Free)
+}
+
+/// A keeper over the database of this path, for a desk that will be asked or for one that only
+/// takes messages. Where its files open and the disk then refuses them a read or a write, as a full
+/// disk does, the refusal is that the storage failed.
+fn opened_at(rt: &HostRuntime, path: &str, asks: bool) -> Result<Opened, Trouble> {
+    match Connection::open_from(rt, path, false, Unknown) {
+        Ok(conn) => {
+            let is_new = is_vacant(&conn);
+            let stored = if asks {
+                SqliteKeeper::that_gathers(rt.alloc(), conn)
+            } else {
+                SqliteKeeper::new(rt.alloc(), conn)
+            };
+            Ok(Opened { stored, is_new })
         }
-        Err(_) => Err(Refusal::FileFailed),
+        Err((Error::SqliteFailure(ErrorCode::OutOfMemory), _)) => {
+            Err(Trouble::from(Refusal::NoMemory))
+        }
+        Err((Error::SqliteFailure(ErrorCode::SystemIoFailure | ErrorCode::DiskFull), Some(_))) => {
+            Err(Trouble::from(Refusal::Desk(desk::Refusal::Storage)))
+        }
+        Err((error, _)) => Err(refused(rt, path, error)),
     }
 }
 
 /// The database that the job's desk is kept in, if it is kept in one.
-pub(crate) fn kept(rt: &HostRuntime, job: &Job) -> Result<Option<Stored>, Refusal> {
-    match store_of(job) {
-        Some(Store::File(path)) => Ok(Some(keeper(rt, path)?)),
-        Some(Store::Memory) | None => Ok(None),
+pub(crate) fn open_store(rt: &HostRuntime, job: &Job) -> Result<Option<Opened>, Trouble> {
+    match path_of(job) {
+        Some(path) => Ok(Some(opened_at(rt, path, asks(job))?)),
+        None => Ok(None),
     }
 }
 
-/// Copies what is in the database's log into its file, so that the file alone is the store. Where
-/// that fails the log keeps it.
-pub(crate) fn merge_log(stored: Stored) {
-    let _ = stored.into_connection().close();
+/// Says that a store was made.
+pub(crate) fn tell_new(rt: &HostRuntime, path: &str) {
+    let _ = eprintln!(rt; "new store: {path}");
+}
+
+/// Ends with a job's database. Where it was new, and the job made a desk of it, that is said; of a
+/// desk that was served it was said before.
+pub(crate) fn close(rt: &HostRuntime, job: &Job, opened: Opened, is_done: bool) {
+    let conn = opened.stored.into_connection();
+    match (job, path_of(job)) {
+        (Job::Serve { .. }, _) => {}
+        (_, Some(path)) if opened.is_new && !is_vacant(&conn) => tell_new(rt, path),
+        _ => {}
+    }
+    // What is in the log goes into the file, so that the file alone is the store. If that fails,
+    // the log keeps it.
+    if is_done {
+        let _ = conn.close();
+    }
 }

@@ -1,8 +1,11 @@
 //! Doing a job over the process's files, database, streams and sockets.
 
+use crate::bounded::{Lines, Watched};
+use crate::changing::tell_changes;
 use crate::files::files;
 use crate::serving::serve;
-use crate::stores::{kept, merge_log};
+use crate::stores::{Opened, close, open_store, path_of};
+use crate::trouble::{Trouble, tell_failed};
 use desk::{Keeper, MemoryKeeper};
 use desk_commands::{Job, Refusal, Status, finish, run};
 use desk_store::SqliteKeeper;
@@ -10,63 +13,88 @@ use sqlite::Alter;
 use std::io::{BufReader, BufWriter};
 
 /// Does a job other than `serve` over the process's streams and what the keeper keeps, and hands
-/// the keeper on.
+/// the keeper on. Where it is refused since a stream failed, a further line says which and why.
 fn run_on_streams<K: Keeper + Drop>(
     rt: &HostRuntime,
     job: &Job,
     files: &mut [Vec<u8>],
     keeper: K,
-) -> (Result<Status, Refusal>, K) {
+) -> (Result<Status, Trouble>, K) {
     let alloc = rt.alloc();
-    let Ok(mut input) = BufReader::new(alloc, rt.stdin()) else {
-        return (Err(Refusal::NoMemory), keeper);
+    let Ok(reader) = BufReader::new(alloc, rt.stdin()) else {
+        return (Err(Trouble::from(Refusal::NoMemory)), keeper);
     };
-    let Ok(mut out) = BufWriter::new(alloc, rt.stdout()) else {
-        return (Err(Refusal::NoMemory), keeper);
+    let Ok(mut out) = BufWriter::new(alloc, Watched::new(rt.stdout())) else {
+        return (Err(Trouble::from(Refusal::NoMemory)), keeper);
     };
+    let mut input = Lines::new(reader);
     let mut err = rt.stderr();
     let (status, keeper) = run(alloc, job, files, keeper, &mut input, &mut out, &mut err);
-    (Ok(finish(status, &mut out, &mut err)), keeper)
+    let status = finish(status, &mut out, &mut err);
+    if status == Status::Refused {
+        tell_failed(rt, "standard input", input.failed());
+        tell_failed(rt, "standard output", out.get_ref().failed());
+    }
+    (Ok(status), keeper)
 }
 
-/// Does the job over what the keeper keeps, and hands the keeper on.
+/// Does the job over what the keeper keeps, and hands the keeper on. Where it keeps nothing yet,
+/// `new` is the path of the store that is made.
 fn work_over<K: Keeper + Drop>(
     rt: &HostRuntime,
     job: &Job,
     files: &mut [Vec<u8>],
     keeper: K,
-) -> (Result<Status, Refusal>, K) {
+    new: Option<&str>,
+) -> (Result<Status, Trouble>, K) {
     match job {
-        Job::Serve { addr, requests, .. } => serve(rt, files, keeper, addr, *requests),
+        Job::Serve { addr, requests, .. } => serve(rt, files, keeper, new, addr, *requests),
         _ => run_on_streams(rt, job, files, keeper),
     }
 }
 
-/// Does the job over what the database keeps, and hands its keeper on.
+/// Does the job over what the database keeps, and hands its keeper on. What a `rebuild` changes is
+/// said before it is done.
 fn work_stored<S: Alter + Drop>(
     rt: &HostRuntime,
     job: &Job,
     files: &mut [Vec<u8>],
-    stored: SqliteKeeper<S>,
-) -> (Result<Status, Refusal>, SqliteKeeper<S>) {
-    work_over(rt, job, files, stored)
+    mut stored: SqliteKeeper<S>,
+    new: Option<&str>,
+) -> (Result<Status, Trouble>, SqliteKeeper<S>) {
+    if let (Job::Rebuild { .. }, [roster, base, ..]) = (job, &*files) {
+        let told = tell_changes(rt, roster.as_slice(), base.as_slice(), &mut stored);
+        if let Err(trouble) = told {
+            return (Err(trouble), stored);
+        }
+    }
+    work_over(rt, job, files, stored, new)
+}
+
+/// Does the job, or says why not: its files are read before its database is opened.
+fn done(rt: &HostRuntime, job: &Job) -> Result<Status, Trouble> {
+    let mut files = files(rt, job)?;
+    let Some(Opened { stored, is_new }) = open_store(rt, job)? else {
+        let memory = MemoryKeeper::new(rt.alloc());
+        return work_over(rt, job, files.as_mut_slice(), memory, None).0;
+    };
+    let new = path_of(job).filter(|_| is_new);
+    let (status, stored) = work_stored(rt, job, files.as_mut_slice(), stored, new);
+    let is_done = matches!(status, Ok(Status::Done | Status::LinesRefused));
+    close(rt, job, Opened { stored, is_new }, is_done);
+    status
 }
 
 /// Does the job. Its files are read before its database is opened; without one it has a keeper in
 /// memory, which is empty.
 ///
 /// `F1` comes before anything is printed where a file cannot be read, a database cannot be opened,
-/// or an address cannot be listened at; the other refusals are those of the job itself. When the
+/// or an address cannot be listened at, and a further line says which and why; the other refusals
+/// are those of the job itself. A store that the job made is named on the standard error. When the
 /// job ends in order, what is in the database's log goes into its file.
-pub fn work(rt: &HostRuntime, job: &Job) -> Result<Status, Refusal> {
-    let mut files = files(rt, job)?;
-    let Some(stored) = kept(rt, job)? else {
-        let memory = MemoryKeeper::new(rt.alloc());
-        return work_over(rt, job, files.as_mut_slice(), memory).0;
-    };
-    let (status, stored) = work_stored(rt, job, files.as_mut_slice(), stored);
-    if matches!(status, Ok(Status::Done | Status::LinesRefused)) {
-        merge_log(stored);
+pub fn work(rt: &HostRuntime, job: &Job) -> Status {
+    match done(rt, job) {
+        Ok(status) => status,
+        Err(trouble) => trouble.tell(rt),
     }
-    status
 }

@@ -12,11 +12,10 @@ use Rattle.desk_tables.specs.Stored.{Finds, HasDesk, is_in, tree_of}
 use Rattle.desk_schema.specs.Beside.{IsOther, KeepsBeside, StandsBeside, found_as}
 use Rattle.desk_schema.specs.declared.part.Part.{Part}
 use Rattle.desk_schema.specs.declared.part.Part.TheVariants as part
-use Rattle.desk_schema.specs.Parts.{name_of, table_at}
+use Rattle.desk_schema.specs.Parts.{name_of}
 use Rattle.desk_schema.specs.Shapes.{FindsPart, Lacks}
 use Rattle.desk_schema.proofs.Grown.{find_kept, get_kept, position_kept}
-use Rattle.desk_schema.proofs.GrowLemmas.{same_itself}
-use Rattle.desk_schema.proofs.RecognizedLemmas.{tree_is}
+use Rattle.desk_schema.proofs.RecognizedLemmas.{named_so}
 use Rattle.desk_schema.proofs.ShapeLemmas.{common_of, tree_in}
 use Rattle.desk_schema.proofs.TableLists.{found_some, has_before, not_named, same_number}
 
@@ -34,7 +33,7 @@ not_in s name at t tree it other same =
     absurd (let no : true ≡ false = sym itself ∙ is in cc)
 
 pub other_apart : (s : Schema) (p : Part) (tree : ℕ) → FindsPart s p → is_in (found_as s (name_of p)) tree ≡ false → tree ≢ tree_of s (name_of p)
-other_apart s p tree it other same = not_in s (name_of p) it.0 (table_at p it.1) tree it.2 other (same ∙ tree_in s p it ∙ sym (tree_is p it.1))
+other_apart s p tree it other same = not_in s (name_of p) it.at it.table tree it.finds other (same ∙ tree_in s p it)
 
 other_is_foreign : (s : Schema) → HasDesk s → (tree : ℕ) → IsOther s tree → IsForeign s tree
 other_is_foreign s is tree other =
@@ -68,33 +67,33 @@ module _ (s u : Schema) (more : List Table) (tables : u.tables ≡ s.tables ++ m
   -- a part that was there is found as it was
   pub found_still : (p : Part) → FindsPart s p → found_as u (name_of p) ≡ found_as s (name_of p)
   found_still p it =
-      let t = table_at p it.1 in
-      let was : found_as s (name_of p) ≡ Some t = ap (option_and_then (slice_get s.tables)) it.2.named ∙ it.2.has in
-      let named : table_named u (name_of p) ≡ Some it.0 =
+      let t = it.table in
+      let was : found_as s (name_of p) ≡ Some t = ap (option_and_then (slice_get s.tables)) it.finds.named ∙ it.finds.has in
+      let named : table_named u (name_of p) ≡ Some it.at =
       ap (position_from (λ (v : Table). same_name v.name (name_of p)) 0) tables
-      ∙ position_kept (λ (v : Table). same_name v.name (name_of p)) 0 it.0 s.tables more it.2.named in
-      let has : slice_get u.tables it.0 ≡ Some t = ap (λ ts. slice_get ts it.0) tables ∙ get_kept t s.tables more it.0 it.2.has in
+      ∙ position_kept (λ (v : Table). same_name v.name (name_of p)) 0 it.at s.tables more it.finds.named in
+      let has : slice_get u.tables it.at ≡ Some t = ap (λ ts. slice_get ts it.at) tables ∙ get_kept t s.tables more it.at it.finds.has in
       ap (option_and_then (slice_get u.tables)) named ∙ has ∙ sym was
 
   pub other_still : (p : Part) (tree : ℕ) → FindsPart s p → is_in (found_as s (name_of p)) tree ≡ false → is_in (found_as u (name_of p)) tree ≡ false
   other_still p tree it other = ap (λ o. is_in o tree) (found_still p it) ∙ other
 
   -- a part that came has a tree that no table had
-  pub new_tree : (p : Part) (t : Table) → table_named s (name_of p) ≡ None → (it : FindsPart u p) → Has s.tables t → (table_at p it.1).tree ≢ t.tree
+  pub new_tree : (p : Part) (t : Table) → table_named s (name_of p) ≡ None → (it : FindsPart u p) → Has s.tables t → it.table.tree ≢ t.tree
   new_tree p t free it there same =
-      let tree = (table_at p it.1).tree in
+      let tree = it.table.tree in
       let got = found_some (λ (v : Table). v.tree == tree) s.tables t there (ap (λ n. n == tree) (sym same) ∙ same_number tree) in
       let longer : find (λ (v : Table). v.tree == tree) u.tables ≡ Some got.0 =
       ap (find (λ (v : Table). v.tree == tree)) tables ∙ find_kept (λ (v : Table). v.tree == tree) got.0 s.tables more got.1 in
-      let two : Some got.0 ≡ Some (table_at p it.1) = sym longer ∙ it.2.by_tree in
-      let is : got.0 ≡ table_at p it.1 = cc in
+      let two : Some got.0 ≡ Some it.table = sym longer ∙ it.finds.by_tree in
+      let is : got.0 ≡ it.table = cc in
       let named = not_named (λ (v : Table). v.tree == tree) (λ (v : Table). same_name v.name (name_of p)) 0 s.tables got.0 free got.1 in
-      absurd (let no : true ≡ false = sym (same_itself p it.1) ∙ ap (λ (v : Table). same_name v.name (name_of p)) (sym is) ∙ named in cc)
+      absurd (let no : true ≡ false = sym (named_so p it.table it.is) ∙ ap (λ (v : Table). same_name v.name (name_of p)) (sym is) ∙ named in cc)
 
   pub other_new : (p : Part) (t : Table) → table_named s (name_of p) ≡ None → FindsPart u p → Has s.tables t → is_in (found_as u (name_of p)) t.tree ≡ false
   other_new p t free it there =
-      let found : found_as u (name_of p) ≡ Some (table_at p it.1) = ap (option_and_then (slice_get u.tables)) it.2.named ∙ it.2.has in
-      ap (λ o. is_in o t.tree) found ∙ other_number (table_at p it.1).tree t.tree (new_tree p t free it there)
+      let found : found_as u (name_of p) ≡ Some it.table = ap (option_and_then (slice_get u.tables)) it.finds.named ∙ it.finds.has in
+      ap (λ o. is_in o t.tree) found ∙ other_number it.table.tree t.tree (new_tree p t free it there)
 
 -- no table has the name
 pub other_none : (s : Schema) (p : Part) (tree : ℕ) → Lacks s p → is_in (found_as s (name_of p)) tree ≡ false

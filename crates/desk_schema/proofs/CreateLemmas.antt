@@ -13,7 +13,8 @@ use Rattle.desk_schema.specs.declared.part.Part.{Part}
 use Rattle.desk_schema.specs.declared.part.Part.TheVariants.{Desk, Messages, Names, Marks, Verdicts, Parked}
 use Rattle.desk_schema.specs.Parts.{marks, table_at}
 use Rattle.desk_schema.specs.Shapes.{Lacks}
-use Rattle.desk_schema.specs.private.Making.{Adds, text_of}
+use Rattle.desk_schema.specs.Founding.{Adds}
+use Rattle.desk_schema.specs.private.Making.{text_of}
 use Rattle.desk_schema.proofs.GrowLemmas.{counts_not}
 use Rattle.desk_schema.proofs.Makes.{adds}
 

@@ -5,7 +5,7 @@ use Rattle.sqlite.specs.Effect.{Database, IsDatabase}
 use Rattle.sqlite.specs.State.{State, HasCleanDisk, KeepsCommit, Shows, Survives}
 use Rattle.sqlite.proofs.StateLemmas.{survives_then}
 use Rattle.desk_tables.specs.SqliteStates.{IsUp, Rests}
-use Rattle.desk_tables.specs.private.Steps.{IsStep}
+use Rattle.desk_tables.specs.Steps.{IsStep}
 use Rattle.desk_tables.proofs.ArriveLemmas.{Ends, begun}
 use Rattle.desk_tables.proofs.TurnLemmas.{clean_before}
 

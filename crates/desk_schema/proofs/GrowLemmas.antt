@@ -15,11 +15,12 @@ use Rattle.desk_schema.specs.declared.part.Part.{Part}
 use Rattle.desk_schema.specs.declared.part.Part.TheVariants.{Desk, Messages, Names, Marks, Verdicts, Parked}
 use Rattle.desk_schema.specs.Parts.{name_of, table_at}
 use Rattle.desk_schema.specs.Shapes.{Lacks}
-use Rattle.desk_schema.specs.private.Making.{Adds, Differs, Grows, HasEmpty}
+use Rattle.desk_schema.specs.Founding.{Adds}
+use Rattle.desk_schema.specs.private.Making.{Differs, Grows, HasEmpty}
 use Rattle.desk_schema.specs.Ready.{IsOpen, is_parent}
 use Rattle.desk_schema.proofs.Grown.{below, find_kept, find_last, finds_new, finds_still, other_below, other_tree, position_none, unused_still}
 use Rattle.desk_schema.proofs.Makes.{none_lacking}
-use Rattle.desk_schema.proofs.RecognizedLemmas.{tree_is}
+use Rattle.desk_schema.proofs.RecognizedLemmas.{made_is, tree_is}
 
 -- ---- what all six tables have in common
 
@@ -169,30 +170,42 @@ module _ (part : Part) (b c : Database) (adds : Adds (table_at part 0) b c) wher
   kept_at t at name it = all_at (λ (x : Table). c.trees x.tree ≡ b.trees x.tree) b.schema.tables at t it.has adds.others
 
   has_still : (other : Part) → HasEmpty b other → HasEmpty c other
-  has_still other it = record {
-    at = it.at;
-    tree = it.tree;
-    finds = subst (λ (s : Schema). Finds s (name_of other) it.at (table_at other it.tree)) (sym adds.schema)
-        (finds_still b.schema (table_at part 0) (name_of other) it.at (table_at other it.tree) it.finds);
-    empty = subst (λ n. c.trees n ≡ b.trees n) (tree_is other it.tree) (kept_at (table_at other it.tree) it.at (name_of other) it.finds) ∙ it.empty;
-    alone = subst (λ (s : Schema). IsUnreferred s it.tree) (sym adds.schema) (unreferred_still b.schema part it.tree
-        (subst (λ n. n < next_tree b.schema) (tree_is other it.tree) (below b.schema _ (table_at other it.tree) it.finds.by_tree)) it.alone);
-  }
+  has_still other it =
+      let t = it.found.table in
+      record {
+        found = record {
+          at = it.found.at;
+          table = t;
+          finds = subst (λ (s : Schema). Finds s (name_of other) it.found.at t) (sym adds.schema)
+              (finds_still b.schema (table_at part 0) (name_of other) it.found.at t it.found.finds);
+          is = it.found.is;
+        };
+        empty = kept_at t it.found.at (name_of other) it.found.finds ∙ it.empty;
+        alone = subst (λ (s : Schema). IsUnreferred s t.tree) (sym adds.schema)
+            (unreferred_still b.schema part t.tree (below b.schema _ t it.found.finds.by_tree) it.alone);
+      }
 
   all_has : (made : List Part) → AllByRecursion (HasEmpty b) made → AllByRecursion (HasEmpty c) made
   all_has [] all = tt
   all_has (other ∷ made) all = (has_still other all.0, all_has made all.1)
 
   has_new : IsOpen b.schema part → HasEmpty c part
-  has_new free = record {
-    at = length b.schema.tables;
-    tree = next_tree b.schema;
-    finds = subst (λ (s : Schema). Finds s (name_of part) (length b.schema.tables) (table_at part (next_tree b.schema))) (sym adds.schema)
-        (subst (λ (t : Table). Finds (created b.schema (table_at part 0)) (name_of part) (length b.schema.tables) t)
-        (moved part 0 (next_tree b.schema)) (finds_new b.schema (table_at part 0) (name_of part) free.lacks.table (same_itself part 0) adds.stored));
-    empty = adds.empty;
-    alone = subst (λ (s : Schema). IsUnreferred s (next_tree b.schema)) (sym adds.schema) (unreferred_new b.schema part free.unnamed);
-  }
+  has_new free =
+      let t = table_at part (next_tree b.schema) in
+      let tree : t.tree ≡ next_tree b.schema = tree_is part (next_tree b.schema) in
+      record {
+        found = record {
+          at = length b.schema.tables;
+          table = t;
+          finds = subst (λ (s : Schema). Finds s (name_of part) (length b.schema.tables) t) (sym adds.schema)
+              (subst (λ (u : Table). Finds (created b.schema (table_at part 0)) (name_of part) (length b.schema.tables) u)
+              (moved part 0 (next_tree b.schema)) (finds_new b.schema (table_at part 0) (name_of part) free.lacks.table (same_itself part 0) adds.stored));
+          is = made_is part (next_tree b.schema);
+        };
+        empty = ap c.trees tree ∙ adds.empty;
+        alone = subst (λ n. IsUnreferred c.schema n) (sym tree)
+            (subst (λ (s : Schema). IsUnreferred s (next_tree b.schema)) (sym adds.schema) (unreferred_new b.schema part free.unnamed));
+      }
 
 keeps_prefix : (ts us : List Table) (one two three : Rattle.sqlite.specs.Tree.Trees)
     → KeepsRows ts one two → KeepsRows (ts ++ us) two three → KeepsRows ts one three

@@ -7,7 +7,7 @@ use Rattle.sqlite_schema.specs.Names.{same_name, table_named}
 use Rattle.desk_tables.specs.Stored.{Finds, IsListedAs, IsUnused, tree_of}
 use Rattle.desk_schema.specs.declared.part.Part.{Part}
 use Rattle.desk_schema.specs.declared.part.Part.TheVariants.{Desk, Messages, Names, Marks, Verdicts, Parked}
-use Rattle.desk_schema.specs.Parts.{name_of, table_at}
+use Rattle.desk_schema.specs.Parts.{name_of}
 use Rattle.desk_schema.specs.Shapes.{FindsPart, HasCommon, IsOld, IsVacant, Lacks}
 
 module _ (s u : Schema) (listed : IsListedAs s u) where
@@ -29,7 +29,7 @@ module _ (s u : Schema) (listed : IsListedAs s u) where
   }
 
   part_as : (p : Part) → FindsPart s p → FindsPart u p
-  part_as p it = (it.0, it.1, finds_as (name_of p) it.0 (table_at p it.1) it.2)
+  part_as p it = record { at = it.at; table = it.table; finds = finds_as (name_of p) it.at it.table it.finds; is = it.is }
 
   lacks_as : (p : Part) → Lacks s p → Lacks u p
   lacks_as p lacks = unused_as (name_of p) lacks

@@ -13,23 +13,24 @@ use Rattle.sqlite.specs.State.{State}
 use Rattle.sqlite_rules.specs.Lists.{Has}
 use Rattle.sqlite_schema.specs.Names.{same_name, table_named}
 use Rattle.desk_tables.specs.Kept.{IsTidy, table_in}
-use Rattle.desk_tables.specs.Stored.{Finds, IsUnreferred, content_of, has, is_in, is_stray, texts_of, tree_of}
-use Rattle.desk_tables.specs.private.Stepping.{IsBare, Marked, Marks, Says}
+use Rattle.desk_tables.specs.Stored.{IsUnreferred, content_of, has, is_in, is_stray, recorded_before, texts_of, tree_of}
+use Rattle.desk_tables.specs.Steps.{IsBare, Marked, Marks, Says}
 use Rattle.desk_tables.proofs.OneSchema.{again, unused_again}
 use Rattle.desk_tables.proofs.RefillLemmas.{no_rows}
 use Rattle.desk_tables.proofs.RosterLemmas.{same_messages, same_names, same_parked, same_verdicts}
 use Rattle.desk_tables.proofs.StepLemmas.{keyed_none, neat_none}
 use Rattle.desk_schema.specs.declared.part.Part.{Part}
 use Rattle.desk_schema.specs.declared.part.Part.TheVariants as part
-use Rattle.desk_schema.specs.Parts.{name_of, table_at}
+use Rattle.desk_schema.specs.Parts.{name_of}
 use Rattle.desk_schema.specs.Beside.{IsOther, KeepsBeside, found_as}
 use Rattle.desk_schema.specs.Shapes.{FindsPart, Lacks}
-use Rattle.desk_schema.specs.private.Making.{AddsPart, Differs, Filled, Founds, Grows, GrownWhole, GrowsWhole, HasEmpty, Makes, fresh}
+use Rattle.desk_schema.specs.Founding.{AddsPart, Founds, Makes, fresh}
+use Rattle.desk_schema.specs.private.Making.{Differs, Filled, Grows, GrownWhole, GrowsWhole, HasEmpty}
 use Rattle.desk_schema.specs.Ready.{IsReady}
 use Rattle.sqlite.specs.Change.{KeepsRows}
 use Rattle.desk_schema.proofs.BesideLemmas.{new_tree, other_new, other_none, there_still}
 use Rattle.desk_schema.proofs.GrowLemmas.{grows_more}
-use Rattle.desk_schema.proofs.RecognizedLemmas.{tree_is}
+use Rattle.desk_schema.proofs.ShapeLemmas.{found_in, tree_in}
 use Rattle.desk_schema.proofs.TableLists.{all_member, all_of, has_before}
 
 -- ---- the five tables
@@ -99,17 +100,11 @@ grown a b c d e f p q r s t = record {
 -- ---- what they are
 
 module _ (db : Database) (p : Part) (it : HasEmpty db p) where
-  pub tree_in : tree_of db.schema (name_of p) ≡ it.tree
-  tree_in = rw (it.finds.named, it.finds.has) (tree_is p it.tree)
-
-  pub found : Finds db.schema (name_of p) it.at (table_at p (tree_of db.schema (name_of p)))
-  found = subst (λ n. Finds db.schema (name_of p) it.at (table_at p n)) (sym tree_in) it.finds
-
   pub bare : table_in db (name_of p) ≡ []
-  bare = ap db.trees tree_in ∙ it.empty
+  bare = ap db.trees (tree_in db.schema p it.found) ∙ it.empty
 
   pub alone : IsUnreferred db.schema (tree_of db.schema (name_of p))
-  alone = subst (IsUnreferred db.schema) (sym tree_in) it.alone
+  alone = subst (IsUnreferred db.schema) (sym (tree_in db.schema p it.found)) it.alone
 
 pub none_in : (rows : List Row) → rows ≡ [] → (x : Row) → ¬ Has rows x
 none_in rows none x = subst (λ rs. ¬ Has rs x) (sym none) (λ there. there)
@@ -133,16 +128,16 @@ module _ (a b : Database) (g : GrowsWhole a b) where
   pub tidy : IsTidy b
   tidy = record {
     desk = record {
-      d = d.at;
-      m = m.at;
-      n = n.at;
-      v = v.at;
-      p = k.at;
-      desk = found b part.Desk d;
-      messages = found b part.Messages m;
-      names = found b part.Names n;
-      verdicts = found b part.Verdicts v;
-      parked = found b part.Parked k;
+      d = d.found.at;
+      m = m.found.at;
+      n = n.found.at;
+      v = v.found.at;
+      p = k.found.at;
+      desk = found_in b.schema part.Desk d.found d.found.is;
+      messages = found_in b.schema part.Messages m.found m.found.is;
+      names = found_in b.schema part.Names n.found n.found.is;
+      verdicts = found_in b.schema part.Verdicts v.found v.found.is;
+      parked = found_in b.schema part.Parked k.found k.found.is;
       desk_alone = alone b part.Desk d;
       names_alone = alone b part.Names n;
       verdicts_alone = alone b part.Verdicts v;
@@ -170,7 +165,7 @@ module _ (a b : Database) (g : GrowsWhole a b) where
     parked_none = same_parked b c tidy put.schema put.others ∙ bare b part.Parked k
 
     content : content_of c ≡ fresh roster
-    content = λ i. record { roster = unwrap_or (put.row i) []; texts = texts_of (nothing i) }
+    content = λ i. record { roster = unwrap_or (put.row i) (unwrap_or (recorded_before (table_in c (codes "desk"))) []); texts = texts_of (nothing i) }
 
     none_held : (text : List ℕ) → ¬ (has (content_of c) text ≡ true)
     none_held text there = let no : false ≡ true = sym (set.contains-empty (slice_cmp nat_cmp) text) ∙ sym (ap (λ x. has x text) content) ∙ there in cc
@@ -201,7 +196,7 @@ module _ (roster : List ℕ) (a b c : Database) (ready : IsReady a.schema) (g : 
   apart_from : (t : Table) → Has a.schema.tables t → t.tree ≢ desk_tree
   apart_from t there same =
       let it = d a b g in
-      new_tree a.schema b.schema g.more g.tables part.Desk t ready.vacant.0.lacks.table (it.at, it.tree, it.finds) there (sym (same ∙ tree_in b part.Desk it))
+      new_tree a.schema b.schema g.more g.tables part.Desk t ready.vacant.0.lacks.table it.found there (sym (same ∙ tree_in b.schema part.Desk it.found))
 
   pub keeps_whole : KeepsRows a.schema.tables a.trees c.trees
   keeps_whole = all_of (λ (t : Table). c.trees t.tree ≡ a.trees t.tree) a.schema.tables (λ t there. all_member (λ (u : Table). u.tree ≢ desk_tree
@@ -216,7 +211,7 @@ module _ (roster : List ℕ) (a b c : Database) (ready : IsReady a.schema) (g : 
   came : (p : Part) (t : Table) → table_named a.schema (name_of p) ≡ None → HasEmpty b p
       → Has a.schema.tables t → is_in (found_as c.schema (name_of p)) t.tree ≡ false
   came p t free it there =
-      other_new a.schema c.schema g.more grown_tables p t free (subst (λ (s : Schema). FindsPart s p) (sym put.schema) (it.at, it.tree, it.finds)) there
+      other_new a.schema c.schema g.more grown_tables p t free (subst (λ (s : Schema). FindsPart s p) (sym put.schema) it.found) there
 
   other_than : (t : Table) → Has a.schema.tables t → IsOther c.schema t.tree
   other_than t there part.Desk = came part.Desk t ready.vacant.0.lacks.table (d a b g) there

@@ -19,7 +19,7 @@ use Rattle.sqlite.proofs.Callers.{IsPlain, command_of, statement_of, runs_as}
 use Rattle.sqlite_catalog.specs.Listing.{IsTableRow, is_table_row}
 use Rattle.sqlite_trees.specs.Objects.{catalog_tree}
 use Rattle.sqlite_schema.specs.Names.{same_name, table_named}
-use Rattle.desk_schema.specs.private.Making.{Adds}
+use Rattle.desk_schema.specs.Founding.{Adds}
 use Rattle.desk_tables.proofs.Steps.{went, same_value}
 use Rattle.desk_schema.proofs.Grown.{get_kept, position_kept}
 

@@ -4,4 +4,5 @@ pub mod Ready
 pub mod References
 pub mod Migratable
 pub mod Beside
+pub mod Founding
 pub mod private

@@ -1,8 +1,8 @@
 -- The tables of a desk, each by its part.
-use Rattle.std.specs.Prelude.{[], ◌∷◌, codes, List, ℕ}
+use Rattle.std.specs.Prelude.{◌≡◌, [], ◌∷◌, codes, map, List, ℕ}
 use Rattle.sqlite.specs.Table.{Table}
 use Rattle.sqlite_schema.specs.declared.schema.Column.{Column}
-use Rattle.desk_tables.specs.DeskTables.{desk, messages, names, verdicts, parked, keyed}
+use Rattle.desk_tables.specs.DeskTables.{desk, verdicts, keyed}
 use Rattle.desk_tables.specs.DeskTables.{desk_at, messages_at, names_at, verdicts_at, parked_at}
 use Rattle.desk_schema.specs.declared.part.Part.{Part}
 use Rattle.desk_schema.specs.declared.part.Part.TheVariants.{Desk, Messages, Names}
@@ -29,24 +29,7 @@ name_of Marks = codes "marks"
 name_of Verdicts = codes "verdicts"
 name_of Parked = codes "parked"
 
-abbrev pub columns_of : Part → List Column
-columns_of Desk = desk.columns
-columns_of Messages = messages.columns
-columns_of Names = names.columns
-columns_of Marks = marks.columns
-columns_of Verdicts = verdicts.columns
-columns_of Parked = parked.columns
-
--- the places of the columns of its key
-abbrev pub key_of : Part → List ℕ
-key_of Desk = desk.primary
-key_of Messages = messages.primary
-key_of Names = names.primary
-key_of Marks = marks.primary
-key_of Verdicts = verdicts.primary
-key_of Parked = parked.primary
-
--- the table of the part, with its rows in this tree of the file
+-- the table of the part as a desk makes it, with its rows in this tree of the file
 abbrev pub table_at : Part → ℕ → Table
 table_at Desk = desk_at
 table_at Messages = messages_at
@@ -54,3 +37,18 @@ table_at Names = names_at
 table_at Marks = marks_at
 table_at Verdicts = verdicts_at
 table_at Parked = parked_at
+
+-- the names of these columns, in their order
+abbrev pub names_of : List Column → List (List ℕ)
+names_of columns = map (λ (column : Column). column.name) columns
+
+-- The table is the part's, whatever its tree. Each must be as a desk makes it, except `marks`: no
+-- row of `marks` is ever read, so its columns count by their names alone, and not by their types,
+-- and neither do its keys.
+abbrev pub IsPart : Part → Table → Type 0
+IsPart Desk t = t ≡ desk_at t.tree
+IsPart Messages t = t ≡ messages_at t.tree
+IsPart Names t = t ≡ names_at t.tree
+IsPart Marks t = (t.name ≡ marks.name) × (names_of t.columns ≡ names_of marks.columns)
+IsPart Verdicts t = t ≡ verdicts_at t.tree
+IsPart Parked t = t ≡ parked_at t.tree

@@ -1,6 +1,7 @@
 -- What a schema has of a desk's tables.
 use Rattle.std.specs.Prelude.{◌≡◌, ◌⊎◌, ℕ, []}
 use Rattle.sqlite.specs.Schema.{Schema}
+use Rattle.sqlite.specs.Table.{Table}
 use Rattle.sqlite.specs.Effect.{Database}
 use Rattle.desk_tables.specs.Stored.{Finds, IsUnused}
 use Rattle.desk_schema.specs.declared.part.Part.{Part}
@@ -8,11 +9,14 @@ use Rattle.desk_schema.specs.declared.part.Part.TheVariants.{Desk, Messages, Nam
 use Rattle.desk_schema.specs.declared.part.Part.TheVariants.{Marks, Verdicts, Parked}
 use Rattle.desk_schema.specs.declared.shape.Shape.{Shape}
 use Rattle.desk_schema.specs.declared.shape.Shape.TheVariants as shape
-use Rattle.desk_schema.specs.Parts.{name_of, table_at}
+use Rattle.desk_schema.specs.Parts.{name_of, IsPart}
 
 -- the schema finds the table of this part, by its name and by its tree
-abbrev pub FindsPart : Schema → Part → Type 0
-FindsPart s part = (at : ℕ) × (tree : ℕ) × Finds s (name_of part) at (table_at part tree)
+pub record FindsPart (s : Schema) (part : Part) : Type 0 where
+  pub at : ℕ
+  pub table : Table
+  pub finds : Finds s (name_of part) at table
+  pub is : IsPart part table
 
 -- no table, view or index has the part's name
 abbrev pub Lacks : Schema → Part → Type 0
@@ -62,10 +66,8 @@ IsShape s shape.Other = (¬ IsVacant s) × (¬ IsCurrent s) × (¬ IsMigrated s)
 
 -- an older desk's `marks` is there, and has no row
 pub record HasEmptyMarks (db : Database) : Type 0 where
-  pub at : ℕ
-  pub tree : ℕ
-  pub finds : Finds db.schema (name_of Marks) at (table_at Marks tree)
-  pub empty : db.trees tree ≡ []
+  pub marks : FindsPart db.schema Marks
+  pub empty : db.trees marks.table.tree ≡ []
 
 -- `marks` is missing, or has no row
 abbrev pub IsUnmarked : Database → Type 0

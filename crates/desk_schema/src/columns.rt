@@ -3,9 +3,8 @@
 ghost use Rattle.std.specs.Prelude.{◌≡◌, ◌↔◌, IsTrue, true, codes};
 ghost use Rattle.sqlite_schema.specs.declared.schema.Kind.TheVariants as kind_of;
 ghost use Rattle.desk_tables.specs.DeskTables.{column_of, desk, messages, names, verdicts, parked};
-ghost use Rattle.desk_schema.specs.Parts.{columns_of};
+ghost use Rattle.desk_schema.specs.Parts.{marks, names_of};
 
-use crate::part::Part;
 use sqlite_schema::schema::{Column, Kind};
 use sqlite_value::keys::Collation;
 use sqlite_value::value::Value;
@@ -41,7 +40,7 @@ fn are_name(asker: &Column, no: &Column) -> bool
     is_text(asker, b"asker") && is_number(no, b"no")
 }
 
-fn are_of_desk(columns: &[Column]) -> bool
+pub(crate) fn are_of_desk(columns: &[Column]) -> bool
     ensures { IsTrue result ↔ (columns.now ≡ desk.columns) }
 {
     match columns {
@@ -54,7 +53,7 @@ fn are_of_desk(columns: &[Column]) -> bool
     }
 }
 
-fn are_of_messages(columns: &[Column]) -> bool
+pub(crate) fn are_of_messages(columns: &[Column]) -> bool
     ensures { IsTrue result ↔ (columns.now ≡ messages.columns) }
 {
     match columns {
@@ -63,7 +62,7 @@ fn are_of_messages(columns: &[Column]) -> bool
     }
 }
 
-fn are_of_names(columns: &[Column]) -> bool
+pub(crate) fn are_of_names(columns: &[Column]) -> bool
     ensures { IsTrue result ↔ (columns.now ≡ names.columns) }
 {
     match columns {
@@ -74,8 +73,7 @@ fn are_of_names(columns: &[Column]) -> bool
     }
 }
 
-/// Whether these are the columns of `marks` and of `verdicts`, which differ in their keys.
-fn are_of_verdicts(columns: &[Column]) -> bool
+pub(crate) fn are_of_verdicts(columns: &[Column]) -> bool
     ensures { IsTrue result ↔ (columns.now ≡ verdicts.columns) }
 {
     match columns {
@@ -89,7 +87,7 @@ fn are_of_verdicts(columns: &[Column]) -> bool
     }
 }
 
-fn are_of_parked(columns: &[Column]) -> bool
+pub(crate) fn are_of_parked(columns: &[Column]) -> bool
     ensures { IsTrue result ↔ (columns.now ≡ parked.columns) }
 {
     match columns {
@@ -98,16 +96,24 @@ fn are_of_parked(columns: &[Column]) -> bool
     }
 }
 
-/// Whether these are the columns of the table.
-pub(crate) fn are_columns(columns: &[Column], part: Part) -> bool
-    ensures { IsTrue result ↔ (columns.now ≡ columns_of part) }
+fn is_named(column: &Column, name: &[u8]) -> bool
+    ensures { IsTrue result ↔ (column.now.name ≡ name.now) }
 {
-    match part {
-        Part::Desk => are_of_desk(columns),
-        Part::Messages => are_of_messages(columns),
-        Part::Names => are_of_names(columns),
-        Part::Marks => are_of_verdicts(columns),
-        Part::Verdicts => are_of_verdicts(columns),
-        Part::Parked => are_of_parked(columns),
+    column.name.as_slice() == name
+}
+
+/// Whether the columns are named as those of `marks`, whose types do not count.
+pub(crate) fn are_named_as_marks(columns: &[Column]) -> bool
+    ensures { IsTrue result ↔ (names_of columns.now ≡ names_of marks.columns) }
+{
+    match columns {
+        [asker, no, person, kind, at] => {
+            is_named(asker, b"asker")
+                && is_named(no, b"no")
+                && is_named(person, b"person")
+                && is_named(kind, b"kind")
+                && is_named(at, b"at")
+        }
+        _ => false,
     }
 }

@@ -4,12 +4,14 @@ ghost use Rattle.std.specs.Prelude.{◌≡◌, false, OnOk, OnErr};
 ghost use Rattle.sqlite.specs.State.{HasCleanDisk, Survives};
 ghost use Rattle.sqlite.specs.Held.{state};
 ghost use Rattle.desk_tables.specs.SqliteStates.{IsUp, Rests};
-ghost use Rattle.desk_tables.specs.private.Stepping.{InStep};
-ghost use Rattle.desk_tables.specs.private.Steps.{IsStep};
+ghost use Rattle.desk_tables.specs.Steps.{InStep};
+ghost use Rattle.desk_tables.specs.Steps.{IsStep};
 ghost use Rattle.desk_schema.specs.Beside.{KeepsBeside};
 ghost use Rattle.desk_schema.specs.Ready.{IsReady};
-ghost use Rattle.desk_schema.specs.private.Making.{AddsPart, Filled, Founds};
-ghost use Rattle.desk_schema.specs.private.Making.{FoundsAt, GrownWhole, text_of};
+ghost use Rattle.desk_schema.specs.Founding.{AddsPart, Founds};
+ghost use Rattle.desk_schema.specs.private.Making.{Filled};
+ghost use Rattle.desk_schema.specs.Founding.{FoundsAt};
+ghost use Rattle.desk_schema.specs.private.Making.{GrownWhole, text_of};
 
 use crate::part::Part;
 use desk_tables::put_roster;

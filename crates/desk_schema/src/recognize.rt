@@ -1,20 +1,22 @@
 //! What a schema has: a desk's tables, an older desk's, none of their names, or something else.
 
-ghost use Rattle.std.specs.Prelude.{◌≡◌, ◌↔◌, ◌==◌, IsTrue, option_copied, find};
+ghost use Rattle.std.specs.Prelude.{◌≡◌, ◌↔◌, ◌==◌, IsTrue};
+ghost use Rattle.std.specs.List.{position_from};
 ghost use Rattle.desk_schema.specs.Shapes.{FindsPart, HasCommon, IsShape, IsVacant, Lacks};
 
 use crate::part::{Part, name_of};
 use crate::shape::Shape;
-use crate::tables::is_table;
+use crate::tables::is_part;
 use sqlite_schema::schema::{Schema, Table};
 
 /// No table of a file has a tree from this number on.
 const PAST_STORED: u32 = 2_147_483_648;
 
-fn first_at(tables: &[Table], tree: u32) -> Option<&Table>
-    ensures { option_copied result ≡ find (λ t. t.tree == tree) tables.now }
+/// The place of the first table with this tree.
+fn first_at(tables: &[Table], tree: u32) -> Option<usize>
+    ensures { result ≡ position_from (λ t. t.tree == tree) 0 tables.now }
 {
-    tables.iter().find(|t| t.tree == tree)
+    tables.iter().position(|t| t.tree == tree)
 }
 
 /// Whether the schema finds the table by its name, and by its tree.
@@ -29,11 +31,11 @@ fn has(schema: &Schema, part: Part) -> bool
     let Some(table) = tables.get(at) else {
         return false;
     };
-    if !is_table(table, part) || table.tree >= PAST_STORED {
+    if !is_part(table, part) || table.tree >= PAST_STORED {
         return false;
     }
     match first_at(tables, table.tree) {
-        Some(first) => is_table(first, part) && first.tree == table.tree,
+        Some(first) => first == at,
         None => false,
     }
 }

@@ -2,11 +2,13 @@
 
 ghost use Rattle.std.specs.Prelude.{◌≡◌, ◌↔◌, IsTrue, [], ◌∷◌};
 ghost use Rattle.desk_tables.specs.DeskTables.{keyed};
-ghost use Rattle.desk_schema.specs.Parts.{framed, key_of, table_at};
+ghost use Rattle.desk_schema.specs.Parts.{framed, IsPart};
 ghost use Rattle.desk_schema.specs.private.Bare.{IsBare};
 
-use crate::columns::are_columns;
-use crate::part::{Part, name_of};
+use crate::columns::{
+    are_named_as_marks, are_of_desk, are_of_messages, are_of_names, are_of_parked, are_of_verdicts,
+};
+use crate::part::Part;
 use sqlite_items::Items;
 use sqlite_schema::schema::Table;
 use sqlite_value::keys::Order;
@@ -74,32 +76,25 @@ fn is_by_rowid(table: &Table, name: &[u8]) -> bool
         && is_bare(table)
 }
 
-/// The places of the columns that are a table's key.
-fn key_of(part: Part) -> &'static [usize]
-    ensures { result.now ≡ key_of part }
+fn has_name(table: &Table, name: &[u8]) -> bool
+    ensures { IsTrue result ↔ (table.now.name ≡ name.now) }
 {
-    match part {
-        Part::Desk => &[0],
-        Part::Messages | Part::Parked => &[1],
-        Part::Names => &[1, 2],
-        Part::Marks => &[1, 2, 3, 4],
-        Part::Verdicts => &[1, 2, 3, 4, 5],
-    }
-}
-
-fn has_frame(table: &Table, part: Part) -> bool
-    ensures { IsTrue result
-        ↔ (table.now ≡ record (table_at part table.now.tree) { columns = table.now.columns }) }
-{
-    match part {
-        Part::Desk => is_by_rowid(table, name_of(part)),
-        _ => is_keyed(table, name_of(part), key_of(part)),
-    }
+    table.name.as_slice() == name
 }
 
 /// Whether the table is a desk's table of this part, in any tree.
-pub(crate) fn is_table(table: &Table, part: Part) -> bool
-    ensures { IsTrue result ↔ (table.now ≡ table_at part table.now.tree) }
+pub(crate) fn is_part(table: &Table, part: Part) -> bool
+    ensures { IsTrue result ↔ IsPart part table.now }
 {
-    has_frame(table, part) && are_columns(table.columns.as_slice(), part)
+    let columns = table.columns.as_slice();
+    match part {
+        Part::Desk => is_by_rowid(table, b"desk") && are_of_desk(columns),
+        Part::Messages => is_keyed(table, b"messages", &[1]) && are_of_messages(columns),
+        Part::Names => is_keyed(table, b"names", &[1, 2]) && are_of_names(columns),
+        Part::Marks => has_name(table, b"marks") && are_named_as_marks(columns),
+        Part::Verdicts => {
+            is_keyed(table, b"verdicts", &[1, 2, 3, 4, 5]) && are_of_verdicts(columns)
+        }
+        Part::Parked => is_keyed(table, b"parked", &[1]) && are_of_parked(columns),
+    }
 }

@@ -12,10 +12,10 @@ use Rattle.desk_tables.specs.Kept.{HoldsText}
 use Rattle.desk_tables.specs.Sets.{IsNothing, SameSet, With}
 use Rattle.desk_tables.specs.SqliteStates.{IsUp}
 use Rattle.desk_tables.specs.Stored.{Content, content_of, with_text}
-use Rattle.desk_tables.specs.private.Survival.{Arrives, ArrivesAt}
+use Rattle.desk_tables.specs.Committed.{Arrives, ArrivesAt}
 use Rattle.desk_tables.proofs.TurnLemmas.{with_one}
 use Rattle.desk_schema.specs.Shapes.{IsVacant}
-use Rattle.desk_schema.specs.private.Making.{FoundsAt, Makes, fresh}
+use Rattle.desk_schema.specs.Founding.{FoundsAt, Makes, fresh}
 use Rattle.desk_schema.proofs.MarksLemmas.{unmarked_spared}
 use Rattle.desk_opening.specs.Opened.{IsKept, IsOldDesk}
 use Rattle.desk_store.specs.Left.{Left, Nothing, ADesk, AnOldDesk, NoDesk, HoldsIn, IsAsKept, IsDeskOf}
@@ -71,10 +71,11 @@ module _ (db : Database) where
   found_desk (AnOldDesk c) is desk = absurd (kept_not_old db desk is.0)
   found_desk NoDesk none desk = absurd (none.1 desk)
 
-  found_old : (left : Left) → IsFound db left → IsOldDesk db → IsOldDeskOf (HoldsText db) left
+  found_old : (left : Left) → IsFound db left → IsOldDesk db → IsOldDeskOf (content_of db).roster (HoldsText db) left
   found_old Nothing vacant old = absurd (old_not_vacant db old vacant)
   found_old (ADesk c) is old = absurd (kept_not_old db is.0 old)
-  found_old (AnOldDesk c) is old = subst (λ (x : Content). SameSet (HoldsText db) (HoldsIn x)) (sym is.1) (λ m. (λ h. h, λ h. h))
+  found_old (AnOldDesk c) is old =
+      (ap (λ (x : Content). x.roster) is.1, subst (λ (x : Content). SameSet (HoldsText db) (HoldsIn x)) (sym is.1) (λ m. (λ h. h, λ h. h)))
   found_old NoDesk none old = absurd (none.2 old)
 
   found_nothing : (left : Left) → IsFound db left → IsVacant db.schema → left ≡ Nothing
@@ -97,6 +98,7 @@ module _ (db : Database) where
     is.0,
     old_not_vacant db is.0,
     λ kept. kept_not_old db kept is.0,
+    ap (λ (x : Content). x.roster) (sym is.1),
     subst (λ (x : Content). SameSet (HoldsText db) (HoldsIn x)) (sym is.1) (λ m. (λ h. h, λ h. h)),
   )
   found_as NoDesk is = is
@@ -114,7 +116,8 @@ module _ (a db : Database) (left : Left) (found : IsFound db left) where
         empty = λ vacant. found_nothing db left found (same.empty vacant);
         desk = λ is. same_left (content_of a).roster (content_of db).roster (HoldsText a) (HoldsText db) left
             (ap (λ (c : Content). c.roster) same.content) set' (found_desk db left found (same.desk is));
-        old = λ is. same_old_left (HoldsText a) (HoldsText db) left set' (found_old db left found (same.old is));
+        old = λ is. same_old_left (content_of a).roster (content_of db).roster (HoldsText a) (HoldsText db) left
+            (ap (λ (c : Content). c.roster) same.content) set' (found_old db left found (same.old is));
       }
 
   -- if it has one more message

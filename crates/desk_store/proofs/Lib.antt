@@ -16,3 +16,5 @@ pub mod SetListed
 -- another roster's text
 pub mod EachOnce
 pub mod ReplacingLemmas
+pub mod Listed
+pub mod SomeDesk

@@ -11,7 +11,7 @@ use Rattle.desk_tables.specs.DeskTables.{verdicts_at}
 use Rattle.desk_tables.specs.Kept.{IsDeskDatabase, Spares}
 use Rattle.desk_tables.specs.SqliteStates.{IsUp, Rests}
 use Rattle.desk_tables.specs.Stored.{content_of, with_roster}
-use Rattle.desk_tables.specs.private.Survival.{ChangesAt}
+use Rattle.desk_tables.specs.Committed.{ChangesAt}
 use Rattle.desk_schema.specs.Beside.{IsOther, KeepsBeside}
 use Rattle.desk_schema.specs.declared.part.Part.TheVariants as part
 use Rattle.desk_schema.proofs.BesideLemmas.{other_apart, other_new, other_still, spared_beside, there_still}

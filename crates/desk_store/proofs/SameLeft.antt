@@ -10,8 +10,8 @@ same_left r s S T (ADesk c) roster set is = (is.0 ∙ roster, λ m. (λ h. (is.1
 same_left r s S T (AnOldDesk c) roster set is = is
 same_left r s S T NoDesk roster set is = is
 
-pub same_old_left : (S T : Message → Type 0) (left : Left) → SameSet S T → IsOldDeskOf T left → IsOldDeskOf S left
-same_old_left S T Nothing set is = is
-same_old_left S T (ADesk c) set is = is
-same_old_left S T (AnOldDesk c) set is = λ m. (λ h. (is m).0 ((set m).0 h), λ h. (set m).1 ((is m).1 h))
-same_old_left S T NoDesk set is = is
+pub same_old_left : (r s : List ℕ) (S T : Message → Type 0) (left : Left) → s ≡ r → SameSet S T → IsOldDeskOf s T left → IsOldDeskOf r S left
+same_old_left r s S T Nothing roster set is = is
+same_old_left r s S T (ADesk c) roster set is = is
+same_old_left r s S T (AnOldDesk c) roster set is = (is.0 ∙ roster, λ m. (λ h. (is.1 m).0 ((set m).0 h), λ h. (set m).1 ((is.1 m).1 h)))
+same_old_left r s S T NoDesk roster set is = is

@@ -1,7 +1,11 @@
 -- A database keeps no part of a desk, a desk, or one of an older form: no two of these, and a look tells which.
-use Rattle.std.proofs.Common.{◌≡◌, ◌∙◌, codes, sym, subst}
+use Rattle.std.proofs.Common.{◌∙◌, List, Option, Some, None, ap, codes, sym, subst}
+use Rattle.std.specs.Prelude.{IfSome, string_bytes}
 use Rattle.sqlite.specs.Effect.{Database}
-use Rattle.desk_tables.specs.Kept.{table_in}
+use Rattle.messages.specs.declared.message.Message.{Message}
+use Rattle.outcomes.specs.Gathered.{AreGathered, Known}
+use Rattle.desk_tables.specs.Kept.{HoldsText, table_in}
+use Rattle.desk_tables.specs.Sets.{Lists}
 use Rattle.desk_tables.specs.Stored.{content_of}
 use Rattle.desk_schema.specs.Shapes.{IsVacant}
 use Rattle.desk_schema.proofs.ShapeLemmas.{common_of}
@@ -12,18 +16,15 @@ use Rattle.desk_opening.specs.Opened.{IsSomeDesk as IsFoundDesk}
 use Rattle.desk_opening.proofs.OpenedLemmas.{not_old, not_vacant}
 use Rattle.desk_opening.proofs.Shown.{recorded_two}
 use Rattle.desk_store.specs.declared.found.Found.{Found}
-use Rattle.desk_store.specs.Keeping.{IsSomeDesk, Tells}
-use Rattle.desk_store.specs.private.Showing.{shown}
+use Rattle.desk_store.specs.Keeping.{IsKnownOf, IsSomeDesk, Tells, TellsKnown}
+use Rattle.desk_store.specs.private.Showing.{IsShown}
 
 -- a look that answers that there is a desk was answered so by the database
-pub live_of : {Up : Type 0} (f : InDatabase) (g : Found) → g ≡ shown f → (IsFoundDesk f → Up) → IsSomeDesk g → Up
-live_of {Up} f g is live some = go f (subst IsSomeDesk is some) live
-  where
-    go : (f : InDatabase) → IsSomeDesk (shown f) → (IsFoundDesk f → Up) → Up
-    go database.Empty none live = absurd none
-    go (database.Desk c) some live = live tt
-    go (database.Old c) some live = live tt
-    go database.NotADesk none live = absurd none
+pub live_of : {Up : Type 0} (f : InDatabase) (g : Found) → IsShown f g → (IsFoundDesk f → Up) → IsSomeDesk g → Up
+live_of database.Empty g is live some = absurd (subst IsSomeDesk is some)
+live_of (database.Desk c) g is live some = live tt
+live_of (database.Old c) g is live some = live tt
+live_of database.NotADesk g is live some = absurd (subst IsSomeDesk is some)
 
 module _ (db : Database) where
   pub kept_not_vacant : IsKept db → ¬ IsVacant db.schema
@@ -52,11 +53,26 @@ module _ (db : Database) where
   abbrev TellsOf : Found → Type 0
   TellsOf it = Tells (IsVacant db.schema) (IsKept db) (IsOldDesk db) (content_of db).roster it
 
-  pub tells : (f : InDatabase) → FoundIn db f → TellsOf (shown f)
-  tells database.Empty is = (is, λ kept. kept_not_vacant kept is, λ old. old_not_vacant old is)
-  tells (database.Desk c) is = (is.0, kept_not_vacant is.0, kept_not_old is.0, sym is.1)
-  tells (database.Old c) is = (is.0, old_not_vacant is.0, λ kept. kept_not_old kept is.0)
-  tells database.NotADesk is = (is.0, λ kept. is.1 (kept_beside kept), is.2)
+  pub told : (f : InDatabase) (g : Found) → IsShown f g → FoundIn db f → TellsOf g
+  told database.Empty g is found = subst TellsOf (sym is) (found, λ kept. kept_not_vacant kept found, λ old. old_not_vacant old found)
+  told (database.Desk c) g is found = subst TellsOf (sym is.1) (
+    found.0,
+    kept_not_vacant found.0,
+    kept_not_old found.0,
+    ap string_bytes is.2.roster ∙ sym found.1,
+  )
+  told (database.Old c) g is found = subst TellsOf (sym is) (found.0, old_not_vacant found.0, λ kept. kept_not_old kept found.0)
+  told database.NotADesk g is found = subst TellsOf (sym is) (found.0, λ kept. found.1 (kept_beside kept), found.2)
 
-  pub told : (f : InDatabase) (g : Found) → g ≡ shown f → FoundIn db f → TellsOf g
-  told f g is found = subst TellsOf (sym is) (tells f found)
+  -- what is known of the messages in the order in which they were found is known of the desk's
+  known_as : (known : Option Known) (messages : List Message) → Lists (HoldsText db) messages
+      → IfSome known (AreGathered messages) → IfSome known (IsKnownOf (HoldsText db))
+  known_as None messages lists is = tt
+  known_as (Some known) messages lists is = (messages, lists, is)
+
+  pub told_known : (f : InDatabase) (g : Found) → IsShown f g → FoundIn db f → TellsKnown (HoldsText db) g
+  told_known database.Empty g is found = subst (TellsKnown (HoldsText db)) (sym is) tt
+  told_known (database.Desk c) g is found =
+      subst (TellsKnown (HoldsText db)) (sym is.1) (known_as is.0.known c.messages.items found.2 is.2.known)
+  told_known (database.Old c) g is found = subst (TellsKnown (HoldsText db)) (sym is) tt
+  told_known database.NotADesk g is found = subst (TellsKnown (HoldsText db)) (sym is) tt

@@ -1,5 +1,6 @@
 -- What a look at a keeper tells, what it knows of its messages, and what a count of failures says.
 use Rattle.std.specs.Prelude.{◌≡◌, ◌⊎◌, ⊤, ℕ, ◌<◌, ◌≤◌, ◌+◌, ◌-◌, ◌^◌, List, min, string_bytes}
+use Rattle.std.specs.Prelude.{IfSome}
 use Rattle.messages.specs.declared.message.Message.{Message}
 use Rattle.desk_tables.specs.Sets.{Lists}
 use Rattle.outcomes.specs.Gathered.{AreGathered, Known}
@@ -9,21 +10,28 @@ use Rattle.desk_store.specs.declared.found.Found.TheVariants as found
 -- a look tells exactly one of the four, and a desk's roster text
 abbrev pub Tells : (Empty Desk Old : Type 0) → (roster : List ℕ) → Found → Type 0
 Tells Empty Desk Old roster found.Empty = Empty × (¬ Desk) × (¬ Old)
-Tells Empty Desk Old roster (found.Desk text) =
-    Desk × (¬ Empty) × (¬ Old) × (string_bytes text ≡ roster)
+Tells Empty Desk Old roster (found.Desk desk) =
+    Desk × (¬ Empty) × (¬ Old) × (string_bytes desk.roster ≡ roster)
 Tells Empty Desk Old roster found.OldDesk = Old × (¬ Empty) × (¬ Desk)
 Tells Empty Desk Old roster found.NotADesk = (¬ Empty) × (¬ Desk) × (¬ Old)
 
 -- a desk, of today's form or of an older one
 abbrev pub IsSomeDesk : Found → Type 0
 IsSomeDesk found.Empty = ⊥
-IsSomeDesk (found.Desk text) = ⊤
+IsSomeDesk (found.Desk desk) = ⊤
 IsSomeDesk found.OldDesk = ⊤
 IsSomeDesk found.NotADesk = ⊥
 
 -- What is known of the set's messages, in whatever order they are listed.
 abbrev pub IsKnownOf : (Message → Type 0) → Known → Type 0
 IsKnownOf S known = (list : List Message) × Lists S list × AreGathered list known
+
+-- what a look tells of a desk's messages, if it tells anything of them, is known of these
+abbrev pub TellsKnown : (Message → Type 0) → Found → Type 0
+TellsKnown S found.Empty = ⊤
+TellsKnown S (found.Desk desk) = IfSome desk.known (IsKnownOf S)
+TellsKnown S found.OldDesk = ⊤
+TellsKnown S found.NotADesk = ⊤
 
 -- the count of failures rose, or stands at the greatest number of 64 bits
 abbrev pub HasFailed : (before after : ℕ) → Type 0

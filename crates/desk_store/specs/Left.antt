@@ -24,12 +24,12 @@ IsDeskOf roster S (ADesk c) = (c.roster ≡ roster) × SameSet S (HoldsIn c)
 IsDeskOf roster S (AnOldDesk c) = ⊥
 IsDeskOf roster S NoDesk = ⊥
 
--- a desk of an older form, with exactly these messages
-abbrev pub IsOldDeskOf : (messages : Message → Type 0) → Left → Type 0
-IsOldDeskOf S Nothing = ⊥
-IsOldDeskOf S (ADesk c) = ⊥
-IsOldDeskOf S (AnOldDesk c) = SameSet S (HoldsIn c)
-IsOldDeskOf S NoDesk = ⊥
+-- a desk of an older form, with this roster text and exactly these messages
+abbrev pub IsOldDeskOf : (roster : List ℕ) → (messages : Message → Type 0) → Left → Type 0
+IsOldDeskOf roster S Nothing = ⊥
+IsOldDeskOf roster S (ADesk c) = ⊥
+IsOldDeskOf roster S (AnOldDesk c) = (c.roster ≡ roster) × SameSet S (HoldsIn c)
+IsOldDeskOf roster S NoDesk = ⊥
 
 -- What is left is what was kept: no part of a desk, the whole desk, or the whole desk of an older
 -- form.
@@ -37,7 +37,7 @@ pub record IsAsKept (Empty Desk Old : Type 0) (roster : List ℕ)
     (S : Message → Type 0) (left : Left) : Type 0 where
   pub empty : Empty → left ≡ Nothing
   pub desk : Desk → IsDeskOf roster S left
-  pub old : Old → IsOldDeskOf S left
+  pub old : Old → IsOldDeskOf roster S left
 
 -- no part of a desk, or a whole desk with this roster text and no message
 abbrev pub IsNothingOrFresh : (roster : List ℕ) → Left → Type 0
@@ -53,7 +53,7 @@ IsWithOrWithout roster S m left = IsDeskOf roster S left ⊎ IsDeskOf roster (Wi
 pub record IsReplacedOrNot (Desk Old : Type 0) (recorded text : List ℕ)
     (S : Message → Type 0) (left : Left) : Type 0 where
   pub desk : Desk → IsDeskOf recorded S left ⊎ IsDeskOf text S left
-  pub old : Old → IsOldDeskOf S left ⊎ IsDeskOf text S left
+  pub old : Old → IsOldDeskOf recorded S left ⊎ IsDeskOf text S left
 
 -- What a keeper keeps is what was left: no part of a desk, the whole desk, one of an older form, or
 -- something that is not a desk.
@@ -62,7 +62,8 @@ abbrev pub IsFoundAs : (Empty Desk Old : Type 0) → (roster : List ℕ)
 IsFoundAs Empty Desk Old roster S Nothing = Empty × (¬ Desk) × (¬ Old)
 IsFoundAs Empty Desk Old roster S (ADesk c) =
     Desk × (¬ Empty) × (¬ Old) × (roster ≡ c.roster) × SameSet S (HoldsIn c)
-IsFoundAs Empty Desk Old roster S (AnOldDesk c) = Old × (¬ Empty) × (¬ Desk) × SameSet S (HoldsIn c)
+IsFoundAs Empty Desk Old roster S (AnOldDesk c) =
+    Old × (¬ Empty) × (¬ Desk) × (roster ≡ c.roster) × SameSet S (HoldsIn c)
 IsFoundAs Empty Desk Old roster S NoDesk = (¬ Empty) × (¬ Desk) × (¬ Old)
 
 -- a keeper that was up committed the whole desk, with this roster text and exactly these messages

@@ -22,6 +22,7 @@ stays_desk a b same some =
     subst P (sym same) some
 
 pub stays_old : (a b : MemoryContent) → b ≡ a → ⊥ → ⊥ × SameSet (Holds a) (Holds b)
+    × (unwrap_or b.roster [] ≡ unwrap_or a.roster [])
 stays_old a b same none = absurd none
 
 pub stays_roster : (a b : MemoryContent) → b ≡ a → IsSome a.roster

@@ -152,4 +152,8 @@ impl<K: Keeper> Keeper for FailingKeeper<K> {
     fn lasts(&self) {
         self.kept.lasts();
     }
+
+    fn shows(&self) {
+        self.kept.shows();
+    }
 }

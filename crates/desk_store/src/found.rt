@@ -1,14 +1,25 @@
 //! What a keeper is found to keep.
 
+use outcomes::Gathered;
+
 /// What a keeper keeps.
-#[derive(Debug, Drop)]
+#[derive(Drop)]
 pub enum Found {
     /// No part of a desk.
     Empty,
-    /// A desk, with this text as its roster's.
-    Desk(String),
+    /// A desk.
+    Desk(FoundDesk),
     /// A desk of an older form, which is to be rebuilt.
     OldDesk,
     /// Something under a desk's names that is not a desk.
     NotADesk,
+}
+
+/// A desk that a keeper keeps.
+#[derive(Drop)]
+pub struct FoundDesk {
+    /// The text of its roster.
+    pub roster: String,
+    /// What is known of its messages, if the look has made that of them.
+    pub known: Option<Gathered>,
 }

@@ -6,13 +6,28 @@ ghost use Rattle.sqlite.specs.Held.{state};
 ghost use Rattle.desk_tables.specs.Kept.{HoldsText};
 ghost use Rattle.desk_tables.specs.SqliteStates.{IsUp, Rests};
 ghost use Rattle.desk_opening.specs.Opened.{IsKept, Reads};
+ghost use Rattle.outcomes.specs.Gathered.{AreGathered};
 ghost use Rattle.desk_store.specs.Keeping.{IsKnownOf};
 
-use desk_opening::shown_of;
+use desk_opening::{Stored, shown_of};
 use desk_tables::Fault;
 use outcomes::Gathered;
 use sqlite::{Alter, Connection};
 use std::alloc::Global;
+use sudo_words::NoMemory;
+
+/// What is known of these messages, each of which is freed once it is taken in.
+pub(crate) fn known_of(alloc: Global, messages: Vec<Stored>) -> Result<Gathered, NoMemory>
+    ensures { IfOk result (AreGathered messages.items) }
+{
+    let mut gathered = Gathered::new(alloc);
+    for stored in messages {
+        let taken = gathered.take(stored.message());
+        drop(stored);
+        taken?;
+    }
+    Ok(gathered)
+}
 
 /// What is known of the messages of the desk that the database keeps, by the rows that follow from
 /// them. The database stays as it is.

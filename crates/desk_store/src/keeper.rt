@@ -5,7 +5,7 @@ ghost use Rattle.messages.specs.Wire.{IsMessage, wire};
 ghost use Rattle.messages.specs.declared.message.Message.{Message as AnyMessage};
 ghost use Rattle.desk_schema.specs.Beside.{TableWithRows};
 ghost use Rattle.desk_tables.specs.Sets.{IsNothing, SameSet, IsWith, Lists, With};
-ghost use Rattle.desk_store.specs.Keeping.{IsKnownOf, IsSomeDesk, Tells};
+ghost use Rattle.desk_store.specs.Keeping.{IsKnownOf, IsSomeDesk, Tells, TellsKnown};
 ghost use Rattle.desk_store.specs.Left.{Left, AddsOnly, IsAsKept, IsCommitted, IsDeskOf};
 ghost use Rattle.desk_store.specs.Left.{IsNothingOrFresh, IsReplacedOrNot, IsWithOrWithout};
 ghost use Rattle.desk_store.specs.Left.{LeavesOnly};
@@ -44,7 +44,7 @@ pub trait Keeper {
     /// It keeps a desk of an older form, which is to be rebuilt.
     ghost is_old: { Self → Type 0 };
 
-    /// The text of the desk's roster.
+    /// The text of the desk's roster, also of a desk of an older form.
     ghost roster: { Self → List ℕ };
 
     /// The message is one of the desk's.
@@ -68,10 +68,13 @@ pub trait Keeper {
     /// A crash at this moment may leave this, for the next opening.
     ghost may_leave: { Self → Left → Type 0 };
 
-    /// Tells what it keeps. That stays as it is.
+    /// Tells what it keeps, and, as it sees fit, what is known of a desk's messages. What is kept
+    /// stays as it is.
     fn look(&mut self) -> Result<Found, KeeperError>
         ensures found { is_up self.new → IfOk result
             (Tells (is_empty self.old) (is_desk self.old) (is_old self.old) (roster self.old)) }
+        // Where a look tells what is known of the messages, it is what `gather` gives.
+        ensures known { is_up self.new → IfOk result (TellsKnown (holds self.old)) }
         ensures same { is_up self.new → is_same self.old self.new }
         ensures served { IsServed is_up is_clean failures beside self.old self.new
             (result ≡ Err KeeperError.Storage) (IsErr result) }
@@ -190,6 +193,15 @@ pub trait Keeper {
         ensures { is_up self.now → LeavesOnly (may_leave self.now) (IsAsKept (is_empty self.now)
             (is_desk self.now) (is_old self.now) (roster self.now) (holds self.now)) };
 
+    /// While the keeper is up, a crash may leave something, and the messages of a desk are those of
+    /// some list. So the clauses about all that may be left, and about each list of what is held,
+    /// are about something. The function does nothing: it is called for this contract.
+    fn shows(&self)
+        ensures left { is_up self.now → is_empty self.now ⊎ (is_desk self.now ⊎ is_old self.now)
+            → (left : Left) × may_leave self.now left }
+        ensures listed { is_up self.now → is_desk self.now ⊎ is_old self.now
+            → (list : List AnyMessage) × Lists (holds self.now) list };
+
     /// Each message that is held is valid (`IsMessage`).
     ghost holds_messages: { (k : Self) → (m : AnyMessage) → holds k m → IsMessage m };
 
@@ -210,9 +222,9 @@ pub trait Keeper {
     ghost stays_desk: { (a b : Self) → is_same a b → is_desk a → is_desk b };
 
     /// A keeper that keeps the same as one with a desk of an older form keeps such a desk, with the
-    /// same messages.
+    /// same messages and the same text of its roster.
     ghost stays_old: { (a b : Self) → is_same a b → is_old a
-        → is_old b × SameSet (holds a) (holds b) };
+        → is_old b × SameSet (holds a) (holds b) × (roster b ≡ roster a) };
 
     ghost stays_roster: { (a b : Self) → is_same a b → is_desk a → roster b ≡ roster a };
 

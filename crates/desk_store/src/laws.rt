@@ -1,5 +1,7 @@
-//! A law about what a crash leaves, as the contract of a function that does nothing.
+//! Laws about what a crash leaves and what a database keeps, each the contract of a function that
+//! does nothing.
 
+ghost use Rattle.std.specs.Prelude.{◌≡◌, ℕ, List, IsUtf8};
 ghost use Rattle.sqlite.specs.Effect.{Database};
 ghost use Rattle.desk_tables.specs.Kept.{HoldsText};
 ghost use Rattle.desk_tables.specs.Stored.{content_of};
@@ -13,4 +15,11 @@ ghost use Rattle.desk_store.specs.Left.{IsFoundAs, Left as AnyLeft};
 pub fn found_is_kept()
     ensures { (db : Database) (left : AnyLeft) → IsFound db left → IsFoundAs (IsVacant db.schema)
         (IsKept db) (IsOldDesk db) (content_of db).roster (HoldsText db) left }
+{}
+
+/// There is a database of a desk, of each roster's text: what is said of databases that keep a desk
+/// is said of something.
+pub fn some_desk()
+    ensures { (roster : List ℕ) → IsUtf8 roster
+        → (db : Database) × IsKept db × ((content_of db).roster ≡ roster) }
 {}

@@ -16,7 +16,7 @@ mod sqlite_keeper;
 
 pub use error::KeeperError;
 pub use failing_keeper::FailingKeeper;
-pub use found::Found;
+pub use found::{Found, FoundDesk};
 pub use keeper::Keeper;
 pub use memory::MemoryKeeper;
 pub use sqlite_keeper::SqliteKeeper;

@@ -11,7 +11,7 @@ ghost use Rattle.desk_store.specs.Memory as memory;
 
 use crate::collected::Collected;
 use crate::error::KeeperError;
-use crate::found::Found;
+use crate::found::{Found, FoundDesk};
 use crate::keeper::Keeper;
 use messages::Message;
 use outcomes::Gathered;
@@ -104,7 +104,10 @@ impl Keeper for MemoryKeeper {
             return Ok(Found::Empty);
         };
         let copy = String::from_str(self.alloc, text.as_str())?;
-        Ok(Found::Desk(copy))
+        Ok(Found::Desk(FoundDesk {
+            roster: copy,
+            known: None,
+        }))
     }
 
     fn make(&mut self, text: &str) -> Result<(), KeeperError> {
@@ -148,4 +151,8 @@ impl Keeper for MemoryKeeper {
     }
 
     fn lasts(&self) {}
+
+    fn shows(&self) {
+        let _messages = self.messages.as_slice();
+    }
 }

@@ -1,7 +1,8 @@
 //! What a crash leaves of a connection at rest.
 
 ghost use Rattle.sqlite.specs.Held.{state};
-ghost use Rattle.desk_tables.specs.SqliteStates.{Rests};
+ghost use Rattle.desk_tables.specs.SqliteStates.{IsUp, Rests};
+ghost use Rattle.desk_store.specs.Crash.{MayShow};
 ghost use Rattle.desk_store.specs.private.Survival.{Settled};
 
 use sqlite::{Alter, Connection};
@@ -11,6 +12,16 @@ use sqlite::{Alter, Connection};
 pub(crate) fn settles<S: Alter>(conn: &Connection<S>)
     requires { Rests (state S.Store conn.now) }
     ensures { Settled (state S.Store conn.now) }
+{
+    let _schema = conn.schema();
+}
+
+/// While the store is up, a crash may leave what the connection shows. The function is called for
+/// this contract alone.
+pub(crate) fn may_show<S: Alter>(conn: &Connection<S>)
+    requires { Rests (state S.Store conn.now) }
+    ensures { IsUp (state S.Store conn.now)
+        → MayShow (state S.Store conn.now) (state S.Store conn.now).now }
 {
     let _schema = conn.schema();
 }

@@ -1,6 +1,6 @@
 //! A keeper over a database.
 
-ghost use Rattle.std.specs.Prelude.{◌≡◌, ◌↔◌, false};
+ghost use Rattle.std.specs.Prelude.{◌≡◌, ◌↔◌, false, IfSome};
 ghost use Rattle.sqlite.specs.State.{HasCleanDisk};
 ghost use Rattle.sqlite.specs.Held.{state};
 ghost use Rattle.desk_tables.specs.Kept.{HoldsText};
@@ -10,18 +10,19 @@ ghost use Rattle.desk_tables.specs.Stored.{content_of};
 ghost use Rattle.desk_schema.specs.Beside.{StandsBeside};
 ghost use Rattle.desk_schema.specs.Shapes.{IsVacant};
 ghost use Rattle.desk_opening.specs.Opened.{IsKept, IsOldDesk};
+ghost use Rattle.outcomes.specs.Gathered.{AreGathered};
 ghost use Rattle.desk_store.specs.Crash.{MayLeave};
 ghost use Rattle.desk_store.specs.private.Props.{Rests-prop};
-ghost use Rattle.desk_store.specs.private.Showing.{shown};
+ghost use Rattle.desk_store.specs.private.Showing.{IsShown};
 ghost use Rattle.desk_store.specs.private.SqliteLaws as laws;
 
 use crate::error::KeeperError;
 use crate::failing::{storage, told};
-use crate::found::Found;
-use crate::gathering::gather_in;
+use crate::found::{Found, FoundDesk};
+use crate::gathering::{gather_in, known_of};
 use crate::keeper::Keeper;
 use crate::replacing::replace_in;
-use crate::settled::settles;
+use crate::settled::{may_show, settles};
 use desk_opening::{Contents, Found as InDatabase, look, messages_of};
 use desk_schema::{is_ready, make};
 use desk_tables::{Fault, arrive};
@@ -35,10 +36,14 @@ use std::alloc::Global;
 ///
 /// It counts a failure for each call that is refused, for whatever reason: also for a look at a
 /// desk whose rows are not those that follow from its messages, and for want of memory.
+///
+/// A look reads all messages in any case. One of a keeper that is made by `that_gathers` tells what
+/// is known of them too: who asks the desk next need not read them again.
 pub struct SqliteKeeper<S: Alter> {
     alloc: Global,
     conn: Connection<S>,
     failed: u64,
+    gathers: bool,
     ghost rests: { Rests (state S.Store conn) } by { Rests-prop (state S.Store conn) },
 }
 
@@ -55,6 +60,22 @@ impl<S: Alter> SqliteKeeper<S> {
             alloc,
             conn,
             failed: 0,
+            gathers: false,
+        }
+    }
+
+    /// The same, for a desk that will be asked: a look tells what is known of its messages.
+    pub fn that_gathers(alloc: Global, conn: Connection<S>) -> SqliteKeeper<S>
+        requires { IsUp (state S.Store conn) → conn.in_transaction ≡ false }
+        ensures same { result.conn ≡ conn }
+        ensures none { result.failed ≡ 0 }
+    {
+        let _committed = conn.is_autocommit();
+        SqliteKeeper {
+            alloc,
+            conn,
+            failed: 0,
+            gathers: true,
         }
     }
 
@@ -67,6 +88,7 @@ impl<S: Alter> SqliteKeeper<S> {
             alloc: _,
             conn,
             failed: _,
+            gathers: _,
         } = self;
         conn
     }
@@ -104,21 +126,34 @@ impl<S: Alter + Drop> Drop for SqliteKeeper<S> {
             alloc: _,
             conn: _,
             failed: _,
+            gathers: _,
         } = self;
     }
 }
 
-/// What the keeper tells of what was found. The messages are dropped.
-fn shown(found: InDatabase) -> Found
-    ensures { result ≡ shown found }
+/// What the keeper tells of a desk that was found. Where memory lacks, nothing is told of its
+/// messages, and what is known of them is gathered when it is asked for.
+fn shown_desk(alloc: Global, gathers: bool, contents: Contents) -> FoundDesk
+    ensures roster { result.roster ≡ contents.roster }
+    ensures known { IfSome result.known (AreGathered contents.messages.items) }
+{
+    let Contents { roster, messages } = contents;
+    let known = if gathers {
+        known_of(alloc, messages).ok()
+    } else {
+        drop(messages);
+        None
+    };
+    FoundDesk { roster, known }
+}
+
+/// What the keeper tells of what was found.
+fn shown(alloc: Global, gathers: bool, found: InDatabase) -> Found
+    ensures { IsShown found result }
 {
     match found {
         InDatabase::Empty => Found::Empty,
-        InDatabase::Desk(contents) => {
-            let Contents { roster, messages } = contents;
-            drop(messages);
-            Found::Desk(roster)
-        }
+        InDatabase::Desk(contents) => Found::Desk(shown_desk(alloc, gathers, contents)),
         InDatabase::Old(contents) => {
             drop(contents);
             Found::OldDesk
@@ -175,7 +210,7 @@ impl<S: Alter> Keeper for SqliteKeeper<S> {
     fn look(&mut self) -> Result<Found, KeeperError> {
         settles(&self.conn);
         match look(self.alloc, &mut self.conn) {
-            Ok(found) => Ok(shown(found)),
+            Ok(found) => Ok(shown(self.alloc, self.gathers, found)),
             Err(fault) => Err(told(&mut self.failed, fault)),
         }
     }
@@ -240,5 +275,9 @@ impl<S: Alter> Keeper for SqliteKeeper<S> {
 
     fn lasts(&self) {
         settles(&self.conn);
+    }
+
+    fn shows(&self) {
+        may_show(&self.conn);
     }
 }

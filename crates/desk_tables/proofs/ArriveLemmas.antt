@@ -6,8 +6,8 @@ use Rattle.sqlite.proofs.StateLemmas.{survives_then}
 use Rattle.desk_tables.specs.Stored.{IsListedAs, content_of, has, with_text}
 use Rattle.desk_tables.specs.Kept.{IsDeskDatabase, Spares}
 use Rattle.desk_tables.specs.SqliteStates.{IsUp, Rests}
-use Rattle.desk_tables.specs.private.Steps.{IsStep}
-use Rattle.desk_tables.specs.private.Survival.{ArrivesAt}
+use Rattle.desk_tables.specs.Steps.{IsStep}
+use Rattle.desk_tables.specs.Committed.{ArrivesAt}
 use Rattle.desk_tables.specs.private.Turning.{Received, Receives}
 use Rattle.desk_tables.proofs.OneSchema.{again, listed_again}
 use Rattle.desk_tables.proofs.TurnLemmas.{clean_before}

@@ -13,14 +13,15 @@ use Rattle.messages.specs.Wire.{wire, IsMessage}
 use Rattle.messages.specs.declared.message.Message.{Message}
 use Rattle.messages.proofs.Uniqueness.{one_message}
 use Rattle.desk_tables.specs.Kept.{HasRows, Holds}
-use Rattle.desk_tables.specs.private.Steps.{IsStep}
+use Rattle.desk_tables.specs.Steps.{IsStep}
 use Rattle.std.specs.Ordering.{nat_cmp}
 use Rattle.std.specs.Cmp.Lexicographic.{slice_cmp}
 use Rattle.sqlite.specs.declared.types.Value.{Value}
 use Rattle.desk_tables.specs.Rows.{IsRow}
 use Rattle.desk_tables.specs.private.Changes.{IsEmptied}
 use Rattle.desk_tables.specs.private.Stepping.{Wrote}
-use Rattle.desk_tables.specs.private.Turning.{Refilled, Refills, Renewed, Rowwise, Settled, Settles, Stays, Turned, Turns, texts_in}
+use Rattle.desk_tables.specs.Steps.{Refilled, Refills, texts_in}
+use Rattle.desk_tables.specs.private.Turning.{Renewed, Rowwise, Settled, Settles, Stays, Turned, Turns}
 use Rattle.desk_tables.proofs.RowSets.{rows_of_nothing}
 use Rattle.desk_tables.proofs.AddLemmas.{is_same, same_sets}
 use Rattle.desk_tables.proofs.TextSets.{same_text}

@@ -1,6 +1,6 @@
 -- What a desk is after its roster's text was replaced, and how that transaction ends.
 use Rattle.std.proofs.Common.{◌≡◌, inl, inr, ℕ, List, [], ◌∷◌, map, codes, true, false, IsTrue, refl, sym, ap, subst, ◌∙◌, arith}
-use Rattle.std.specs.Prelude.{IsUtf8}
+use Rattle.std.specs.Prelude.{IsUtf8, unwrap_or}
 use Rattle.std.specs.List.{list_any}
 use Rattle.std.specs.FinSet as set
 use Rattle.sqlite.specs.Tree.{Trees}
@@ -12,12 +12,13 @@ use Rattle.sqlite_rules.proofs.ListLemmas.{contains_had, has_contained}
 use Rattle.messages.specs.Wire.{wire}
 use Rattle.messages.specs.declared.message.Message.{Message}
 use Rattle.desk_tables.specs.Sets.{Lists, SameSet}
-use Rattle.desk_tables.specs.Stored.{IsListedAs, Texts, content_of, is_stray, recorded, texts_of, with_roster}
+use Rattle.desk_tables.specs.Stored.{IsListedAs, Texts, content_of, is_stray, recorded, recorded_before, texts_of, with_roster}
 use Rattle.desk_tables.specs.Kept.{HasRows, Holds, HoldsText, IsDeskDatabase, Spares, table_in}
 use Rattle.desk_tables.specs.SqliteStates.{IsUp, Rests}
-use Rattle.desk_tables.specs.private.Steps.{IsStep}
-use Rattle.desk_tables.specs.private.Survival.{ChangesAt}
-use Rattle.desk_tables.specs.private.Turning.{Recorded, Records, Renewed, Renews, Replaced, Replaces, texts_in}
+use Rattle.desk_tables.specs.Steps.{IsStep}
+use Rattle.desk_tables.specs.Committed.{ChangesAt}
+use Rattle.desk_tables.specs.Steps.{texts_in}
+use Rattle.desk_tables.specs.private.Turning.{Recorded, Records, Renewed, Renews, Replaced, Replaces}
 use Rattle.desk_tables.proofs.ArriveLemmas.{Ends, begun}
 use Rattle.desk_tables.proofs.OneSchema.{again, listed_again}
 use Rattle.desk_tables.proofs.RefillLemmas.{found_among, in_texts}
@@ -54,7 +55,7 @@ replaces roster ms a b c utf8 is lists one two = record {
     rows = subst (λ t. HasRows t c) (sym texts) (rows_same (Holds (texts_in ms)) (Holds (content_of a).texts)
         (same_messages (content_of a).texts ms lists) (rows_at c (codes "names")) (rows_at c (codes "verdicts")) (rows_at c (codes "parked")) two.rows);
   };
-  content = λ i. record { roster = Rattle.std.specs.Prelude.unwrap_or (marked i) []; texts = texts i };
+  content = λ i. record { roster = unwrap_or (marked i) (unwrap_or (recorded_before (table_in c (codes "desk"))) []); texts = texts i };
   spares = spares_then a b c one.spares two.spares;
 }
   where

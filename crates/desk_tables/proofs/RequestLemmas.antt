@@ -18,7 +18,7 @@ use Rattle.desk_tables.specs.Stored.{Texts}
 use Rattle.desk_tables.specs.Kept.{HasRows, Holds, IsTidy}
 use Rattle.desk_tables.specs.private.Changes.{Gains, Joins, Loses, Names, Tells}
 use Rattle.desk_tables.specs.private.Stepping.{Finds, FindsParked, ShowsParked, Wrote, name_values}
-use Rattle.desk_tables.specs.private.Steps.{IsStep}
+use Rattle.desk_tables.specs.Steps.{IsStep}
 use Rattle.desk_tables.specs.private.Turning.{JoinedParked, JoinsAll, JoinsOne, JoinsParked, Renames}
 use Rattle.desk_tables.specs.private.Turning.{Rowwise, Settled, Settles, ShowsVerdict, Stays, Turned, Turns}
 use Rattle.desk_tables.proofs.RowSets.{asked, rows_same}

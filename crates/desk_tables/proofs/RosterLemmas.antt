@@ -23,7 +23,7 @@ use Rattle.sqlite_schema.specs.declared.schema.Keys.TheVariants.{Enforced}
 use Rattle.desk_tables.specs.DeskTables.{desk_at}
 use Rattle.desk_tables.specs.Stored.{HasDesk, is_one, recorded, tree_of}
 use Rattle.desk_tables.specs.Kept.{IsKeyed, IsNeat, IsTidy, table_in}
-use Rattle.desk_tables.specs.private.Stepping.{IsBare, KeepsBut, Marked, Marks, Says}
+use Rattle.desk_tables.specs.Steps.{IsBare, KeepsBut, Marked, Marks, Says}
 use Rattle.desk_tables.specs.private.Turning.{Recorded}
 use Rattle.desk_tables.proofs.AddLemmas.{cast_null}
 use Rattle.desk_tables.proofs.Inserts.{roster_put, roster_terms, roster_text}

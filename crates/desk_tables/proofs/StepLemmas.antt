@@ -21,7 +21,8 @@ use Rattle.desk_tables.specs.Rows.{RowSet, IsRow, OfName}
 use Rattle.desk_tables.specs.Stored.{Finds, HasDesk, is_stray, texts_of, tree_of}
 use Rattle.desk_tables.specs.Kept.{IsKeyed, IsNeat, IsNoReal, IsTidy, table_in}
 use Rattle.desk_tables.specs.private.Changes.{IsEmptied, Gains, Loses, Tells}
-use Rattle.desk_tables.specs.private.Stepping.{AddsText, Alters, KeepsBut, ShowsParked}
+use Rattle.desk_tables.specs.Steps.{KeepsBut}
+use Rattle.desk_tables.specs.private.Stepping.{AddsText, Alters, ShowsParked}
 use Rattle.desk_tables.proofs.AddLemmas.{all_at, text_more, typed_still}
 use Rattle.desk_tables.proofs.Inserts.{name_insert, name_put, name_terms, parked_insert, parked_put, parked_terms}
 use Rattle.desk_tables.proofs.Inserts.{text_insert, text_put, text_terms, verdict_insert, verdict_put, verdict_terms}

@@ -27,8 +27,9 @@ use Rattle.desk_tables.specs.Rows.{AreRows, RowSet, IsRow, parked_row, verdict_r
 use Rattle.desk_tables.specs.Stored.{Finds as Places, HasDesk, Texts, tree_of}
 use Rattle.desk_tables.specs.Kept.{HasRows, Holds, IsForeign, IsTidy, Spares, table_in}
 use Rattle.desk_tables.specs.private.Changes.{Gains, Tells}
-use Rattle.desk_tables.specs.private.Stepping.{Alters, Finds, KeepsBut, Wrote, parked_values, verdict_values}
-use Rattle.desk_tables.specs.private.Steps.{IsStep}
+use Rattle.desk_tables.specs.Steps.{KeepsBut}
+use Rattle.desk_tables.specs.private.Stepping.{Alters, Finds, Wrote, parked_values, verdict_values}
+use Rattle.desk_tables.specs.Steps.{IsStep}
 use Rattle.desk_tables.specs.private.Turning.{Rowwise, Settled, Settles, Stays, Turned, Turns}
 use Rattle.desk_tables.proofs.AddLemmas.{is_same}
 use Rattle.desk_tables.proofs.RowSets.{counted, parks, rows_same}

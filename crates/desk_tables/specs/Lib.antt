@@ -4,4 +4,6 @@ pub mod DeskTables
 pub mod Stored
 pub mod Kept
 pub mod SqliteStates
+pub mod Committed
+pub mod Steps
 pub mod private

@@ -126,15 +126,23 @@ text_at (Real x) = None
 text_at (Text t) = Some t
 text_at (Blob b) = None
 
--- the roster's text, if the id is 1 and the schema 2
-abbrev pub mark : Value → Value → Value → Option (List ℕ)
-mark id schema roster = cond (is_one id && is_two schema) (text_at roster) None
+-- the roster's text, if the id is 1 and the schema is the one that is asked for
+abbrev pub mark : (is_schema : Value → Bool) → Value → Value → Value → Option (List ℕ)
+mark is_schema id schema roster = cond (is_one id && is_schema schema) (text_at roster) None
 
--- the roster's text, if there is exactly one row, and it has the id 1 and the schema 2
+-- the roster's text, if there is exactly one row, and it has the id 1 and that schema
+abbrev pub recorded_with : (is_schema : Value → Bool) → List Row → Option (List ℕ)
+recorded_with is_schema [] = None
+recorded_with is_schema (r ∷ []) = mark is_schema (column r 0) (column r 2) (column r 3)
+recorded_with is_schema (r ∷ s ∷ rs) = None
+
+-- the roster's text of a desk of today, whose schema is 2
 abbrev pub recorded : List Row → Option (List ℕ)
-recorded [] = None
-recorded (r ∷ []) = mark (column r 0) (column r 2) (column r 3)
-recorded (r ∷ s ∷ rs) = None
+recorded = recorded_with is_two
+
+-- the roster's text of a desk of an older form, whose schema is 1
+abbrev pub recorded_before : List Row → Option (List ℕ)
+recorded_before = recorded_with is_one
 
 -- ---- the desk
 
@@ -150,8 +158,9 @@ pub record Content : Type 0 where
   pub roster : List ℕ
   pub texts : Texts
 
+-- the roster's text of a desk of either form
 abbrev pub roster_of : List Row → List ℕ
-roster_of rows = unwrap_or (recorded rows) []
+roster_of rows = unwrap_or (recorded rows) (unwrap_or (recorded_before rows) [])
 
 abbrev pub content_in : Schema → Trees → Content
 content_in s db = record {

@@ -1,5 +1,4 @@
 pub mod Changes
 pub mod Stepping
 pub mod Turning
-pub mod Steps
 pub mod Survival

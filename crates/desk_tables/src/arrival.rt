@@ -9,8 +9,8 @@ ghost use Rattle.messages.specs.declared.message.Message.TheVariants as message_
 ghost use Rattle.desk_tables.specs.Rows.{verdict_row, parked_row};
 ghost use Rattle.desk_tables.specs.Stored.{IsWritten};
 ghost use Rattle.desk_tables.specs.private.Changes.{Gains};
-ghost use Rattle.desk_tables.specs.private.Stepping.{InStep};
-ghost use Rattle.desk_tables.specs.private.Steps.{IsStep};
+ghost use Rattle.desk_tables.specs.Steps.{InStep};
+ghost use Rattle.desk_tables.specs.Steps.{IsStep};
 ghost use Rattle.desk_tables.specs.private.Turning.{JoinedParked, JoinsAll, JoinsOne};
 ghost use Rattle.desk_tables.specs.private.Turning.{Received, Renames, Rowwise, Settled};
 ghost use Rattle.desk_tables.specs.private.Turning.{ShowsVerdict, Stays, Turned};

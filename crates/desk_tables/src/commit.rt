@@ -9,7 +9,7 @@ ghost use Rattle.desk_tables.specs.Sets.{Lists};
 ghost use Rattle.desk_tables.specs.Kept.{HoldsText, IsDeskDatabase, Spares};
 ghost use Rattle.desk_tables.specs.SqliteStates.{IsUp, Rests};
 ghost use Rattle.desk_tables.specs.Stored.{IsWritten, content_of, has, with_roster, with_text};
-ghost use Rattle.desk_tables.specs.private.Survival.{ArrivesAt, ChangesAt};
+ghost use Rattle.desk_tables.specs.Committed.{ArrivesAt, ChangesAt};
 
 use crate::arrival::receive;
 use crate::fault::Fault;

@@ -5,9 +5,10 @@ ghost use Rattle.sqlite.specs.Held.{state};
 ghost use Rattle.messages.specs.Wire.{IsMessage};
 ghost use Rattle.messages.specs.declared.message.Message.{Message as AnyMessage};
 ghost use Rattle.desk_tables.specs.private.Changes.{IsEmptied};
-ghost use Rattle.desk_tables.specs.private.Stepping.{InStep};
-ghost use Rattle.desk_tables.specs.private.Steps.{IsStep};
-ghost use Rattle.desk_tables.specs.private.Turning.{Refilled, Renewed, Rowwise, Settled, Turned};
+ghost use Rattle.desk_tables.specs.Steps.{InStep};
+ghost use Rattle.desk_tables.specs.Steps.{IsStep};
+ghost use Rattle.desk_tables.specs.Steps.{Refilled};
+ghost use Rattle.desk_tables.specs.private.Turning.{Renewed, Rowwise, Settled, Turned};
 
 use crate::arrival::settle;
 use crate::fault::Fault;

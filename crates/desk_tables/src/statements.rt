@@ -6,8 +6,10 @@ ghost use Rattle.sqlite.specs.Held.{state};
 ghost use Rattle.desk_tables.specs.Rows.{OfName};
 ghost use Rattle.desk_tables.specs.Kept.{IsKeyed};
 ghost use Rattle.desk_tables.specs.private.Changes.{Gains, IsEmptied, Loses};
-ghost use Rattle.desk_tables.specs.private.Stepping.{InStep, Finds, FindsParked, FindsText};
-ghost use Rattle.desk_tables.specs.private.Stepping.{IsBare, Marked, Says, Wrote, WroteText};
+ghost use Rattle.desk_tables.specs.Steps.{InStep};
+ghost use Rattle.desk_tables.specs.private.Stepping.{Finds, FindsParked, FindsText};
+ghost use Rattle.desk_tables.specs.Steps.{IsBare, Marked, Says};
+ghost use Rattle.desk_tables.specs.private.Stepping.{Wrote, WroteText};
 ghost use Rattle.desk_tables.specs.private.Stepping.{name_values, verdict_values, parked_values};
 
 use sqlite::{Alter, Error, Row, Transaction, params};

@@ -127,9 +127,9 @@ enum Thing {
 /// What a keeper's answer says that it keeps.
 fn thing_of(found: Result<Found, KeeperError>) -> Thing {
     match found {
-        Ok(Found::Desk(text)) => {
-            let rules = rules_of(text.as_str());
-            drop(text);
+        Ok(Found::Desk(desk)) => {
+            let rules = rules_of(desk.roster.as_str());
+            drop(desk);
             match rules {
                 Some(rules) => Thing::Desk(rules),
                 None => Thing::State(State::Other),

@@ -41,10 +41,6 @@ take_next xs k x below is = take_more xs k x below ∙ ap (λ y. take k xs ++ y 
 
 -- ---- a request's verdicts
 
-pub only_asked : (q p : RequestFields) → Contains (Request q ∷ []) (Request p) → p ≡ q
-only_asked q p h =
-    elim (cases_behind (Request q) [] (Request p) h) as (λ _. p ≡ q) [ inl same ↦ cc | inr none ↦ absurd (nothing_there (Request p) none) ]
-
 pub is_about_it : (q : RequestFields) (v : VerdictFields) → is_about q v ≡ true → IsAbout q v
 is_about_it q v e =
     let p = and_parts _ _ e in

@@ -4,7 +4,8 @@ pub mod Judging
 -- what the words ask, and what is asked about
 pub mod Asking
 pub mod Picks
--- when grants are in force, by host, and the whole as a JSON document
+-- when grants are in force, by host, and the whole as a JSON document and as a text for a terminal
 pub mod Windows
 pub mod Document
+pub mod Terminal
 pub mod private

@@ -18,6 +18,14 @@ pub record AsksAboutAll (pick : Pick) : Type 0 where
   pub host : pick.host ≡ None
   pub person : pick.person ≡ None
 
+-- nothing is narrowed
+abbrev pub all : Pick
+all = record { from = None; until = None; host = None; person = None }
+
+-- what does not end before the moment
+abbrev pub after : (at : ℕ) → Pick
+after at = record { from = Some at; until = None; host = None; person = None }
+
 -- ---- time
 
 abbrev pub begins_by : Option ℕ → (start : ℕ) → Bool

@@ -1,6 +1,8 @@
 //! The laws of what an audit says of a name, each the contract of a function that does nothing.
 
-ghost use Rattle.std.specs.Prelude.{ℕ, List, Contains, Option, Some, MatchOption, ◌↔◌};
+ghost use Rattle.std.specs.Prelude.{◌≡◌, ℕ, List, [], ◌∷◌, ◌++◌, Contains, Option, Some, None};
+ghost use Rattle.std.specs.Prelude.{MatchOption, ◌↔◌, codes, replicate};
+ghost use Rattle.std.specs.List.{flat_map};
 ghost use Rattle.sudo_words.specs.declared.cmnd.Cmnd.{Cmnd};
 ghost use Rattle.messages.specs.Fields.{RequestFields, VerdictFields};
 ghost use Rattle.messages.specs.Names.{IsAbout};
@@ -9,7 +11,14 @@ ghost use Rattle.messages.specs.declared.message.Message.TheVariants as variants
 ghost use Rattle.roster.specs.Fields.{RosterFields};
 ghost use Rattle.grants.specs.Statuses.{NeverComplete};
 ghost use Rattle.grants.specs.Verdicts.{IsComplete};
+ghost use Rattle.grants.specs.WorkedAdmission as worked;
+ghost use Rattle.grants.specs.declared.outcome.Status.TheVariants as statuses;
+ghost use Rattle.findings.specs.Document.{IsDocument};
 ghost use Rattle.findings.specs.Judging.{IsCompletionOf};
+ghost use Rattle.findings.specs.Terminal.{IsText};
+ghost use Rattle.findings.specs.Terminal as terminal;
+ghost use Rattle.findings.specs.declared.entry.Entry.{Entry};
+ghost use Rattle.findings.specs.declared.pick.Pick.{Pick};
 
 /// The verdicts on a request decide when it was complete: that is when it was by the whole set that
 /// has these verdicts on it and no others.
@@ -19,4 +28,46 @@ pub fn completion_by_its_verdicts()
         → (Contains vs v ↔ Contains set (variants.Verdict v)))
         → IsCompletionOf f (Some q) vs complete
         → MatchOption complete (NeverComplete f set q) (IsComplete f set q) }
+{}
+
+/// Entries have one document.
+pub fn one_document()
+    ensures { (f : RosterFields Cmnd) (pick : Pick) (entries : List Entry) (s t : List ℕ)
+        → IsDocument f pick entries s → IsDocument f pick entries t → s ≡ t }
+{}
+
+/// Entries have one text for a terminal.
+pub fn one_text()
+    ensures { (f : RosterFields Cmnd) (pick : Pick) (entries : List Entry) (s t : List ℕ)
+        → IsText f pick entries s → IsText f pick entries t → s ≡ t }
+{}
+
+/// No word is lost where a line goes on below, and none is added: without its spaces and line ends
+/// a line is its heading and its words.
+pub fn no_word_is_lost()
+    ensures { (heading : List ℕ) (words : List (List ℕ))
+        → terminal.ink (terminal.line heading words)
+        ≡ terminal.ink heading ++ flat_map terminal.ink words }
+{}
+
+/// Worked lines: a refused request's first one and what it asks for; a word that ends in the last
+/// column, and one that is too long by a byte; and windows on two hosts.
+pub fn worked_lines()
+    ensures refused { terminal.status_line (record { by = codes "ann"; no = 7 })
+        (Some statuses.Refused) None ≡ codes "ann 7  refused\n" }
+    ensures request { terminal.request_lines worked.asked
+        ≡ codes "  asked     19700101060000Z for 19700101090000Z to 19700101110000Z\n"
+        ++ codes "  ceiling   db-root\n  target    root\n  hosts     db1\n  command   /bin/ls\n" }
+    ensures fits { terminal.line (codes "may") (replicate 70 97 ∷ replicate 17 98 ∷ [])
+        ≡ codes "  may       " ++ replicate 70 97 ++ codes " " ++ replicate 17 98 ++ codes "\n" }
+    ensures goes_on { terminal.line (codes "may") (replicate 70 97 ∷ replicate 18 98 ∷ [])
+        ≡ codes "  may       " ++ replicate 70 97 ++ codes "\n              "
+        ++ replicate 18 98 ++ codes "\n" }
+    ensures windows { terminal.window_lines None
+        (record { host = codes "db1"; start = 0; end = 59; by = codes "ann"; no = 7 }
+        ∷ record { host = codes "db1"; start = 60; end = 61; by = codes "ben"; no = 1 }
+        ∷ record { host = codes "web"; start = 0; end = 59; by = codes "ann"; no = 7 } ∷ [])
+        ≡ codes "db1\n  19700101000000Z to 19700101000059Z  ann 7\n"
+        ++ codes "  19700101000100Z to 19700101000101Z  ben 1\n"
+        ++ codes "web\n  19700101000000Z to 19700101000059Z  ann 7\n" }
 {}

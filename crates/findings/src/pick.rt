@@ -24,6 +24,30 @@ pub struct Pick {
 }
 
 impl Pick {
+    /// A question that nothing narrows.
+    pub fn all() -> Pick
+        ensures { result ≡ picks.all }
+    {
+        Pick {
+            from: None,
+            until: None,
+            host: None,
+            person: None,
+        }
+    }
+
+    /// The question about what does not end before the moment.
+    pub fn after(at: Moment) -> Pick
+        ensures { result ≡ picks.after at }
+    {
+        Pick {
+            from: Some(at),
+            until: None,
+            host: None,
+            person: None,
+        }
+    }
+
     /// Whether everything is asked about.
     fn is_whole(&self) -> bool
         ensures { result ≡ picks.is_whole self.now }

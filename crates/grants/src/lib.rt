@@ -34,6 +34,6 @@ pub use marks::Mark;
 pub use outcome::{Status, Window};
 pub use request_status::{completed_at, status};
 pub use rules::{grant_rules, rules_of};
-pub use summary::{Summary, apply, ask, ask_again, dispute};
+pub use summary::{Summary, apply, ask, ask_again, ask_disputed};
 pub use weighing::{Weight, weigh, weight_of};
 pub use within::is_inside;

@@ -86,7 +86,8 @@ impl Clone for Summary {
 
 /// The summary of the request alone.
 pub fn ask(alloc: Global, request: &Request) -> Result<Summary, NoMemory>
-    ensures { IfOk result (λ s. StandsFor (message_of.Request request.now ∷ []) s) }
+    ensures stands { IfOk result (StandsFor (message_of.Request request.now ∷ [])) }
+    ensures same_request { IfOk result (λ s. s.request ≡ request.now) }
 {
     Ok(Summary {
         alloc,
@@ -112,8 +113,8 @@ pub fn ask_again(s: &mut Summary, request: &Request)
     }
 }
 
-/// Marks the request as one of two of its name. It takes no memory.
-pub fn dispute(s: &mut Summary)
+/// Marks the request as one of two of its name.
+fn dispute(s: &mut Summary)
     // Where it stood for a set, it stands for the set with any other request of the name.
     ensures stands { (set : List AnyMessage) (p : RequestFields) → SameName p s.old.request → p
         ≢ s.old.request → StandsFor set s.old → StandsFor (set ++ message_of.Request p ∷ []) s.new }
@@ -121,6 +122,18 @@ pub fn dispute(s: &mut Summary)
     ensures same_request { s.new.request ≡ s.old.request }
 {
     s.is_disputed = true;
+}
+
+/// The summary of the request, of whose name there is another.
+pub fn ask_disputed(alloc: Global, request: &Request) -> Result<Summary, NoMemory>
+    // It stands for the request and any other of its name.
+    ensures stands { (p : RequestFields) → SameName p request.now → p ≢ request.now
+        → IfOk result (StandsFor (message_of.Request request.now ∷ message_of.Request p ∷ [])) }
+    ensures same_request { IfOk result (λ s. s.request ≡ request.now) }
+{
+    let mut summary = ask(alloc, request)?;
+    dispute(&mut summary);
+    Ok(summary)
 }
 
 /// Adds a verdict about the request.

@@ -1,5 +1,5 @@
 -- The index by host, as names are listed and as summaries come.
-use Rattle.std.proofs.Common.{◌≡◌, ℕ, ◌⊎◌, true, cond, Bool, List, [], ◌∷◌, Option, Some, None, refl, sym, ap, ◌∙◌, subst, inl, inr}
+use Rattle.std.proofs.Common.{◌≡◌, ℕ, List, [], ◌∷◌, Option, Some, None, refl, sym, ◌∙◌, subst, inl, inr}
 use Rattle.std.specs.List.{Contains}
 use Rattle.std.specs.BTreeMap.{BTreeMap, Updates, get, is_at}
 use Rattle.std.specs.BTreeSet.{BTreeSet, insert_key}

@@ -1,9 +1,8 @@
 -- A host's file, from its lines' rules.
-use Rattle.std.proofs.Common.{◌≡◌, ℕ, ◌+◌, ◌<◌, ◌≤◌, leb, Bool, true, false, cond, List, [], ◌∷◌, ◌++◌, map, length}
+use Rattle.std.proofs.Common.{◌≡◌, ℕ, ◌+◌, ◌<◌, ◌≤◌, leb, Bool, true, false, List, [], ◌∷◌, ◌++◌, map, length}
 use Rattle.std.proofs.Common.{Option, Some, None, refl, sym, ap, ◌∙◌, subst, inl, inr, arith, append_assoc, length-append}
-use Rattle.std.specs.Prelude.{◌↔◌, Contains, filter}
+use Rattle.std.specs.Prelude.{◌↔◌, Contains}
 use Rattle.std.specs.List.{AllByRecursion}
-use Rattle.std.specs.BTreeMap.{BTreeMap, values}
 use Rattle.std.proofs.lemmas.Bool.{leb-true, le-leb}
 use Rattle.std.proofs.lemmas.List.{append-nil, length-map, map-append}
 use Rattle.std.proofs.lemmas.List.Elements.{All-contains, filter_agree}
@@ -26,21 +25,19 @@ use Rattle.sudo_policy.proofs.One.{text_one}
 use Rattle.sudo_policy.proofs.PolicyFronts.{canon_both}
 use Rattle.roster.specs.Fields.{RosterFields}
 use Rattle.grants.specs.Bases.{FitsBase}
-use Rattle.grants.specs.GrantRules.{IsGrantRule, rules_for}
+use Rattle.grants.specs.GrantRules.{IsGrantRule}
 use Rattle.grants.specs.Summaries.{Kept}
-use Rattle.grants.specs.GrantLines as written
+use Rattle.grants.specs.GrantLines.{AreWritten, lasts_until, rules_left, stays}
 use Rattle.grants.proofs.LawfulRules.{extended_policy}
-use Rattle.outcomes.specs.private.Behind.{AreBehind, AreNamesLines, rules_left}
+use Rattle.outcomes.specs.private.Behind.{AreBehind, AreNamesLines}
 use Rattle.outcomes.specs.private.ByHost.{if_kept}
-use Rattle.outcomes.specs.private.ByName.{Gathers}
 use Rattle.outcomes.specs.private.InTurn.{Give}
-use Rattle.messages.specs.declared.request_name.RequestName.{RequestName}
 use Rattle.grants.specs.declared.host_fault.HostFault.{HostFault}
 use Rattle.grants.specs.declared.host_fault.HostFault.TheVariants.{NoMemory}
 use Rattle.sudo_decide.specs.Decision.{is_not_after}
 use Rattle.sudo_decide.specs.declared.invocation.Invocation.{Invocation}
 use Rattle.outcomes.specs.HostFile.{Line, IsLine, LinePrecedes, AreLines, IsHostFile, IsHostFileAfter, lines_after, with_lines}
-use Rattle.outcomes.specs.LinesLeft.{IsFileLeft, IsPast, lines_left, stays}
+use Rattle.outcomes.specs.LinesLeft.{IsFileLeft, IsPast, lines_left}
 use Rattle.outcomes.specs.Rights.{GivesRights, GivesRightsAfter}
 use Rattle.outcomes.proofs.Filters.{all_left, kept, passes, was_there}
 use Rattle.outcomes.proofs.GivenLists.{IsHostRoll, all_both, one_given}
@@ -97,21 +94,6 @@ same_count f set host after rules lines found are =
 
 -- ---- lines behind a text
 
-lasts : (o : Option ℕ) (moment : ℕ) → written.lasts_until o moment ≡ is_not_after o moment
-lasts None moment = refl
-lasts (Some last) moment = refl
-
-same_stays : (after : Option ℕ) (rule : Rule) → written.stays after rule ≡ stays after rule
-same_stays None rule = refl
-same_stays (Some moment) rule = lasts rule.not_after moment
-
--- what is written for a request is what is left of its rules
-pub same_left : (after : Option ℕ) (rules : List Rule) → filter (written.stays after) rules ≡ filter (stays after) rules
-same_left after [] = refl
-same_left after (r ∷ rules) =
-    ap (λ (b : Bool). cond b (r ∷ filter (written.stays after) rules) (filter (written.stays after) rules)) (same_stays after r)
-    ∙ ap (λ (rs : List Rule). cond (stays after r) (r ∷ rs) rs) (same_left after rules)
-
 -- the text of one list of rules after another
 pub canon_more : (xs ys : List Rule) → canon (map entries.Rule (xs ++ ys)) ≡ canon (map entries.Rule xs) ++ canon (map entries.Rule ys)
 canon_more xs ys =
@@ -121,14 +103,13 @@ canon_more xs ys =
 pub one_behind : (f : RosterFields Cmnd) (set : List Message) (host : List ℕ) (after : Option ℕ) (seen : List Kept)
     (k : Kept) (first old new : List ℕ) (count more : ℕ) → (rules : List Rule) × Give f set (rules_left after host) seen rules
     × AllByRecursion IsGrantRule rules × (old ≡ first ++ canon (map entries.Rule rules)) × (count ≡ length rules)
-    → written.AreWritten f set k.request host after old new more → (all : List Rule) × Give f set (rules_left after host) (seen ++ k ∷ []) all
+    → AreWritten f set k.request host after old new more → (all : List Rule) × Give f set (rules_left after host) (seen ++ k ∷ []) all
     × AllByRecursion IsGrantRule all × (new ≡ first ++ canon (map entries.Rule all)) × (count + more ≡ length all)
 one_behind f set host after seen k first old new count more before w =
     let rules = before.0 in
-    let here = written.rules_left after host k.request w.status in
-    let is_left : here ≡ rules_left after host k.request w.status = same_left after (rules_for host k.request w.status) in (
+    let here = rules_left after host k.request w.status in (
       rules ++ here,
-      one_given f set (rules_left after host) seen k rules (rules ++ here) before.1 (w.status, w.status_is, ap (λ (rs : List Rule). rules ++ rs) is_left),
+      one_given f set (rules_left after host) seen k rules (rules ++ here) before.1 (w.status, w.status_is, refl),
       all_both IsGrantRule rules here before.2 w.grants,
       w.added.text_is
           ∙ ap (λ (t : List ℕ). t ++ canon (map entries.Rule here)) before.3
@@ -281,7 +262,7 @@ pub file_after_gives_rights : (f : RosterFields Cmnd) (base : List Entry) (set :
     → length (lines_after moment file.lines) ≤ 8_192 → GivesRightsAfter f base set host moment text
 file_after_gives_rights f base set host moment text fits known file few =
     let left = lines_after moment file.lines in
-    let p : Line → Bool = λ line. is_not_after line.rule.not_after moment in
+    let p : Line → Bool = λ line. stays (Some moment) line.rule in
     let spelled = lines_spelled f base set host left fits known (λ line m. file.lines_are.each line (was_there p file.lines line m)) few in
     gives_rights_after f base set host moment text file.lines file.lines_are
     (subst (λ (t : List ℕ). Spells t (with_lines base left)) (sym file.text_is) spelled)
@@ -291,20 +272,28 @@ file_after_gives_rights f base set host moment text fits known file few =
 pub left_exactly : (f : RosterFields Cmnd) (set : List Message) (host : List ℕ) (moment : ℕ) (lines : List Line) (line : Line)
     → (is : IsLine f set host line) → Contains (lines_after moment lines) line ↔ (Contains lines line × (moment ≤ is.last))
 left_exactly f set host moment lines line is =
-    let p : Line → Bool = λ l. is_not_after l.rule.not_after moment in
-    let ends : p line ≡ leb moment is.last = ap (λ (r : Rule). is_not_after r.not_after moment) is.rule_is in (
+    let p : Line → Bool = λ l. stays (Some moment) l.rule in
+    let ends : p line ≡ leb moment is.last = ap (stays (Some moment)) is.rule_is in (
       λ m. (was_there p lines line m, leb-true moment is.last (sym ends ∙ passes p lines line m)),
       λ both. kept p lines line both.0 (ends ∙ le-leb moment is.last both.1),
     )
 
+-- a line is left at each moment up to the last at which its rule takes part
+pub lasts_as_it_takes_part : (last : Option ℕ) (moment : ℕ) → lasts_until last moment ≡ is_not_after last moment
+lasts_as_it_takes_part None moment = refl
+lasts_as_it_takes_part (Some last) moment = refl
+
+pub without_a_moment : (lines : List Line) → lines_left None lines ≡ lines
+without_a_moment lines = all_left lines
+
 -- none ends before the first moment of all
-none_before_first : (last : Option ℕ) → is_not_after last 0 ≡ true
+none_before_first : (last : Option ℕ) → lasts_until last 0 ≡ true
 none_before_first None = refl
 none_before_first (Some last) = le-leb 0 last (omega arith)
 
 all_after_first : (lines : List Line) → lines_after 0 lines ≡ lines
 all_after_first lines =
-    filter_agree (λ (line : Line). is_not_after line.rule.not_after 0) (λ (line : Line). true) (λ line. none_before_first line.rule.not_after) lines
+    filter_agree (λ (line : Line). stays (Some 0) line.rule) (λ (line : Line). true) (λ line. none_before_first line.rule.not_after) lines
     ∙ all_left lines
 
 pub whole_after_first : (f : RosterFields Cmnd) (base : List Entry) (set : List Message) (host text : List ℕ)

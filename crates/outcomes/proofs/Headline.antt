@@ -11,11 +11,12 @@ use Rattle.sudo_policy.specs.declared.entry.Entry.TheVariants as entries
 use Rattle.sudo_decide.specs.declared.decision.Decision.{Decision}
 use Rattle.sudo_decide.specs.declared.decision.Decision.TheVariants.{Allow}
 use Rattle.sudo_decide.specs.declared.invocation.Invocation.{Invocation}
-use Rattle.sudo_decide.specs.Decision.{is_not_after, says, outcome, Decides, DecidesBy}
+use Rattle.sudo_decide.specs.Decision.{says, outcome, Decides, DecidesBy}
 use Rattle.sudo_decide.proofs.DecisionLemmas.{decides_silent_last, decides_rule_last, same_definitions}
 use Rattle.sudo_words.specs.declared.cmnd.Cmnd.{Cmnd}
 use Rattle.messages.specs.Names.{name_of}
 use Rattle.roster.specs.Fields.{RosterFields}
+use Rattle.grants.specs.GrantLines.{stays}
 use Rattle.grants.specs.GrantRules.{grant_rule}
 use Rattle.grants.specs.Statuses.{IsLastMoment}
 use Rattle.outcomes.specs.Covers.{Covers}
@@ -34,11 +35,11 @@ entries_of_rules (line ∷ lines) = ap (λ (es : List Entry). entries.Rule line.
 abbrev entry_of : Line → Entry
 entry_of line = entries.Rule line.rule
 
-regrouped : (defined es : List Entry) (line : Line) (lines : List Line) (i : Invocation) (d : Decision)
+pub regrouped : (defined es : List Entry) (line : Line) (lines : List Line) (i : Invocation) (d : Decision)
     → DecidesBy defined ((es ++ entry_of line ∷ []) ++ map entry_of lines) i d → DecidesBy defined (es ++ entry_of line ∷ map entry_of lines) i d
 regrouped defined es line lines i d h = rw append_assoc at h
 
-silent_lines : (defined es : List Entry) (lines : List Line) (i : Invocation) (d : Decision)
+pub silent_lines : (defined es : List Entry) (lines : List Line) (i : Invocation) (d : Decision)
     → ((line : Line) → Contains lines line → says defined line.rule i ≡ None) → DecidesBy defined es i d → DecidesBy defined (es ++ map entry_of lines) i d
 silent_lines defined es [] i d quiet by = let P : List Entry → Type 0 = λ x. DecidesBy defined x i d in subst P (sym (append-nil es)) by
 silent_lines defined es (line ∷ lines) i d quiet by =
@@ -49,7 +50,7 @@ silent_lines defined es (line ∷ lines) i d quiet by =
 abbrev pub Grants : List Entry → Line → Invocation → Type 0
 Grants defined line i = (line.rule.nopasswd ≡ false) × ((says defined line.rule i ≡ Some true) ⊎ (says defined line.rule i ≡ None))
 
-allowed : (defined es : List Entry) (line : Line) (i : Invocation) → line.rule.nopasswd ≡ false
+pub allowed : (defined es : List Entry) (line : Line) (i : Invocation) → line.rule.nopasswd ≡ false
     → says defined line.rule i ≡ Some true → DecidesBy defined (es ++ entry_of line ∷ []) i Allow
 allowed defined es line i asks says_yes =
     let decided : outcome line.rule true ≡ Allow = ap (λ (b : Bool). outcome (record line.rule { nopasswd = b }) true) asks in
@@ -68,7 +69,7 @@ granted_lines defined es (line ∷ lines) i each by =
     regrouped defined es line lines i Allow (granted_lines defined (es ++ entry_of line ∷ []) lines i
     (λ l m. each l (Contains-behind line lines l m)) (still_allowed defined es line i (each line (Contains-head line lines)) by))
 
-some_grants : (defined es : List Entry) (lines : List Line) (i : Invocation) → ((line : Line) → Contains lines line → Grants defined line i)
+pub some_grants : (defined es : List Entry) (lines : List Line) (i : Invocation) → ((line : Line) → Contains lines line → Grants defined line i)
     → (line : Line) → Contains lines line → says defined line.rule i ≡ Some true → DecidesBy defined (es ++ map entry_of lines) i Allow
 some_grants defined es [] i each line m says_yes = absurd (no_member line m)
 some_grants defined es (first ∷ lines) i each line m says_yes =
@@ -85,7 +86,7 @@ some_grants defined es (first ∷ lines) i each line m says_yes =
 -- ---- the lines of a set
 
 -- a line of them says yes, or none does
-one_says_yes : (defined : List Entry) (i : Invocation) (lines : List Line) → ((line : Line) → Contains lines line → Grants defined line i)
+pub one_says_yes : (defined : List Entry) (i : Invocation) (lines : List Line) → ((line : Line) → Contains lines line → Grants defined line i)
     → ((line : Line) × Contains lines line × (says defined line.rule i ≡ Some true)) ⊎ ((line : Line) → Contains lines line → says defined line.rule i ≡ None)
 one_says_yes defined i [] each = inr (λ line m. absurd (no_member line m))
 one_says_yes defined i (first ∷ lines) each =
@@ -103,12 +104,12 @@ one_says_yes defined i (first ∷ lines) each =
     ]
 
 module _ (f : RosterFields Cmnd) (defined : List Entry) (messages : List Message) (i : Invocation) where
-  line_grants : (line : Line) → IsLine f messages i.host line → Grants defined line i
+  pub line_grants : (line : Line) → IsLine f messages i.host line → Grants defined line i
   line_grants line l =
       let P : Rule → Type 0 = λ r. (r.nopasswd ≡ false) × ((says defined r i ≡ Some true) ⊎ (says defined r i ≡ None)) in
       subst P (sym l.rule_is) (refl, grant_answers defined i.host l.request l.first l.last l.cmnd i)
 
-  covers_from_yes : (line : Line) → IsLine f messages i.host line → says defined line.rule i ≡ Some true → Covers f messages i
+  pub covers_from_yes : (line : Line) → IsLine f messages i.host line → says defined line.rule i ≡ Some true → Covers f messages i
   covers_from_yes line l says_yes =
       let P : Rule → Type 0 = λ r. says defined r i ≡ Some true in
       let fits = fits_from_yes defined i.host l.request l.first l.last l.cmnd i (subst P l.rule_is says_yes) in
@@ -212,16 +213,16 @@ module _ (f : RosterFields Cmnd) (base : List Entry) (messages : List Message)
 
   -- a line that says yes at the moment or later has not ended before it
   not_ended : (defined : List Entry) (moment : ℕ) (line : Line) → moment ≤ i.at → IsLine f messages i.host line
-      → says defined line.rule i ≡ Some true → is_not_after line.rule.not_after moment ≡ true
+      → says defined line.rule i ≡ Some true → stays (Some moment) line.rule ≡ true
   not_ended defined moment line later l says_yes =
       let P : Rule → Type 0 = λ r. says defined r i ≡ Some true in
       let fits = fits_from_yes defined i.host l.request l.first l.last l.cmnd i (subst P l.rule_is says_yes) in
-      let Lasts : Rule → Type 0 = λ r. is_not_after r.not_after moment ≡ true in
+      let Lasts : Rule → Type 0 = λ r. stays (Some moment) r ≡ true in
       subst Lasts (sym l.rule_is) (le-leb moment l.last (omega (arith, later, fits.lasts)))
 
   pub left_speak : (moment : ℕ) → moment ≤ i.at → SpeakFor f base messages i (lines_after moment lines)
   left_speak moment later =
-      let p : Line → Bool = λ line. is_not_after line.rule.not_after moment in
+      let p : Line → Bool = λ line. stays (Some moment) line.rule in
       record {
         each = λ line m. are.each line (was_there p lines line m);
         yes = λ line l says_yes.

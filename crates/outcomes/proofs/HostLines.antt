@@ -19,11 +19,11 @@ use Rattle.grants.specs.declared.outcome.Status.{Status}
 use Rattle.grants.specs.declared.outcome.Status.TheVariants.{Disputed, Lapsed, Refused, Waiting, Void, Granted}
 use Rattle.grants.specs.declared.outcome.Window.{Window}
 use Rattle.outcomes.specs.Summaries.{SummaryPrecedes}
-use Rattle.outcomes.specs.private.Behind.{rules_left}
+use Rattle.grants.specs.GrantLines.{rules_left, stays}
 use Rattle.outcomes.specs.private.InTurn.{Give}
 use Rattle.messages.specs.Order.{AllAfter, AreInOrder}
 use Rattle.outcomes.specs.HostFile.{Line, IsLine, LinePrecedes, AreLines}
-use Rattle.outcomes.specs.LinesLeft.{lines_left, stays}
+use Rattle.outcomes.specs.LinesLeft.{lines_left}
 use Rattle.outcomes.proofs.Filters.{kept, left_in_order, left_of_given, left_of_map, passes, was_there}
 use Rattle.outcomes.proofs.GivenLists.{IsHostRoll, IsRoll, given_by, given_in_order, gives, is_host_roll}
 use Rattle.outcomes.proofs.Membership.{no_member, Contains-head, Contains-behind, Contains-cases, member_from_test, test_from_member}

@@ -14,7 +14,6 @@ use Rattle.messages.specs.declared.message.Message.{Message}
 use Rattle.messages.specs.declared.request_name.RequestName.{RequestName}
 use Rattle.messages.proofs.NameOrder.{lower_from_less}
 use Rattle.grants.specs.Summaries.{Kept, StandsFor}
-use Rattle.grants.specs.Verdicts.{StandsAlone}
 use Rattle.outcomes.specs.Summaries.{SummaryPrecedes}
 use Rattle.outcomes.specs.private.ByHost.{AreListed, Hosts, if_kept, kept_of, names_at}
 use Rattle.outcomes.specs.private.ByName.{Gathers, at_name}
@@ -23,7 +22,7 @@ use Rattle.outcomes.proofs.GatherLemmas.{named_at}
 use Rattle.outcomes.proofs.GivenLists.{IsHostRoll, kept_alone, kept_stands}
 use Rattle.outcomes.proofs.Membership.{no_member, Contains-head, Contains-behind, Contains-cases}
 use Rattle.outcomes.proofs.NameMaps.{value_at}
-use Rattle.outcomes.proofs.Orders.{behind_from_each, ordered_both}
+use Rattle.outcomes.proofs.Orders.{ordered_both}
 
 if_kept_is : (o : Option Kept) (k : Kept) → Contains (if_kept o) k → o ≡ Some k
 if_kept_is None k m = absurd (no_member k m)

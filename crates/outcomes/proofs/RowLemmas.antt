@@ -1,6 +1,7 @@
 -- What is known of a set, from a row for each name with a request and from its verdicts.
 use Rattle.std.proofs.Common.{◌≡◌, ◌≢◌, ◌⊎◌, Bool, true, false, suc, List, [], ◌∷◌, ◌++◌, map, Option, Some, None, refl, sym, ap, ◌∙◌, subst, inl, inr, arith}
 use Rattle.std.specs.List.{Contains}
+use Rattle.std.specs.Prelude.{Result, Ok, Err, IfOk}
 use Rattle.std.specs.Option.{MatchOption}
 use Rattle.std.specs.BTreeMap.{IsOrdered}
 use Rattle.std.proofs.lemmas.Bool.{cases_Bool}
@@ -80,6 +81,11 @@ no_verdict_one q v m = elim (Contains-cases (Request q) [] (Verdict v) m) as (λ
 no_verdict_more : (set : List Message) (q : RequestFields) → HasNoVerdict set → HasNoVerdict (set ++ Request q ∷ [])
 no_verdict_more set q bare v m = elim (Contains-push_cases set (Request q) (Verdict v) m) as (λ _. ⊥) [ inl old ↦ bare v old | inr wrong ↦ absurd cc ]
 
+-- what is known of a result's value, both at once
+pub both_of : {X Y : Type 0} (r : Result X Y) (P Q : X → Type 0) → IfOk r P → IfOk r Q → IfOk r (λ x. P x × Q x)
+both_of (Ok x) P Q p q = (p, q)
+both_of (Err y) P Q p q = tt
+
 -- a summary of the row's request
 module _ (set : List Message) (row : NameRow) (bare : HasNoVerdict set) (is : IsRowOf set row) where
   pub row_single : (k : Kept) → StandsFor (Request row.request ∷ []) k → row.is_disputed ≡ false → StandsFor set k
@@ -89,23 +95,21 @@ module _ (set : List Message) (row : NameRow) (bare : HasNoVerdict set) (is : Is
       row_stands (Request row.request ∷ []) set k (no_verdict_one row.request) bare (subst (λ (q : RequestFields). Contains set (Request q)) (sym q_is) is.0)
       (subst (P k.request) (one ∙ sym (single row.request k stands)) (subst (λ (q : RequestFields). P q row.is_disputed) (sym q_is) is.1)) stands
 
-  pub row_double : (before after : Kept) → StandsFor (Request row.request ∷ []) before → after.request ≡ before.request
-      → ((s : List Message) (p : RequestFields) → SameName p before.request → p ≢ before.request → StandsFor s before → StandsFor (s ++ Request p ∷ []) after)
-      → row.is_disputed ≡ true → StandsFor set after
-  row_double before after stands same marks two =
+  -- another request of its name
+  pub other : row.is_disputed ≡ true → IsMarked (In set) row.request true
+  other two = subst (IsMarked (In set) row.request) two is.1
+
+  pub row_double : (two : row.is_disputed ≡ true) (k : Kept) → k.request ≡ row.request
+      → StandsFor (Request row.request ∷ Request (other two).0 ∷ []) k → StandsFor set k
+  row_double two k q_is stands =
       let q = row.request in
-      let first : before.request ≡ q = of_itself q before stands in
-      let q_is : after.request ≡ q = same ∙ first in
-      let found : IsMarked (In set) q true = subst (IsMarked (In set) q) two is.1 in
+      let found = other two in
       let p = found.0 in
-      let alike : SameName p before.request = subst (SameName p) (sym first) found.2 in
-      let differ : p ≢ before.request = subst (λ (r : RequestFields). p ≢ r) (sym first) found.3 in
-      let both : StandsFor ((Request q ∷ []) ++ Request p ∷ []) after = marks (Request q ∷ []) p alike differ stands in
-      let now : after.is_disputed ≡ true =
-      double (Request q ∷ []) p after (subst (SameName p) (sym same) alike) (subst (λ (r : RequestFields). p ≢ r) (sym same) differ) both in
-      row_stands ((Request q ∷ []) ++ Request p ∷ []) set after (no_verdict_more (Request q ∷ []) p (no_verdict_one q)) bare
+      let now : k.is_disputed ≡ true =
+      double (Request q ∷ []) p k (subst (SameName p) (sym q_is) found.2) (subst (λ (r : RequestFields). p ≢ r) (sym q_is) found.3) stands in
+      row_stands ((Request q ∷ []) ++ Request p ∷ []) set k (no_verdict_more (Request q ∷ []) p (no_verdict_one q)) bare
       (subst (λ (r : RequestFields). Contains set (Request r)) (sym q_is) is.0)
-      (subst (IsMarked (In set) after.request) (sym now) (subst (λ (r : RequestFields). IsMarked (In set) r true) (sym q_is) found)) both
+      (subst (IsMarked (In set) k.request) (sym now) (subst (λ (r : RequestFields). IsMarked (In set) r true) (sym q_is) found)) stands
 
 -- ---- rows in turn
 

@@ -7,12 +7,12 @@ use Rattle.sudo_policy.specs.declared.entry.Rule.{Rule}
 use Rattle.sudo_policy.specs.declared.entry.Entry.{Entry}
 use Rattle.sudo_policy.specs.declared.entry.Entry.TheVariants as entries
 use Rattle.sudo_policy.specs.Printing.{canon}
-use Rattle.sudo_decide.specs.Decision.{is_not_after}
 use Rattle.messages.specs.Fields.{RequestFields}
 use Rattle.messages.specs.Names.{NamePrecedes, name_of}
 use Rattle.messages.specs.declared.request_name.RequestName.{RequestName}
 use Rattle.messages.specs.declared.message.Message.{Message}
 use Rattle.roster.specs.Fields.{RosterFields}
+use Rattle.grants.specs.GrantLines.{stays}
 use Rattle.grants.specs.GrantRules.{grant_rule}
 use Rattle.grants.specs.Statuses.{IsFirstMoment, IsLastMoment}
 use Rattle.messages.specs.Order.{AreInOrder}
@@ -63,7 +63,7 @@ pub record IsHostFile (f : RosterFields Cmnd) (base : List Entry)
 
 -- the lines that end at the moment or later
 abbrev pub lines_after : ℕ → List Line → List Line
-lines_after moment lines = filter (λ line. is_not_after line.rule.not_after moment) lines
+lines_after moment lines = filter (λ line. stays (Some moment) line.rule) lines
 
 -- the text of the host's file without the lines that end before the moment
 pub record IsHostFileAfter (f : RosterFields Cmnd) (base : List Entry)

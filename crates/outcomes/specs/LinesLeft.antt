@@ -1,24 +1,17 @@
 -- What is left of a host's lines: all of them, or those that end at a moment or later.
-use Rattle.std.specs.Prelude.{◌≡◌, ◌⊎◌, ℕ, ◌<◌, Bool, true, List}
-use Rattle.std.specs.Prelude.{filter, length, Option, Some, None}
+use Rattle.std.specs.Prelude.{◌≡◌, ◌⊎◌, ℕ, ◌<◌, List, filter, length, Option}
 use Rattle.sudo_words.specs.declared.cmnd.Cmnd.{Cmnd}
 use Rattle.sudo_policy.specs.declared.entry.Entry.{Entry}
-use Rattle.sudo_policy.specs.declared.entry.Rule.{Rule}
 use Rattle.sudo_policy.specs.Printing.{canon}
 use Rattle.sudo_policy.specs.Spelling.{Spells}
-use Rattle.sudo_decide.specs.Decision.{is_not_after}
 use Rattle.messages.specs.declared.message.Message.{Message}
 use Rattle.roster.specs.Fields.{RosterFields}
+use Rattle.grants.specs.GrantLines.{stays}
 use Rattle.grants.specs.declared.host_fault.HostFault.{HostFault}
 use Rattle.grants.specs.declared.host_fault.HostFault.TheVariants.{TooManyRules, NoMemory}
 use Rattle.outcomes.specs.HostFile.{Line, AreLines, with_lines}
 
--- without a moment each rule stays
-abbrev pub stays : Option ℕ → Rule → Bool
-stays None rule = true
-stays (Some moment) rule = is_not_after rule.not_after moment
-
--- those left of the host's lines
+-- those left of the host's lines; without a moment all are
 abbrev pub lines_left : Option ℕ → List Line → List Line
 lines_left after lines = filter (λ line. stays after line.rule) lines
 

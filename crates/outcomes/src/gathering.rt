@@ -18,7 +18,7 @@ ghost use Rattle.outcomes.specs.private.ByName.{IsRowOf, at_name, verdicts_at};
 ghost use Rattle.outcomes.specs.private.ByHost.{AreListed, Hosts};
 
 use crate::by_host::list_hosts;
-use grants::{Summary, apply, ask, ask_again, dispute};
+use grants::{Summary, apply, ask, ask_again, ask_disputed};
 use messages::{Message, NameRow, Request, RequestName, Verdict};
 use std::alloc::Global;
 use std::collections::{BTreeMap, BTreeSet};
@@ -184,12 +184,11 @@ fn summary_of(alloc: Global, row: &NameRow) -> Result<Summary, NoMemory>
         → IsRowOf set row.now → IfOk result (StandsFor set) }
     ensures same_request { IfOk result (λ s. s.request ≡ row.now.request) }
 {
-    let mut summary = ask(alloc, &row.request)?;
-    if !row.is_disputed {
-        return Ok(summary);
+    if row.is_disputed {
+        ask_disputed(alloc, &row.request)
+    } else {
+        ask(alloc, &row.request)
     }
-    dispute(&mut summary);
-    Ok(summary)
 }
 
 /// Adds the summary of the row's request, where it is the first row of its name.

@@ -1,9 +1,10 @@
 //! Laws of what a set of messages grants, each the contract of a function that does nothing.
 
 ghost use Rattle.std.specs.Prelude.{◌≡◌, ◌≢◌, ◌↔◌, ◌<◌, ◌≤◌, ℕ, List, [], ◌∷◌};
-ghost use Rattle.std.specs.Prelude.{◌++◌, Contains, Option, Some, length};
+ghost use Rattle.std.specs.Prelude.{◌++◌, Contains, Option, Some, None, length};
 ghost use Rattle.sudo_words.specs.declared.cmnd.Cmnd.{Cmnd};
 ghost use Rattle.sudo_policy.specs.declared.entry.Entry.{Entry};
+ghost use Rattle.sudo_decide.specs.Decision.{is_not_after};
 ghost use Rattle.messages.specs.Fields.{RequestFields, VerdictFields};
 ghost use Rattle.messages.specs.Names.{IsAbout, SameMessages, SameName, name_of};
 ghost use Rattle.messages.specs.declared.request_name.RequestName.{RequestName as AnyName};
@@ -16,12 +17,14 @@ ghost use Rattle.roster.specs.Fields.{RosterFields};
 ghost use Rattle.grants.specs.Admission.{AdmitsRequest};
 ghost use Rattle.grants.specs.Bases.{FitsBase};
 ghost use Rattle.grants.specs.Counting.{NeverCounts};
+ghost use Rattle.grants.specs.GrantLines.{lasts_until};
 ghost use Rattle.grants.specs.Statuses.{InWindow, IsStatus};
 ghost use Rattle.grants.specs.Summaries.{Kept};
 ghost use Rattle.grants.specs.Verdicts.{IsComplete, IsGiven, StandsAlone};
 ghost use Rattle.grants.specs.declared.outcome.Status.{Status};
 ghost use Rattle.grants.specs.declared.outcome.Status.TheVariants.{Disputed, Refused};
 ghost use Rattle.outcomes.specs.HostFile.{IsHostFile, IsHostFileAfter, Line, IsLine, lines_after};
+ghost use Rattle.outcomes.specs.LinesLeft.{lines_left};
 ghost use Rattle.outcomes.specs.Outcomes.{AreLive, ComesTo, LiveGrant, NobodyAsks};
 ghost use Rattle.outcomes.specs.Parked.{AreParked, name_meant};
 ghost use Rattle.outcomes.specs.Rights.{GivesRights, GivesRightsAfter};
@@ -94,8 +97,9 @@ pub fn file_gives_rights()
 
 /// A line is left after a moment exactly if it is one of the host's lines and the last moment of
 /// its window is not before that moment: a line that ends at the moment stays, and the file after
-/// moment 0 is the whole file. The file after a moment gives the rights from then on, whatever
-/// lines were left out, if at most 8,192 are left.
+/// moment 0 is the whole file. Without a moment all lines are left. A line is left up to the last
+/// moment at which its rule takes part. The file after a moment gives the rights from then on,
+/// whatever lines were left out, if at most 8,192 are left.
 pub fn ended_lines_give_nothing()
     ensures left { (f : RosterFields Cmnd) (set : List Message) (host : List ℕ)
         (moment : ℕ) (lines : List Line) (line : Line) → (is : IsLine f set host line)
@@ -104,6 +108,11 @@ pub fn ended_lines_give_nothing()
         ≡ Some 1_767_610_801 → (lines_after 1_767_610_800 (a ∷ b ∷ []) ≡ a ∷ b ∷ [])
         × (lines_after 1_767_610_801 (a ∷ b ∷ []) ≡ b ∷ [])
         × (lines_after 1_767_610_802 (a ∷ b ∷ []) ≡ []) }
+    ensures all { (lines : List Line) → lines_left None lines ≡ lines }
+    ensures some { (moment : ℕ) (lines : List Line)
+        → lines_left (Some moment) lines ≡ lines_after moment lines }
+    ensures decides { (last : Option ℕ) (moment : ℕ)
+        → lasts_until last moment ≡ is_not_after last moment }
     ensures whole { (f : RosterFields Cmnd) (base : List Entry)
         (set : List Message) (host text : List ℕ)
         → IsHostFileAfter f base set host 0 text ↔ IsHostFile f base set host text }

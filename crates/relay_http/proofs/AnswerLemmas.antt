@@ -1,4 +1,4 @@
--- The desk's answers as replies.
+-- The desk's answers as responses.
 use Rattle.std.proofs.Common.{◌≡◌, ◌⊎◌, ◌<◌, ◌≤◌, ◌&&◌, ◌==◌, ◌∙◌, ℕ, Bool, true, false, List, []}
 use Rattle.std.proofs.Common.{◌∷◌, length, nat_le, Result, Ok, Err, String, sym, ap, refl, inl, inr}
 use Rattle.std.proofs.lemmas.Bool.{cases_Bool, leb-true, leb-false}
@@ -24,19 +24,18 @@ use Rattle.desk.specs.declared.ack.Ack.{Ack}
 use Rattle.desk.specs.declared.refusal.Refusal.{Refusal}
 use Rattle.desk.specs.declared.refusal.Refusal.TheVariants.{UnknownRelay, UnknownHost, TooLong, NotCanonical, BadField, Denied, TooManyRules}
 use Rattle.desk.specs.declared.refusal.Refusal.TheVariants.{RosterChanged, NotADesk, OldSchema, Storage, NoMemory, BaseTooLarge}
-use Rattle.review.specs.Report.{IsReport}
-use Rattle.relay_http.specs.Asked.{Asked, deliver, report}
+use Rattle.relay_http.specs.Request.{Action, deliver}
 use Rattle.relay_http.specs.Lasting.{IsAddedBy, Lasts}
 use Rattle.relay_http.specs.Prepared.{to_question}
 use Rattle.relay_http.specs.declared.status.Status.TheVariants as status
-use Rattle.relay_http.specs.Replies.{IsFileReply, IsReply, IsWanting, Reply, done, is_known_host, refusal, to_delivery}
+use Rattle.relay_http.specs.Responses.{IsFileResponse, IsResponse, IsServerFailure, Response, done, is_known_host, refusal, to_delivery}
 
--- the two wants of a refusal, as replies
-wanting : (e : Refusal) → IsWant e → IsWanting (refusal e)
-wanting e (inl memory) = inl (ap refusal memory)
-wanting e (inr storage) = inr (ap refusal storage)
+-- the two wants of a refusal, as responses
+server_failure : (e : Refusal) → IsWant e → IsServerFailure (refusal e)
+server_failure e (inl memory) = inl (ap refusal memory)
+server_failure e (inr storage) = inr (ap refusal storage)
 
--- ---- only one reply says that the storage failed
+-- ---- only one response says that the storage failed
 
 abbrev says_storage : List ℕ → Bool
 says_storage [] = false
@@ -45,7 +44,7 @@ says_storage (a ∷ b ∷ more) = (a == 75) && (b == 52)
 
 other : (e : Refusal) → says_storage (refusal e).body ≡ false → refusal e ≡ refusal Storage → e ≡ Storage
 other e differs same =
-    let wrong : false ≡ true = sym differs ∙ ap (λ (r : Reply). says_storage r.body) same in
+    let wrong : false ≡ true = sym differs ∙ ap (λ (r : Response). says_storage r.body) same in
     absurd cc
 
 pub is_storage : (e : Refusal) → refusal e ≡ refusal Storage → e ≡ Storage
@@ -70,30 +69,29 @@ is_storage (Denied denials.WindowTooLong) same = other (Denied denials.WindowToo
 is_storage (Denied denials.WindowBackwards) same = other (Denied denials.WindowBackwards) refl same
 is_storage Storage same = refl
 
--- no text is that reply
+-- no text is that response
 text_cause : (r : Result (String Global) Refusal) → to_question r ≡ refusal Storage → r ≡ Err Storage
 text_cause (Ok s) same =
-    let wrong : status.Done ≡ status.ServiceUnavailable = ap (λ (r : Reply). r.status) same in
+    let wrong : status.Done ≡ status.ServiceUnavailable = ap (λ (r : Response). r.status) same in
     absurd cc
 text_cause (Err e) same = ap (λ (x : Refusal). Err x) (is_storage e same)
 
 -- nor one of a want
 pub text_served : {K : Type 0} {is_up is_clean : K → Type 0} {failures : K → ℕ} {beside : K → TableWithRows
     → Type 0} {a b : K} (r : Result (String Global) Refusal) → IsServed is_up is_clean failures beside a b (r ≡ Err Storage) (IsErrAnd r IsWant)
-    → IsServed is_up is_clean failures beside a b (to_question r ≡ refusal Storage) (IsWanting (to_question r))
-text_served r served = served_as (to_question r ≡ refusal Storage) (IsWanting (to_question r)) (text_cause r) (text_want r) served
+    → IsServed is_up is_clean failures beside a b (to_question r ≡ refusal Storage) (IsServerFailure (to_question r))
+text_served r served = served_as (to_question r ≡ refusal Storage) (IsServerFailure (to_question r)) (text_cause r) (text_want r) served
   where
-    text_want : (r : Result (String Global) Refusal) → IsErrAnd r IsWant → IsWanting (to_question r)
+    text_want : (r : Result (String Global) Refusal) → IsErrAnd r IsWant → IsServerFailure (to_question r)
     text_want (Ok s) none = absurd none
-    text_want (Err e) want = wanting e want
+    text_want (Err e) want = server_failure e want
 
--- ---- a report
+-- ---- a text that is told, as a report
 
-pub report_right : (roster : Reading) (base : List Entry) (set : List Message) (at : ℕ) (r : Result (String Global) Refusal)
-    → IfOk r (λ s. IsReport roster.says base set at (string_bytes s)) → IfErr r IsWant
-    → IsReply roster base set (report at) (to_question r) ⊎ IsWanting (to_question r)
-report_right roster base set at (Ok s) is err = inl (string_bytes s, is, refl)
-report_right roster base set at (Err e) is err = inr (wanting e err)
+pub told_right : (Is : List ℕ → Type 0) (r : Result (String Global) Refusal) → IfOk r (λ s. Is (string_bytes s)) → IfErr r IsWant
+    → ((text : List ℕ) × Is text × (to_question r ≡ done text)) ⊎ IsServerFailure (to_question r)
+told_right Is (Ok s) is err = inl (string_bytes s, is, refl)
+told_right Is (Err e) is err = inr (server_failure e err)
 
 -- ---- a host's file
 
@@ -119,7 +117,7 @@ module _ (left : List Line → List Line) (f : RosterFields Cmnd) (base : List E
       → ((ls : List Line) → AreLines f set host ls → 8_192 < length (left ls) → MatchResult r (λ _. ⊥) (λ e. (e ≡ UnknownHost) ⊎ (e ≡ TooManyRules) ⊎ IsWant e))
       → Unknown f host r
       → IfErr r (λ e. (e ≡ UnknownHost) ⊎ (e ≡ TooManyRules) ⊎ IsWant e)
-      → IsFileReply left f base set host (to_question r) ⊎ IsWanting (to_question r)
+      → IsFileResponse left f base set host (to_question r) ⊎ IsServerFailure (to_question r)
   file_right (Ok s) name file few many unknown err =
       let there = among f host (Ok s) (λ e. cc) unknown in
       let short : length (left file.0) ≤ 8_192 = elim (cases_Bool (nat_le (length (left file.0)) 8_192)) as (λ _. length (left file.0) ≤ 8_192) [
@@ -138,7 +136,7 @@ module _ (left : List Line → List Line) (f : RosterFields Cmnd) (base : List E
         | inr gt ↦ leb-false (length (left ls)) 8_192 gt
       ] in
       inl (inr (inr (known_is f host name ∙ there, long, ap refusal past)))
-  file_right (Err e) name file few many unknown (inr (inr want)) = inr (wanting e want)
+  file_right (Err e) name file few many unknown (inr (inr want)) = inr (server_failure e want)
 
 pub left_whole : (f : RosterFields Cmnd) (base : List Entry) (set : List Message) (host : List ℕ) (r : Result (String Global) Refusal)
     → IfOk r (λ s. IsHostFile f base set host (string_bytes s)) → IfOk r (λ s. Left (λ lines. lines) f base set host (string_bytes s))
@@ -150,7 +148,7 @@ pub left_after : (f : RosterFields Cmnd) (base : List Entry) (set : List Message
 left_after f base set host at (Ok s) file = (file.lines, file.lines_are, file.text_is)
 left_after f base set host at (Err e) file = tt
 
--- ---- what a reply leaves
+-- ---- what a response leaves
 
 -- a refusal is not told by the status 200
 not_done : (e : Refusal) (P : Type 0) → (refusal e).status ≡ status.Done → P
@@ -169,14 +167,14 @@ not_done NoMemory P is = absurd cc
 not_done BaseTooLarge P is = absurd cc
 
 module _ {K : Type 0} (g : Ghosts K) (f : RosterFields Cmnd) (roster : List ℕ) (a b : K) where
-  -- a question's reply
-  pub text_lasts : (asked : Asked ℕ) (r : Result (String Global) Refusal) → OnlyAsks g a b r
-      → (g.is_clean b → AddsOnly (g.may_leave a) (g.may_leave b) (IsAddedBy (g.is_up a) f roster (g.holds a) asked))
-      → Lasts g f roster a b asked (to_question r)
-  text_lasts asked (Ok s) asks leaves = record { live = λ clean done. asks.live clean; leaves = leaves }
-  text_lasts asked (Err e) asks leaves = record { live = λ clean done. not_done e (g.is_up b) done; leaves = leaves }
+  -- a question's response
+  pub text_lasts : (action : Action ℕ) (r : Result (String Global) Refusal) → OnlyAsks g a b r
+      → (g.is_clean b → AddsOnly (g.may_leave a) (g.may_leave b) (IsAddedBy (g.is_up a) f roster (g.holds a) action))
+      → Lasts g f roster a b action (to_question r)
+  text_lasts action (Ok s) asks leaves = record { live = λ clean done. asks.live clean; leaves = leaves }
+  text_lasts action (Err e) asks leaves = record { live = λ clean done. not_done e (g.is_up b) done; leaves = leaves }
 
-  -- a delivery's reply
+  -- a delivery's response
   pub delivery_lasts : (relay body : List ℕ) (r : Result Ack Refusal) → (g.is_clean b → OnOk r (g.is_up b))
       → (g.is_clean b → AddsOnly (g.may_leave a) (g.may_leave b) (IsAddedBy (g.is_up a) f roster (g.holds a) (deliver relay body)))
       → Lasts g f roster a b (deliver relay body) (to_delivery r)
@@ -184,6 +182,6 @@ module _ {K : Type 0} (g : Ghosts K) (f : RosterFields Cmnd) (roster : List ℕ)
   delivery_lasts relay body (Err e) live leaves = record { live = λ clean done. not_done e (g.is_up b) done; leaves = leaves }
 
 -- a refusal without a question to the keeper
-pub refusal_lasts : {K : Type 0} (g : Ghosts K) (f : RosterFields Cmnd) (roster : List ℕ) (a : K) (asked : Asked ℕ) (e : Refusal)
-    → Lasts g f roster a a asked (refusal e)
-refusal_lasts g f roster a asked e = record { live = λ clean done. not_done e (g.is_up a) done; leaves = λ clean left may. inl may }
+pub refusal_lasts : {K : Type 0} (g : Ghosts K) (f : RosterFields Cmnd) (roster : List ℕ) (a : K) (action : Action ℕ) (e : Refusal)
+    → Lasts g f roster a a action (refusal e)
+refusal_lasts g f roster a action e = record { live = λ clean done. not_done e (g.is_up a) done; leaves = λ clean left may. inl may }

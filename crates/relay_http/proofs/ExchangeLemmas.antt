@@ -13,18 +13,19 @@ use Rattle.desk_schema.specs.Beside.{TableWithRows}
 use Rattle.desk_store.specs.Keeping.{HasFailed}
 use Rattle.desk_store.specs.Serving.{IsServed}
 use Rattle.desk_store.proofs.ServingLemmas.{served_as}
-use Rattle.relay_http.specs.Asked.{Asked, Request, deliver, all_messages, count, grants, parked, host_file, host_file_after, report, refused}
+use Rattle.relay_http.specs.Request.{Action, Request, deliver, all_messages, count, grants, parked, host_file, host_file_after, report, refused}
+use Rattle.relay_http.specs.Request.{requests, requests_after, named_request}
 use Rattle.relay_http.specs.Counting.{most_failures, one_failure}
-use Rattle.relay_http.specs.Exchange.{IsAcknowledged, IsExchange, IsPost, WritesWant}
-use Rattle.relay_http.specs.Replies.{Leaves, Reply}
-use Rattle.relay_http.specs.Reply.{written}
-use Rattle.relay_http.specs.Wanted.{Asks, Dates, HasHead, asks_by, front, is_head}
+use Rattle.relay_http.specs.Exchange.{IsAcknowledged, IsExchange, IsPost, WritesServerFailure}
+use Rattle.relay_http.specs.Responses.{Leaves, Response}
+use Rattle.relay_http.specs.Response.{written}
+use Rattle.relay_http.specs.RequestBytes.{IsHttpRequest, Dates, HasHead, request_from, front, is_head}
 use Rattle.relay_http.specs.declared.fault.RequestFault.TheVariants.{BadHead}
 use Rattle.relay_http.specs.declared.status.Status.{Status}
 use Rattle.relay_http.specs.declared.status.Status.TheVariants.{Done, BadRequest, Forbidden, NotFound, MethodNotAllowed}
 use Rattle.relay_http.specs.declared.status.Status.TheVariants.{LengthRequired, ContentTooLarge, ServiceUnavailable}
 use Rattle.relay_http.proofs.LawLemmas.{only_messages_deliver, only_post_delivers}
-use Rattle.relay_http.proofs.WantedLemmas.{one_request}
+use Rattle.relay_http.proofs.RequestLemmas.{one_request}
 
 -- a failure that is counted is seen in the count
 pub failure_seen : (n : ℕ) → HasFailed n (one_failure n)
@@ -34,20 +35,23 @@ failure_seen n = elim (cases_Bool (nat_le (n + 1) most_failures)) as (λ _. HasF
 ]
 
 -- what holds of the request of the bytes that were read holds of the request of all
-pub holds_of_all : (P : Request ℕ → Type 0) (known : Option (List ℕ)) (bytes : List ℕ) (asked : Request ℕ) → Asks bytes asked
-    → IfSome known (λ all. (request : Request ℕ) → Asks bytes request → Asks all request) → P asked
-    → IfSome known (λ all. (request : Request ℕ) → Asks all request → P request)
-holds_of_all P None bytes asked asks more here = tt
-holds_of_all P (Some all) bytes asked asks more here = λ request wanted. subst P (one_request all asked request (more asked asks) wanted) here
+pub holds_of_all : (P : Request ℕ → Type 0) (known : Option (List ℕ)) (bytes : List ℕ) (read : Request ℕ) → IsHttpRequest bytes read
+    → IfSome known (λ all. (request : Request ℕ) → IsHttpRequest bytes request → IsHttpRequest all request) → P read
+    → IfSome known (λ all. (request : Request ℕ) → IsHttpRequest all request → P request)
+holds_of_all P None bytes read asks more here = tt
+holds_of_all P (Some all) bytes read asks more here = λ request is. subst P (one_request all read request (more read asks) is) here
 
 -- ---- deliveries are POSTs to a relay's messages
 
-dated_delivery : (asked : Asked (List ℕ)) (relay body : List ℕ) → Dates asked (deliver relay body) → asked ≡ deliver relay body
+dated_delivery : (action : Action (List ℕ)) (relay body : List ℕ) → Dates action (deliver relay body) → action ≡ deliver relay body
 dated_delivery (deliver r b) relay body e =
-    let texts : Asked ℕ → Asked (List ℕ) = λ a. elim a [
+    let texts : Action ℕ → Action (List ℕ) = λ a. elim a [
       | deliver x y ↦ deliver x y
       | all_messages ↦ parked
       | count ↦ parked
+      | requests ↦ parked
+      | requests_after at ↦ parked
+      | named_request asker number ↦ parked
       | grants at ↦ parked
       | parked ↦ parked
       | host_file host ↦ parked
@@ -58,31 +62,38 @@ dated_delivery (deliver r b) relay body e =
     sym (ap texts e)
 dated_delivery all_messages relay body e = absurd cc
 dated_delivery count relay body e = absurd cc
-dated_delivery (grants at) relay body (inl x) = absurd (let wrong : ◌≡◌ {A = Asked ℕ} (deliver relay body) (grants x.0) = x.2 in cc)
+dated_delivery requests relay body e = absurd cc
+dated_delivery (requests_after at) relay body (inl x) = absurd (let wrong : ◌≡◌ {A = Action ℕ} (deliver relay body) (requests_after x.0) = x.2 in cc)
+dated_delivery (requests_after at) relay body (inr x) = absurd (let wrong = x.1 in cc)
+dated_delivery (named_request asker number) relay body (inl x) =
+    absurd (let wrong : ◌≡◌ {A = Action ℕ} (deliver relay body) (named_request asker x.0) = x.3 in cc)
+dated_delivery (named_request asker number) relay body (inr x) = absurd (let wrong = x.1 in cc)
+dated_delivery (grants at) relay body (inl x) = absurd (let wrong : ◌≡◌ {A = Action ℕ} (deliver relay body) (grants x.0) = x.2 in cc)
 dated_delivery (grants at) relay body (inr x) = absurd (let wrong = x.1 in cc)
 dated_delivery parked relay body e = absurd cc
 dated_delivery (host_file host) relay body e = absurd cc
-dated_delivery (host_file_after host at) relay body (inl x) = absurd (let wrong : ◌≡◌ {A = Asked ℕ} (deliver relay body) (host_file_after host x.0) = x.2 in cc)
+dated_delivery (host_file_after host at) relay body (inl x) =
+    absurd (let wrong : ◌≡◌ {A = Action ℕ} (deliver relay body) (host_file_after host x.0) = x.2 in cc)
 dated_delivery (host_file_after host at) relay body (inr x) = absurd (let wrong = x.1 in cc)
-dated_delivery (report at) relay body (inl x) = absurd (let wrong : ◌≡◌ {A = Asked ℕ} (deliver relay body) (report x.0) = x.2 in cc)
+dated_delivery (report at) relay body (inl x) = absurd (let wrong : ◌≡◌ {A = Action ℕ} (deliver relay body) (report x.0) = x.2 in cc)
 dated_delivery (report at) relay body (inr x) = absurd (let wrong = x.1 in cc)
 dated_delivery (refused fault) relay body e = absurd cc
 
-delivery_is_post : (bytes : List ℕ) (request : Request ℕ) (relay body : List ℕ) → Asks bytes request → request.asked ≡ deliver relay body
+delivery_is_post : (bytes : List ℕ) (request : Request ℕ) (relay body : List ℕ) → IsHttpRequest bytes request → request.action ≡ deliver relay body
     → IsPost bytes × (request.with_body ≡ true)
 delivery_is_post bytes request relay body (inl x) e =
     let h = x.0 in
     let rest = drop (length (print_request h)) bytes in
     let fields = map name_and_value h.fields in
-    let is : (asks_by h bytes).asked ≡ deliver relay body =
-    dated_delivery (asks_by h bytes).asked relay body (subst (λ (a : Asked ℕ). Dates (asks_by h bytes).asked a) e x.2.1) in
+    let is : (request_from h bytes).action ≡ deliver relay body =
+    dated_delivery (request_from h bytes).action relay body (subst (λ (a : Action ℕ). Dates (request_from h bytes).action a) e x.2.1) in
     let post = only_post_delivers h.method h.target h.minor fields rest relay body is in
-    let place = only_messages_deliver h.method h.target h.minor fields rest relay body is in (
-      record { head = h; has = x.1; method = post.0; route = place.0; found = place.1; place = place.2 },
+    let route = only_messages_deliver h.method h.target h.minor fields rest relay body is in (
+      record { head = h; has = x.1; method = post.0; route = route.0; found = route.1; messages = route.2 },
       x.2.0 ∙ ap (λ (m : List ℕ). not (is_head m)) post.0,
     )
 delivery_is_post bytes request relay body (inr x) e =
-    let wrong : ◌≡◌ {A = Asked ℕ} (refused BadHead) (deliver relay body) = sym (ap (λ (r : Request ℕ). r.asked) x.1) ∙ e in
+    let wrong : ◌≡◌ {A = Action ℕ} (refused BadHead) (deliver relay body) = sym (ap (λ (r : Request ℕ). r.action) x.1) ∙ e in
     absurd cc
 
 -- ---- what an exchange leaves
@@ -97,43 +108,46 @@ is_done LengthRequired = inr (λ e. cc)
 is_done ContentTooLarge = inr (λ e. cc)
 is_done ServiceUnavailable = inr (λ e. cc)
 
-only_done_leaves : (Same : Type 0) (old new : Message → Type 0) (asked : Asked ℕ) (reply : Reply) → Leaves Same old new asked reply
-    → Same ⊎ ((relay body : List ℕ) × (asked ≡ deliver relay body) × (reply.status ≡ Done))
-only_done_leaves Same old new (deliver relay body) reply left =
-    elim (is_done reply.status) as (λ _. Same ⊎ ((r b : List ℕ) × ◌≡◌ {A = Asked ℕ} (deliver relay body) (deliver r b) × (reply.status ≡ Done))) [
+only_done_leaves : (Same : Type 0) (old new : Message → Type 0) (action : Action ℕ) (response : Response) → Leaves Same old new action response
+    → Same ⊎ ((relay body : List ℕ) × (action ≡ deliver relay body) × (response.status ≡ Done))
+only_done_leaves Same old new (deliver relay body) response left =
+    elim (is_done response.status) as (λ _. Same ⊎ ((r b : List ℕ) × ◌≡◌ {A = Action ℕ} (deliver relay body) (deliver r b) × (response.status ≡ Done))) [
       | inl done ↦ inr (relay, body, refl, done)
       | inr other ↦ inl (left.1 other)
     ]
-only_done_leaves Same old new all_messages reply left = inl left
-only_done_leaves Same old new count reply left = inl left
-only_done_leaves Same old new (grants at) reply left = inl left
-only_done_leaves Same old new parked reply left = inl left
-only_done_leaves Same old new (host_file host) reply left = inl left
-only_done_leaves Same old new (host_file_after host at) reply left = inl left
-only_done_leaves Same old new (report at) reply left = inl left
-only_done_leaves Same old new (refused fault) reply left = inl left
+only_done_leaves Same old new all_messages response left = inl left
+only_done_leaves Same old new count response left = inl left
+only_done_leaves Same old new requests response left = inl left
+only_done_leaves Same old new (requests_after at) response left = inl left
+only_done_leaves Same old new (named_request asker number) response left = inl left
+only_done_leaves Same old new (grants at) response left = inl left
+only_done_leaves Same old new parked response left = inl left
+only_done_leaves Same old new (host_file host) response left = inl left
+only_done_leaves Same old new (host_file_after host at) response left = inl left
+only_done_leaves Same old new (report at) response left = inl left
+only_done_leaves Same old new (refused fault) response left = inl left
 
 module _ (roster : Reading) (base : List Entry) (IsUp : Type 0) (old new : Message
     → Type 0) (Same : Type 0) (Served : Type 0 → Type 0 → Type 0) (Wrote : List ℕ → Type 0) where
   -- an exchange changes nothing, or it is acknowledged
-  pub changes : (bytes : List ℕ) (request : Request ℕ) → Asks bytes request → IsExchange roster base IsUp old new Same Served Wrote request → IsUp
+  pub changes : (bytes : List ℕ) (request : Request ℕ) → IsHttpRequest bytes request → IsExchange roster base IsUp old new Same Served Wrote request → IsUp
       → Same ⊎ IsAcknowledged bytes Wrote
   changes bytes request asks x up =
-      elim (only_done_leaves Same old new request.asked x.reply (x.answered.leaves up)) as (λ _. Same ⊎ IsAcknowledged bytes Wrote) [
+      elim (only_done_leaves Same old new request.action x.response (x.answered.leaves up)) as (λ _. Same ⊎ IsAcknowledged bytes Wrote) [
         | inl same ↦ inl same
         | inr d ↦ let post = delivery_is_post bytes request d.0 d.1 asks d.2 in
             inr (
               post.0,
               (
-                x.reply.body,
-                subst (λ (b : Bool). Wrote (written Done x.reply.body b)) post.1
-                    (subst (λ (s : Status). Wrote (written s x.reply.body request.with_body)) d.3 x.wrote),
+                x.response.body,
+                subst (λ (b : Bool). Wrote (written Done x.response.body b)) post.1
+                    (subst (λ (s : Status). Wrote (written s x.response.body request.with_body)) d.3 x.wrote),
               ),
             )
       ]
 
   -- a head with another method is not that of a POST
-  pub queries : (bytes : List ℕ) (request : Request ℕ) → Asks bytes request → IsExchange roster base IsUp old new Same Served Wrote request → IsUp
+  pub queries : (bytes : List ℕ) (request : Request ℕ) → IsHttpRequest bytes request → IsExchange roster base IsUp old new Same Served Wrote request → IsUp
       → (head : RequestHead) → HasHead bytes head → head.method ≢ codes "POST" → Same
   queries bytes request asks x up head has differs =
       elim (changes bytes request asks x up) as (λ _. Same) [
@@ -143,24 +157,24 @@ module _ (roster : Reading) (base : List Entry) (IsUp : Type 0) (old new : Messa
       ]
 
   -- the same, of all the bytes of a stream
-  pub all_changes : (known : Option (List ℕ)) (bytes : List ℕ) (asked : Request ℕ) → Asks bytes asked
-      → IfSome known (λ all. (request : Request ℕ) → Asks bytes request → Asks all request)
-      → IsExchange roster base IsUp old new Same Served Wrote asked → IsUp → IfSome known (λ all. Same ⊎ IsAcknowledged all Wrote)
-  all_changes None bytes asked asks more x up = tt
-  all_changes (Some all) bytes asked asks more x up = changes all asked (more asked asks) x up
+  pub all_changes : (known : Option (List ℕ)) (bytes : List ℕ) (read : Request ℕ) → IsHttpRequest bytes read
+      → IfSome known (λ all. (request : Request ℕ) → IsHttpRequest bytes request → IsHttpRequest all request)
+      → IsExchange roster base IsUp old new Same Served Wrote read → IsUp → IfSome known (λ all. Same ⊎ IsAcknowledged all Wrote)
+  all_changes None bytes read asks more x up = tt
+  all_changes (Some all) bytes read asks more x up = changes all read (more read asks) x up
 
-  pub all_queries : (known : Option (List ℕ)) (bytes : List ℕ) (asked : Request ℕ) → Asks bytes asked
-      → IfSome known (λ all. (request : Request ℕ) → Asks bytes request → Asks all request)
-      → IsExchange roster base IsUp old new Same Served Wrote asked → IsUp
+  pub all_queries : (known : Option (List ℕ)) (bytes : List ℕ) (read : Request ℕ) → IsHttpRequest bytes read
+      → IfSome known (λ all. (request : Request ℕ) → IsHttpRequest bytes request → IsHttpRequest all request)
+      → IsExchange roster base IsUp old new Same Served Wrote read → IsUp
       → IfSome known (λ all. (head : RequestHead) → HasHead all head → head.method ≢ codes "POST" → Same)
-  all_queries None bytes asked asks more x up = tt
-  all_queries (Some all) bytes asked asks more x up = queries all asked (more asked asks) x up
+  all_queries None bytes read asks more x up = tt
+  all_queries (Some all) bytes read asks more x up = queries all read (more read asks) x up
 
 -- ---- what storage did
 
 pub exchange_served : {K : Type 0} {is_up is_clean : K → Type 0} {failures : K → ℕ} {beside : K → TableWithRows → Type 0} {a b : K} (roster : Reading)
     (base : List Entry) (IsUp : Type 0) (old new : Message → Type 0) (Same : Type 0) (Wrote : List ℕ → Type 0) (request : Request ℕ)
     → IsExchange roster base IsUp old new Same (IsServed is_up is_clean failures beside a b) Wrote request
-    → IsServed is_up is_clean failures beside a b ⊥ (WritesWant Wrote)
+    → IsServed is_up is_clean failures beside a b ⊥ (WritesServerFailure Wrote)
 exchange_served roster base IsUp old new Same Wrote request x =
-    served_as ⊥ (WritesWant Wrote) (λ none. absurd none) (λ want. (x.reply, request.with_body, want, x.wrote)) x.answered.served
+    served_as ⊥ (WritesServerFailure Wrote) (λ none. absurd none) (λ want. (x.response, request.with_body, want, x.wrote)) x.answered.served

@@ -6,50 +6,58 @@ use Rattle.std.proofs.lemmas.Bool.Decides.{nat_tests}
 use Rattle.std.proofs.lemmas.Slice.Eq.{bytes_eq-Decides}
 use Rattle.matchit.specs.Router.{RouteOf}
 use Rattle.matchit.specs.Seek.{first}
-use Rattle.relay_http.specs.Asked.{Asked, Request, deliver, all_messages, count, grants, parked, host_file, host_file_after, report, refused}
+use Rattle.relay_http.specs.Request.{Action, Request, deliver, all_messages, count, grants, parked, host_file, host_file_after, report, refused}
+use Rattle.relay_http.specs.Request.{requests, requests_after, named_request}
 use Rattle.relay_http.specs.Content.{by_lengths, content, content_of, is_length, most_content, sized}
 use Rattle.relay_http.specs.Fields.{Fields, values, is_bad_host}
 use Rattle.relay_http.specs.Routes.{routes, part}
 use Rattle.relay_http.specs.Target.{is_plain}
-use Rattle.relay_http.specs.Wanted.{Asks, AsksByHead, Dates, allow, asked_by, at_place, delivered, methods_of, on_route, sought}
+use Rattle.relay_http.specs.RequestBytes.{IsHttpRequest, IsHttpRequestByHead, Dates, allow, action_by, by_method, delivered, methods_of, on_route, sought}
 use Rattle.relay_http.specs.declared.fault.RequestFault.{RequestFault}
 use Rattle.relay_http.specs.declared.fault.RequestFault.TheVariants.{BadHead, BadLength, BadMethod, BadTarget, ShortBody, TooLong}
-use Rattle.relay_http.specs.declared.place.Place.{Place}
-use Rattle.relay_http.specs.declared.place.Place.TheVariants.{Messages, AllMessages, Count, Grants, Parked, HostFile, HostFileAfter, Report}
+use Rattle.relay_http.specs.declared.route.Route.{Route}
+use Rattle.relay_http.specs.declared.route.Route.TheVariants.{Messages, AllMessages, Count, Grants, Parked, HostFile, HostFileAfter, Report}
+use Rattle.relay_http.specs.declared.route.Route.TheVariants.{Requests, RequestsAfter, NamedRequest}
 use Rattle.relay_http.proofs.SettleLemmas.{kept}
 
-pub rest_ignored : (bytes more : List ℕ) (request : Request ℕ) → AsksByHead bytes request
-    → (request.asked ≡ refused ShortBody → ⊥) → Asks (bytes ++ more) request
+pub rest_ignored : (bytes more : List ℕ) (request : Request ℕ) → IsHttpRequestByHead bytes request
+    → (request.action ≡ refused ShortBody → ⊥) → IsHttpRequest (bytes ++ more) request
 rest_ignored bytes more request x whole =
-    kept bytes more request x (inl (λ e. whole (subst (λ (r : Asked (List ℕ)). Dates r request.asked) e x.2.1)))
+    kept bytes more request x (inl (λ e. whole (subst (λ (r : Action (List ℕ)). Dates r request.action) e x.2.1)))
 
-head_at : (place : Place) (named : List ℕ → List ℕ) (fields : Fields) (rest : List ℕ)
-    → at_place place (codes "HEAD") named fields rest ≡ at_place place (codes "GET") named fields rest
+head_at : (route : Route) (named : List ℕ → List ℕ) (fields : Fields) (rest : List ℕ)
+    → by_method route (codes "HEAD") named fields rest ≡ by_method route (codes "GET") named fields rest
 head_at Messages named fields rest = refl
 head_at AllMessages named fields rest = refl
 head_at Count named fields rest = refl
+head_at Requests named fields rest = refl
+head_at RequestsAfter named fields rest = refl
+head_at NamedRequest named fields rest = refl
 head_at Grants named fields rest = refl
 head_at Parked named fields rest = refl
 head_at HostFile named fields rest = refl
 head_at HostFileAfter named fields rest = refl
 head_at Report named fields rest = refl
 
-head_on : (route : Option (RouteOf Place)) (target : List ℕ) (fields : Fields) (rest : List ℕ)
+head_on : (route : Option (RouteOf Route)) (target : List ℕ) (fields : Fields) (rest : List ℕ)
     → on_route route (codes "HEAD") target fields rest ≡ on_route route (codes "GET") target fields rest
 head_on None target fields rest = refl
 head_on (Some route) target fields rest = head_at route.value (λ name. part name route target) fields rest
 
-pub head_asks : (target : List ℕ) (minor : ℕ) (fields : Fields) (rest : List ℕ)
-    → asked_by (codes "HEAD") target minor fields rest ≡ asked_by (codes "GET") target minor fields rest
-head_asks target minor fields rest =
-    ap (λ (a : Asked (List ℕ)). cond (is_bad_host minor (values (codes "host") fields)) (refused BadHead) (cond (not (is_plain target)) (refused BadTarget) a))
+pub head_action : (target : List ℕ) (minor : ℕ) (fields : Fields) (rest : List ℕ)
+    → action_by (codes "HEAD") target minor fields rest ≡ action_by (codes "GET") target minor fields rest
+head_action target minor fields rest =
+    ap (λ (a : Action (List ℕ)). cond (is_bad_host minor (values (codes "host") fields)) (refused BadHead) (cond (not (is_plain target)) (refused BadTarget) a))
     (head_on (first routes target) target fields rest)
 
 -- if it is a delivery, the method is POST, and the body is a beginning of the rest, of at most 16,384 bytes
-abbrev IsPosted : (method rest : List ℕ) → Asked (List ℕ) → Type 0
+abbrev IsPosted : (method rest : List ℕ) → Action (List ℕ) → Type 0
 IsPosted method rest (deliver relay body) = (method ≡ codes "POST") × (length body ≤ 16384) × (body ≡ take (length body) rest)
 IsPosted method rest all_messages = Unit {0}
 IsPosted method rest count = Unit {0}
+IsPosted method rest requests = Unit {0}
+IsPosted method rest (requests_after at) = Unit {0}
+IsPosted method rest (named_request asker number) = Unit {0}
 IsPosted method rest (grants at) = Unit {0}
 IsPosted method rest parked = Unit {0}
 IsPosted method rest (host_file host) = Unit {0}
@@ -93,27 +101,30 @@ module _ (rest : List ℕ) where
   posted method relay is (Ok body) h = (is, h.0, h.1)
   posted method relay is (Err fault) h = tt
 
-  posted_at : (place : Place) (method : List ℕ) (named : List ℕ → List ℕ) (fields : Fields) → IsPosted method rest (at_place place method named fields rest)
-  posted_at place method named fields = by place (allow (methods_of place) method) refl
+  posted_at : (route : Route) (method : List ℕ) (named : List ℕ → List ℕ) (fields : Fields) → IsPosted method rest (by_method route method named fields rest)
+  posted_at route method named fields = by route (allow (methods_of route) method) refl
     where
-      by : (place : Place) (b : Bool) → allow (methods_of place) method ≡ b
-          → IsPosted method rest (cond b (sought place named fields rest) (refused (BadMethod (methods_of place))))
-      by place false e = tt
+      by : (route : Route) (b : Bool) → allow (methods_of route) method ≡ b
+          → IsPosted method rest (cond b (sought route named fields rest) (refused (BadMethod (methods_of route))))
+      by route false e = tt
       by Messages true e = posted method (named (codes "relay")) ((bytes_eq-Decides method (codes "POST")).0 e) _
           (is_content (values (codes "transfer-encoding") fields) (values (codes "content-length") fields))
       by AllMessages true e = tt
       by Count true e = tt
+      by Requests true e = tt
+      by RequestsAfter true e = tt
+      by NamedRequest true e = tt
       by Grants true e = tt
       by Parked true e = tt
       by HostFile true e = tt
       by HostFileAfter true e = tt
       by Report true e = tt
 
-  posted_on : (route : Option (RouteOf Place)) (method target : List ℕ) (fields : Fields) → IsPosted method rest (on_route route method target fields rest)
+  posted_on : (route : Option (RouteOf Route)) (method target : List ℕ) (fields : Fields) → IsPosted method rest (on_route route method target fields rest)
   posted_on None method target fields = tt
   posted_on (Some route) method target fields = posted_at route.value method (λ name. part name route target) fields
 
-  posted_by : (method target : List ℕ) (minor : ℕ) (fields : Fields) → IsPosted method rest (asked_by method target minor fields rest)
+  posted_by : (method target : List ℕ) (minor : ℕ) (fields : Fields) → IsPosted method rest (action_by method target minor fields rest)
   posted_by method target minor fields = by (is_bad_host minor (values (codes "host") fields)) (not (is_plain target))
     where
       by : (a b : Bool)
@@ -123,16 +134,19 @@ module _ (rest : List ℕ) where
       by false false = posted_on (first routes target) method target fields
 
 pub only_post_delivers : (method target : List ℕ) (minor : ℕ) (fields : Fields) (rest relay body : List ℕ)
-    → asked_by method target minor fields rest ≡ deliver relay body
+    → action_by method target minor fields rest ≡ deliver relay body
     → (method ≡ codes "POST") × (length body ≤ 16384) × (body ≡ take (length body) rest)
 only_post_delivers method target minor fields rest relay body e =
-    subst (λ (a : Asked (List ℕ)). IsPosted method rest a) e (posted_by rest method target minor fields)
+    subst (λ (a : Action (List ℕ)). IsPosted method rest a) e (posted_by rest method target minor fields)
 
 -- if it is a delivery, its route is that of a relay's messages
-abbrev IsOfMessages : Option (RouteOf Place) → Asked (List ℕ) → Type 0
-IsOfMessages found (deliver relay body) = (route : RouteOf Place) × (found ≡ Some route) × (route.value ≡ Messages)
+abbrev IsOfMessages : Option (RouteOf Route) → Action (List ℕ) → Type 0
+IsOfMessages found (deliver relay body) = (route : RouteOf Route) × (found ≡ Some route) × (route.value ≡ Messages)
 IsOfMessages found all_messages = Unit {0}
 IsOfMessages found count = Unit {0}
+IsOfMessages found requests = Unit {0}
+IsOfMessages found (requests_after at) = Unit {0}
+IsOfMessages found (named_request asker number) = Unit {0}
 IsOfMessages found (grants at) = Unit {0}
 IsOfMessages found parked = Unit {0}
 IsOfMessages found (host_file host) = Unit {0}
@@ -140,29 +154,32 @@ IsOfMessages found (host_file_after host at) = Unit {0}
 IsOfMessages found (report at) = Unit {0}
 IsOfMessages found (refused fault) = Unit {0}
 
-messages_delivered : (route : RouteOf Place) (relay : List ℕ) → route.value ≡ Messages → (found : Result (List ℕ) RequestFault)
+messages_delivered : (route : RouteOf Route) (relay : List ℕ) → route.value ≡ Messages → (found : Result (List ℕ) RequestFault)
     → IsOfMessages (Some route) (delivered relay found)
 messages_delivered route relay is (Ok body) = (route, refl, is)
 messages_delivered route relay is (Err fault) = tt
 
 module _ (method target rest : List ℕ) (fields : Fields) where
-  messages_at : (route : RouteOf Place) (named : List ℕ → List ℕ) (place : Place) → route.value ≡ place
-      → (b : Bool) → IsOfMessages (Some route) (cond b (sought place named fields rest) (refused (BadMethod (methods_of place))))
-  messages_at route named place is false = tt
+  messages_at : (route : RouteOf Route) (named : List ℕ → List ℕ) (value : Route) → route.value ≡ value
+      → (b : Bool) → IsOfMessages (Some route) (cond b (sought value named fields rest) (refused (BadMethod (methods_of value))))
+  messages_at route named value is false = tt
   messages_at route named Messages is true = messages_delivered route (named (codes "relay")) is (content_of fields rest)
   messages_at route named AllMessages is true = tt
   messages_at route named Count is true = tt
+  messages_at route named Requests is true = tt
+  messages_at route named RequestsAfter is true = tt
+  messages_at route named NamedRequest is true = tt
   messages_at route named Grants is true = tt
   messages_at route named Parked is true = tt
   messages_at route named HostFile is true = tt
   messages_at route named HostFileAfter is true = tt
   messages_at route named Report is true = tt
 
-  messages_on : (found : Option (RouteOf Place)) → IsOfMessages found (on_route found method target fields rest)
+  messages_on : (found : Option (RouteOf Route)) → IsOfMessages found (on_route found method target fields rest)
   messages_on None = tt
   messages_on (Some route) = messages_at route (λ name. part name route target) route.value refl (allow (methods_of route.value) method)
 
-  messages_by : (minor : ℕ) → IsOfMessages (first routes target) (asked_by method target minor fields rest)
+  messages_by : (minor : ℕ) → IsOfMessages (first routes target) (action_by method target minor fields rest)
   messages_by minor = by (is_bad_host minor (values (codes "host") fields)) (not (is_plain target))
     where
       by : (a b : Bool) → IsOfMessages (first routes target)
@@ -172,7 +189,7 @@ module _ (method target rest : List ℕ) (fields : Fields) where
       by false false = messages_on (first routes target)
 
 pub only_messages_deliver : (method target : List ℕ) (minor : ℕ) (fields : Fields) (rest relay body : List ℕ)
-    → asked_by method target minor fields rest ≡ deliver relay body
-    → (route : RouteOf Place) × (first routes target ≡ Some route) × (route.value ≡ Messages)
+    → action_by method target minor fields rest ≡ deliver relay body
+    → (route : RouteOf Route) × (first routes target ≡ Some route) × (route.value ≡ Messages)
 only_messages_deliver method target minor fields rest relay body e =
-    subst (λ (a : Asked (List ℕ)). IsOfMessages (first routes target) a) e (messages_by method target rest fields minor)
+    subst (λ (a : Action (List ℕ)). IsOfMessages (first routes target) a) e (messages_by method target rest fields minor)

@@ -1,13 +1,14 @@
 pub mod Stamps
 pub mod RouteLemmas
-pub mod WantedLemmas
+pub mod NumberLemmas
+pub mod RequestLemmas
 pub mod SettleLemmas
 pub mod LawLemmas
 pub mod WorkedLemmas
 pub mod ReadingLemmas
 pub mod SentLemmas
 pub mod AnswerLemmas
-pub mod ReplyLemmas
+pub mod ResponseLemmas
 pub mod ExchangeLemmas
 pub mod OutgoingLemmas
 pub mod ScanLemmas

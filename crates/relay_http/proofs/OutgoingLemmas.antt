@@ -1,4 +1,4 @@
--- What is left of a reply, and what a write took of it.
+-- What is left of a response, and what a write took of it.
 use Rattle.std.proofs.Common.{◌≡◌, ◌≤◌, ◌+◌, ◌-◌, ℕ, List, [], ◌++◌, Option, Result, Ok, Err, IfOk, sym, ap, ◌∙◌}
 use Rattle.std.proofs.Common.{subst, take, drop, length, arith, ◌==◌, leb, append_assoc, length-append, length-drop, take-append-drop, ◌∷◌}
 use Rattle.std.proofs.lemmas.List.{append-nil, drop-take, drop-append-le, take-append-le}
@@ -7,7 +7,7 @@ use Rattle.std.proofs.Math.Seq.{drop-append-add}
 use Rattle.std.specs.Io.KnownBytes.{Appends, WriteAppends}
 use Rattle.relay_http.specs.Sent.{Began}
 use Rattle.relay_http.proofs.SentLemmas.{appends_both}
-use Rattle.relay_http.proofs.WantedLemmas.{take_rest}
+use Rattle.relay_http.proofs.RequestLemmas.{take_rest}
 
 -- a write of what is left took a beginning of it
 pub took : {E : Type 0} (old new : Option (List ℕ)) (r : Result ℕ E) (bytes left : List ℕ) → bytes ≡ left → WriteAppends old new r bytes
@@ -33,11 +33,11 @@ left_of_body head body sent le =
 pub left_of_head : (head body : List ℕ) (sent : ℕ) → sent ≤ length head → drop sent (head ++ body) ≡ take (length head - sent) (drop sent head) ++ body
 left_of_head head body sent le = drop-append-le sent head body le ∙ ap (λ (l : List ℕ). l ++ body) (sym (take_rest head sent))
 
--- what is left is on the page
-pub left_on_page : (page all : List ℕ) (sent end : ℕ) → sent ≤ end → take end page ≡ all → take (end - sent) (drop sent page) ≡ drop sent all
-left_on_page page all sent end le is =
+-- what is left is in the buffer
+pub left_in_buffer : (buffer all : List ℕ) (sent end : ℕ) → sent ≤ end → take end buffer ≡ all → take (end - sent) (drop sent buffer) ≡ drop sent all
+left_in_buffer buffer all sent end le is =
     let sum : sent + (end - sent) ≡ end = omega (arith, le) in
-    sym (drop-take sent (end - sent) page) ∙ ap (λ (n : ℕ). drop sent (take n page)) sum ∙ ap (λ (l : List ℕ). drop sent l) is
+    sym (drop-take sent (end - sent) buffer) ∙ ap (λ (n : ℕ). drop sent (take n buffer)) sum ∙ ap (λ (l : List ℕ). drop sent l) is
 
 -- nothing is left
 pub none_left : (front body left : List ℕ) (sent : ℕ) → drop sent (front ++ body) ≡ left → sent ≤ length (front ++ body)

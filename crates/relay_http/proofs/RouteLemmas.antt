@@ -8,8 +8,9 @@ use Rattle.matchit.specs.Router.{RouteOf, rename, map_key, InsertsRead}
 use Rattle.matchit.specs.declared.error.InsertError.{InsertError}
 use Rattle.matchit.specs.declared.error.InsertError.TheVariants.{Conflict, InvalidCatchAll, InvalidParam, InvalidParamSegment, OutOfMemory}
 use Rattle.matchit.proofs.RenameLemmas.{first-rename}
-use Rattle.relay_http.specs.declared.place.Place.{Place}
-use Rattle.relay_http.specs.declared.place.Place.TheVariants.{Messages, AllMessages, Count, Grants, Parked, HostFile, HostFileAfter, Report}
+use Rattle.relay_http.specs.declared.route.Route.{Route}
+use Rattle.relay_http.specs.declared.route.Route.TheVariants.{Messages, AllMessages, Count, Grants, Parked, HostFile, HostFileAfter, Report}
+use Rattle.relay_http.specs.declared.route.Route.TheVariants.{Requests, RequestsAfter, NamedRequest}
 use Rattle.relay_http.specs.Routes.{IsFree, routes, added, with_route}
 use Rattle.relay_http.specs.Target.{is_plain, is_plain_byte}
 use Rattle.matchit.specs.Route.{parse_route}
@@ -22,26 +23,26 @@ use Rattle.std.proofs.lemmas.Str.Ascii.{IsAscii-nil}
 use Rattle.std.proofs.lemmas.Bool.{and_from}
 use Rattle.std.proofs.lemmas.Bool.Decides.{nat_tests}
 
-pub inserted : (x : Result Scan InsertError) (place : Place) (old new : RowsOf (RouteOf Place)) (r : Result (Unit {0}) InsertError)
-    → InsertsRead x place old new r → OnOk r (new ≡ added x place old)
-inserted (Ok s) place old new (Ok u) h = h.1
-inserted (Ok s) place old new (Err e) h = tt
-inserted (Err e) place old new (Ok u) h = h.0
-inserted (Err e) place old new (Err f) h = tt
+pub inserted : (x : Result Scan InsertError) (route : Route) (old new : RowsOf (RouteOf Route)) (r : Result (Unit {0}) InsertError)
+    → InsertsRead x route old new r → OnOk r (new ≡ added x route old)
+inserted (Ok s) route old new (Ok u) h = h.1
+inserted (Ok s) route old new (Err e) h = tt
+inserted (Err e) route old new (Ok u) h = h.0
+inserted (Err e) route old new (Err f) h = tt
 
 none_is_some : {A : Type 0} (o : Option A) (x : A) → o ≡ None → o ≡ Some x → ⊥
 none_is_some None x e f = grind (arith, f)
 none_is_some (Some y) x e f = grind (arith, e)
 
 -- a route without conflict is refused for want of memory alone
-pub not_refused : (x : Result Scan InsertError) (place : Place) (old new : RowsOf (RouteOf Place)) (e : InsertError)
-    → InsertsRead x place old new (Err e) → IsFree x old → e ≡ OutOfMemory
-not_refused (Ok s) place old new (Conflict with) h free = absurd (none_is_some _ _ free h.1.1)
-not_refused (Ok s) place old new OutOfMemory h free = refl
-not_refused (Ok s) place old new InvalidParamSegment h free = absurd h.1
-not_refused (Ok s) place old new InvalidParam h free = absurd h.1
-not_refused (Ok s) place old new InvalidCatchAll h free = absurd h.1
-not_refused (Err f) place old new e h free = absurd free
+pub not_refused : (x : Result Scan InsertError) (route : Route) (old new : RowsOf (RouteOf Route)) (e : InsertError)
+    → InsertsRead x route old new (Err e) → IsFree x old → e ≡ OutOfMemory
+not_refused (Ok s) route old new (Conflict with) h free = absurd (none_is_some _ _ free h.1.1)
+not_refused (Ok s) route old new OutOfMemory h free = refl
+not_refused (Ok s) route old new InvalidParamSegment h free = absurd h.1
+not_refused (Ok s) route old new InvalidParam h free = absurd h.1
+not_refused (Ok s) route old new InvalidCatchAll h free = absurd h.1
+not_refused (Err f) route old new e h free = absurd free
 
 -- each route of the desk is free where it is added
 pub free_messages : IsFree (parse_route (codes "/v1/relays/{relay}/messages")) []
@@ -86,6 +87,36 @@ pub free_count : IsFree (parse_route (codes "/v1/count")) (with_route (codes "/v
 unfolding scan
 free_count = refl
 
+pub free_requests : IsFree (parse_route (codes "/v1/requests"))
+    (with_route (codes "/v1/count") Count
+    (with_route (codes "/v1/messages") AllMessages
+    (with_route (codes "/v1/hosts/{host}/sudoers/{at}") HostFileAfter
+    (with_route (codes "/v1/reviews/{at}") Report (with_route (codes "/v1/hosts/{host}/sudoers") HostFile
+    (with_route (codes "/v1/parked") Parked (with_route (codes "/v1/grants/{at}") Grants (with_route (codes "/v1/relays/{relay}/messages") Messages []))))))))
+unfolding scan
+free_requests = refl
+
+pub free_requests_after : IsFree (parse_route (codes "/v1/requests/after/{at}"))
+    (with_route (codes "/v1/requests") Requests
+    (with_route (codes "/v1/count") Count
+    (with_route (codes "/v1/messages") AllMessages
+    (with_route (codes "/v1/hosts/{host}/sudoers/{at}") HostFileAfter
+    (with_route (codes "/v1/reviews/{at}") Report (with_route (codes "/v1/hosts/{host}/sudoers") HostFile
+    (with_route (codes "/v1/parked") Parked (with_route (codes "/v1/grants/{at}") Grants (with_route (codes "/v1/relays/{relay}/messages") Messages [])))))))))
+unfolding scan
+free_requests_after = refl
+
+pub free_named_request : IsFree (parse_route (codes "/v1/requests/{asker}/{no}"))
+    (with_route (codes "/v1/requests/after/{at}") RequestsAfter
+    (with_route (codes "/v1/requests") Requests
+    (with_route (codes "/v1/count") Count
+    (with_route (codes "/v1/messages") AllMessages
+    (with_route (codes "/v1/hosts/{host}/sudoers/{at}") HostFileAfter
+    (with_route (codes "/v1/reviews/{at}") Report (with_route (codes "/v1/hosts/{host}/sudoers") HostFile
+    (with_route (codes "/v1/parked") Parked (with_route (codes "/v1/grants/{at}") Grants (with_route (codes "/v1/relays/{relay}/messages") Messages []))))))))))
+unfolding scan
+free_named_request = refl
+
 and_true_left : (a b : Bool) → (a && b) ≡ true → a ≡ true
 and_true_left true b h = refl
 and_true_left false b h = h
@@ -106,25 +137,28 @@ plain_below (b ∷ bs) h = and_from _ _ (and_true_left _ _ (and_true_left _ _ h)
 plain_ascii : (target : List ℕ) → IsTrue (is_plain target) → IsAscii target
 plain_ascii target h = below_ascii target (plain_below target (and_true_right _ _ h))
 
--- the route of a place, by its text
-abbrev pub text_for : Place → List ℕ
+-- the path of a route
+abbrev pub text_for : Route → List ℕ
 text_for Messages = codes "/v1/relays/{relay}/messages"
 text_for AllMessages = codes "/v1/messages"
 text_for Count = codes "/v1/count"
+text_for Requests = codes "/v1/requests"
+text_for RequestsAfter = codes "/v1/requests/after/{at}"
+text_for NamedRequest = codes "/v1/requests/{asker}/{no}"
 text_for Grants = codes "/v1/grants/{at}"
 text_for Parked = codes "/v1/parked"
 text_for HostFile = codes "/v1/hosts/{host}/sudoers"
 text_for HostFileAfter = codes "/v1/hosts/{host}/sudoers/{at}"
 text_for Report = codes "/v1/reviews/{at}"
 
-abbrev pub from_scan : Result Scan InsertError → Place → RouteOf Place
-from_scan (Ok s) place = route_from s place
-from_scan (Err e) place = record { pattern = []; text = []; names = []; value = place }
+abbrev pub from_scan : Result Scan InsertError → Route → RouteOf Route
+from_scan (Ok s) route = route_from s route
+from_scan (Err e) route = record { pattern = []; text = []; names = []; value = route }
 
-abbrev pub route_for : Place → RouteOf Place
-route_for place = from_scan (parse_route (text_for place)) place
+abbrev pub route_for : Route → RouteOf Route
+route_for route = from_scan (parse_route (text_for route)) route
 
-abbrev pub remade : RouteOf Place → RouteOf Place
+abbrev pub remade : RouteOf Route → RouteOf Route
 remade e = route_for e.value
 
 pub all_remade : rename remade routes ≡ routes
@@ -132,11 +166,11 @@ unfolding routes scan
 all_remade = refl
 
 -- a route that is found is the route of its value
-pub known : (target : List ℕ) (e : RouteOf Place) → first routes target ≡ Some e → e ≡ route_for e.value
+pub known : (target : List ℕ) (e : RouteOf Route) → first routes target ≡ Some e → e ≡ route_for e.value
 known target e found =
     let twice : Some e ≡ Some (remade e) =
-    sym found ∙ sym (ap (λ (r : RowsOf (RouteOf Place)). first r target) all_remade) ∙ first-rename remade routes target ∙ ap (map_key remade) found in
-    ap (λ (o : Option (RouteOf Place)). unwrap_or o e) twice
+    sym found ∙ sym (ap (λ (r : RowsOf (RouteOf Route)). first r target) all_remade) ∙ first-rename remade routes target ∙ ap (map_key remade) found in
+    ap (λ (o : Option (RouteOf Route)). unwrap_or o e) twice
 
 part_utf8 : (bytes : List ℕ) (start end : ℕ) → IsAscii bytes → IsUtf8 (part_of bytes start end)
 part_utf8 bytes start end ascii = by (leb start end && leb end (length bytes))
@@ -150,19 +184,22 @@ all_text : (pattern text path : List ℕ) (names : List (ℕ × ℕ)) (token at 
 all_text pattern text path [] token at t p = tt
 all_text pattern text path (name ∷ names) token at t p = (part_utf8 text _ _ t, part_utf8 path _ _ p, all_text pattern text path names _ _ t p)
 
-text_ascii : (place : Place) → IsAscii (route_for place).text
+text_ascii : (route : Route) → IsAscii (route_for route).text
 unfolding scan
 text_ascii Messages = below_ascii (route_for Messages).text refl
 text_ascii AllMessages = below_ascii (route_for AllMessages).text refl
 text_ascii Count = below_ascii (route_for Count).text refl
+text_ascii Requests = below_ascii (route_for Requests).text refl
+text_ascii RequestsAfter = below_ascii (route_for RequestsAfter).text refl
+text_ascii NamedRequest = below_ascii (route_for NamedRequest).text refl
 text_ascii Grants = below_ascii (route_for Grants).text refl
 text_ascii Parked = below_ascii (route_for Parked).text refl
 text_ascii HostFile = below_ascii (route_for HostFile).text refl
 text_ascii HostFileAfter = below_ascii (route_for HostFileAfter).text refl
 text_ascii Report = below_ascii (route_for Report).text refl
 
-pub texts : (target : List ℕ) (e : RouteOf Place) → first routes target ≡ Some e → IsTrue (is_plain target)
+pub texts : (target : List ℕ) (e : RouteOf Route) → first routes target ≡ Some e → IsTrue (is_plain target)
     → AllText (walk e.pattern e.text target e.names 0 0)
 texts target e found plain =
-    subst (λ (r : RouteOf Place). AllText (walk r.pattern r.text target r.names 0 0))
+    subst (λ (r : RouteOf Route). AllText (walk r.pattern r.text target r.names 0 0))
     (sym (known target e found)) (all_text _ _ target _ 0 0 (text_ascii e.value) (plain_ascii target plain))

@@ -1,4 +1,4 @@
--- Bytes that follow do not change what is asked, once that is settled or as many have come as may count.
+-- Bytes that follow do not change the request, once that is settled or as many have come as may count.
 use Rattle.std.proofs.Common.{zero, suc, ◌≡◌, ◌≤◌, ℕ, ◌+◌, ◌-◌, List, [], ◌∷◌, ◌++◌, Bool, true, false, Option, Some, None, Result, Ok, Err, ◌⊎◌, refl, sym}
 use Rattle.std.proofs.Common.{ap, ◌∙◌, subst, inl, inr, take, drop, length, map, arith, length-take, length-drop, length-append, nat_lt, not, codes, cond}
 use Rattle.std.specs.Str.Parse.{digits_value}
@@ -9,25 +9,26 @@ use Rattle.httparse.specs.Spans.{RequestOverflows, name_and_value}
 use Rattle.httparse.proofs.GrammarLemmas.{ReadsRequest-append}
 use Rattle.matchit.specs.Router.{RouteOf}
 use Rattle.matchit.specs.Seek.{first}
-use Rattle.relay_http.specs.Asked.{Asked, Request, refused}
+use Rattle.relay_http.specs.Request.{Action, Request, refused}
 use Rattle.relay_http.specs.Content.{by_lengths, content, content_of, is_length, most_content, sized}
 use Rattle.relay_http.specs.Fields.{Fields, values, is_bad_host}
 use Rattle.relay_http.specs.Routes.{routes, part}
 use Rattle.relay_http.specs.Settled.{is_short, lacks_content}
 use Rattle.relay_http.specs.Target.{is_plain}
-use Rattle.relay_http.specs.Wanted.{Asks, AsksByHead, Dates, DatesRequest, HasHead, allow, asked_by, asks_by}
-use Rattle.relay_http.specs.Wanted.{at_place, delivered, front, is_head, methods_of, on_route, request_by, sought}
+use Rattle.relay_http.specs.RequestBytes.{IsHttpRequest, IsHttpRequestByHead, Dates, DatesRequest, HasHead, allow, action_by, request_from}
+use Rattle.relay_http.specs.RequestBytes.{by_method, delivered, front, is_head, methods_of, on_route, request_by, sought}
 use Rattle.relay_http.specs.declared.fault.RequestFault.{RequestFault}
 use Rattle.relay_http.specs.declared.fault.RequestFault.TheVariants.{BadHead, BadLength, BadMethod, BadTarget, ShortBody, TooLong}
-use Rattle.relay_http.specs.declared.place.Place.{Place}
-use Rattle.relay_http.specs.declared.place.Place.TheVariants.{Messages, AllMessages, Count, Grants, Parked, HostFile, HostFileAfter, Report}
+use Rattle.relay_http.specs.declared.route.Route.{Route}
+use Rattle.relay_http.specs.declared.route.Route.TheVariants.{Messages, AllMessages, Count, Grants, Parked, HostFile, HostFileAfter, Report}
+use Rattle.relay_http.specs.declared.route.Route.TheVariants.{Requests, RequestsAfter, NamedRequest}
 
 -- the content is there, or as many bytes as any content may have
 abbrev pub Enough : Result (List ℕ) RequestFault → List ℕ → Type 0
 Enough found rest = (found ≡ Err ShortBody → ⊥) ⊎ (16384 ≤ length rest)
 
-abbrev pub EnoughAsked : Asked (List ℕ) → List ℕ → Type 0
-EnoughAsked asked rest = (asked ≡ refused ShortBody → ⊥) ⊎ (16384 ≤ length rest)
+abbrev pub EnoughForAction : Action (List ℕ) → List ℕ → Type 0
+EnoughForAction action rest = (action ≡ refused ShortBody → ⊥) ⊎ (16384 ≤ length rest)
 
 module _ (rest more : List ℕ) where
   sized_more : (n : ℕ) → Enough (sized n rest) rest → sized n (rest ++ more) ≡ sized n rest
@@ -58,43 +59,47 @@ module _ (rest more : List ℕ) where
   content_more [] vs h = lengths_more vs h
   content_more (c ∷ cs) vs h = refl
 
-  enough_content : (relay : List ℕ) (found : Result (List ℕ) RequestFault) → EnoughAsked (delivered relay found) rest → Enough found rest
+  enough_content : (relay : List ℕ) (found : Result (List ℕ) RequestFault) → EnoughForAction (delivered relay found) rest → Enough found rest
   enough_content relay found (inl h) = inl (λ e. h (ap (λ (r : Result (List ℕ) RequestFault). delivered relay r) e))
   enough_content relay found (inr h) = inr h
 
-  sought_more : (place : Place) (named : List ℕ → List ℕ) (fields : Fields) → EnoughAsked (sought place named fields rest) rest
-      → sought place named fields (rest ++ more) ≡ sought place named fields rest
+  sought_more : (route : Route) (named : List ℕ → List ℕ) (fields : Fields) → EnoughForAction (sought route named fields rest) rest
+      → sought route named fields (rest ++ more) ≡ sought route named fields rest
   sought_more Messages named fields h =
       ap (λ (r : Result (List ℕ) RequestFault). delivered (named (codes "relay")) r) (content_more (values (codes "transfer-encoding") fields)
       (values (codes "content-length") fields) (enough_content (named (codes "relay")) (content_of fields rest) h))
   sought_more AllMessages named fields h = refl
   sought_more Count named fields h = refl
+  sought_more Requests named fields h = refl
+  sought_more RequestsAfter named fields h = refl
+  sought_more NamedRequest named fields h = refl
   sought_more Grants named fields h = refl
   sought_more Parked named fields h = refl
   sought_more HostFile named fields h = refl
   sought_more HostFileAfter named fields h = refl
   sought_more Report named fields h = refl
 
-  place_more : (place : Place) (method : List ℕ) (named : List ℕ → List ℕ) (fields : Fields) → EnoughAsked (at_place place method named fields rest) rest
-      → at_place place method named fields (rest ++ more) ≡ at_place place method named fields rest
-  place_more place method named fields h = by (allow (methods_of place) method) h
+  method_more : (route : Route) (method : List ℕ) (named : List ℕ → List ℕ) (fields : Fields) → EnoughForAction (by_method route method named fields rest) rest
+      → by_method route method named fields (rest ++ more) ≡ by_method route method named fields rest
+  method_more route method named fields h = by (allow (methods_of route) method) h
     where
-      by : (b : Bool) → EnoughAsked (cond b (sought place named fields rest) (refused (BadMethod (methods_of place)))) rest
-          → cond b (sought place named fields (rest ++ more)) (refused (BadMethod (methods_of place)))
-          ≡ cond b (sought place named fields rest) (refused (BadMethod (methods_of place)))
-      by true e = sought_more place named fields e
+      by : (b : Bool) → EnoughForAction (cond b (sought route named fields rest) (refused (BadMethod (methods_of route)))) rest
+          → cond b (sought route named fields (rest ++ more)) (refused (BadMethod (methods_of route)))
+          ≡ cond b (sought route named fields rest) (refused (BadMethod (methods_of route)))
+      by true e = sought_more route named fields e
       by false e = refl
 
-  route_more : (route : Option (RouteOf Place)) (method target : List ℕ) (fields : Fields) → EnoughAsked (on_route route method target fields rest) rest
+  route_more : (route : Option (RouteOf Route)) (method target : List ℕ) (fields : Fields) → EnoughForAction (on_route route method target fields rest) rest
       → on_route route method target fields (rest ++ more) ≡ on_route route method target fields rest
   route_more None method target fields h = refl
-  route_more (Some route) method target fields h = place_more route.value method (λ name. part name route target) fields h
+  route_more (Some route) method target fields h = method_more route.value method (λ name. part name route target) fields h
 
-  asked_more : (method target : List ℕ) (minor : ℕ) (fields : Fields) → EnoughAsked (asked_by method target minor fields rest) rest
-      → asked_by method target minor fields (rest ++ more) ≡ asked_by method target minor fields rest
-  asked_more method target minor fields h = by (is_bad_host minor (values (codes "host") fields)) (not (is_plain target)) h
+  action_more : (method target : List ℕ) (minor : ℕ) (fields : Fields) → EnoughForAction (action_by method target minor fields rest) rest
+      → action_by method target minor fields (rest ++ more) ≡ action_by method target minor fields rest
+  action_more method target minor fields h = by (is_bad_host minor (values (codes "host") fields)) (not (is_plain target)) h
     where
-      by : (a b : Bool) → EnoughAsked (cond a (refused BadHead) (cond b (refused BadTarget) (on_route (first routes target) method target fields rest))) rest
+      by : (a b : Bool)
+          → EnoughForAction (cond a (refused BadHead) (cond b (refused BadTarget) (on_route (first routes target) method target fields rest))) rest
           → cond a (refused BadHead) (cond b (refused BadTarget) (on_route (first routes target) method target fields (rest ++ more)))
           ≡ cond a (refused BadHead) (cond b (refused BadTarget) (on_route (first routes target) method target fields rest))
       by true b e = refl
@@ -135,31 +140,32 @@ unfolding front
 front_full bytes more full = take-append-le 8192 bytes more full
 
 -- what is dated lacks content where the request did
-not_short : (asked : Asked (List ℕ)) (dated : Asked ℕ) → Dates asked dated → lacks_content dated ≡ false → asked ≡ refused ShortBody → ⊥
-not_short asked dated dates whole e =
-    let is : dated ≡ refused ShortBody = subst (λ (r : Asked (List ℕ)). Dates r dated) e dates in
+not_short : (action : Action (List ℕ)) (dated : Action ℕ) → Dates action dated → lacks_content dated ≡ false → action ≡ refused ShortBody → ⊥
+not_short action dated dates whole e =
+    let is : dated ≡ refused ShortBody = subst (λ (r : Action (List ℕ)). Dates r dated) e dates in
     let no : true ≡ false = sym (ap lacks_content is) ∙ whole in
     grind (arith, no)
 
-pub kept : (bytes more : List ℕ) (request : Request ℕ) (x : AsksByHead bytes request)
-    → EnoughAsked (asks_by x.0 bytes).asked (drop (length (print_request x.0)) bytes) → Asks (bytes ++ more) request
+pub kept : (bytes more : List ℕ) (request : Request ℕ) (x : IsHttpRequestByHead bytes request)
+    → EnoughForAction (request_from x.0 bytes).action (drop (length (print_request x.0)) bytes) → IsHttpRequest (bytes ++ more) request
 kept bytes more request x enough =
     let h = x.0 in
     let rest = drop (length (print_request h)) bytes in
     let fits = head_fits bytes h x.1.0.0 x.1.0.1 in
-    let same : asked_by h.method h.target h.minor (map name_and_value h.fields) (rest ++ more)
-    ≡ asked_by h.method h.target h.minor (map name_and_value h.fields) rest =
-    asked_more rest more h.method h.target h.minor (map name_and_value h.fields) enough in
-    let longer : asks_by h bytes ≡ asks_by h (bytes ++ more) =
-    ap (λ (a : Asked (List ℕ)). record { with_body = not (is_head h.method); asked = a }) (sym same)
+    let same : action_by h.method h.target h.minor (map name_and_value h.fields) (rest ++ more)
+    ≡ action_by h.method h.target h.minor (map name_and_value h.fields) rest =
+    action_more rest more h.method h.target h.minor (map name_and_value h.fields) enough in
+    let longer : request_from h bytes ≡ request_from h (bytes ++ more) =
+    ap (λ (a : Action (List ℕ)). record { with_body = not (is_head h.method); action = a }) (sym same)
     ∙ ap (λ (r : List ℕ). request_by h.method h.target h.minor (map name_and_value h.fields) r)
     (sym (drop-append-le (length (print_request h)) bytes more fits.0)) in
     inl (h, has_more bytes more h x.1, subst (λ (r : Request (List ℕ)). DatesRequest r request) longer x.2)
 
 -- a head is there, and the content where it is asked for
-pub whole_more : (bytes more : List ℕ) (request : Request ℕ) → AsksByHead bytes request → is_short request ≡ false → Asks (bytes ++ more) request
+pub whole_more : (bytes more : List ℕ) (request : Request ℕ) → IsHttpRequestByHead bytes request → is_short request ≡ false
+    → IsHttpRequest (bytes ++ more) request
 whole_more bytes more request x whole =
-    kept bytes more request x (inl (not_short (asks_by x.0 bytes).asked request.asked x.2.1 whole))
+    kept bytes more request x (inl (not_short (request_from x.0 bytes).action request.action x.2.1 whole))
 
 -- no head can come any more
 pub headless_more : (bytes more : List ℕ) → 8192 ≤ length bytes → ((h : RequestHead) → HasHead bytes h → ⊥) → (h : RequestHead) → HasHead (bytes ++ more) h → ⊥
@@ -174,7 +180,7 @@ overflow_more bytes more found is over h has =
     omega (arith, over longer.0 h has.0.0 reads, has.1)
 
 -- the buffer is full
-pub full_more : (bytes more : List ℕ) (request : Request ℕ) → 24576 ≤ length bytes → Asks bytes request → Asks (bytes ++ more) request
+pub full_more : (bytes more : List ℕ) (request : Request ℕ) → 24576 ≤ length bytes → IsHttpRequest bytes request → IsHttpRequest (bytes ++ more) request
 full_more bytes more request full (inl x) =
     let fits = head_fits bytes x.0 x.1.0.0 x.1.0.1 in
     kept bytes more request x (inr (omega (arith, fits.0, fits.1, length-drop (length (print_request x.0)) bytes)))

@@ -13,7 +13,8 @@ use Rattle.httparse.specs.declared.spans.Span.{Span}
 use Rattle.httparse.proofs.GrammarLemmas.{ReadsRequest-append}
 use Rattle.matchit.specs.Router.{RouteOf}
 use Rattle.matchit.specs.Seek.{first}
-use Rattle.relay_http.specs.Asked.{Asked, Request, deliver, all_messages, count, grants, parked, host_file, host_file_after, report, refused}
+use Rattle.relay_http.specs.Request.{Action, Request, deliver, all_messages, count, grants, parked, host_file, host_file_after, report, refused}
+use Rattle.relay_http.specs.Request.{requests, requests_after, named_request}
 use Rattle.relay_http.specs.Content.{content, content_of, by_lengths, is_length, most_content, sized}
 use Rattle.relay_http.specs.Fields.{Fields, values, is_bad_host}
 use Rattle.relay_http.specs.Needs.{HasNoHead, IsSettled, LacksContent}
@@ -22,19 +23,21 @@ use Rattle.relay_http.specs.Scan.{scanned}
 use Rattle.relay_http.specs.Settled.{is_short, is_short_body, lacks_content}
 use Rattle.relay_http.specs.Stages.{IsFound, IsHeadAt, NeverHasHead, cut, size, size_by, size_of}
 use Rattle.relay_http.specs.Target.{is_plain}
-use Rattle.relay_http.specs.Wanted.{Asks, AsksByHead, Dates, DatesRequest, HasHead, allow, asked_by, asks_by, at_place, delivered}
-use Rattle.relay_http.specs.Wanted.{front, is_head, methods_of, on_route, sought}
+use Rattle.relay_http.specs.RequestBytes.{IsHttpRequest, IsHttpRequestByHead, Dates, DatesRequest, HasHead, allow, action_by, request_from}
+use Rattle.relay_http.specs.RequestBytes.{by_method, delivered}
+use Rattle.relay_http.specs.RequestBytes.{front, is_head, methods_of, on_route, sought}
 use Rattle.relay_http.specs.declared.fault.RequestFault.{RequestFault}
 use Rattle.relay_http.specs.declared.fault.RequestFault.TheVariants.{BadHead, BadTarget, NoRoute, BadMethod, LengthRequired, BadLength}
 use Rattle.relay_http.specs.declared.fault.RequestFault.TheVariants.{TooLong, ShortBody, BadMoment}
 use Rattle.relay_http.specs.declared.head.Head.{Head}
 use Rattle.relay_http.specs.declared.line.Line.{Line}
 use Rattle.relay_http.specs.declared.line.Line.TheVariants.{Blank, Ended}
-use Rattle.relay_http.specs.declared.place.Place.{Place}
-use Rattle.relay_http.specs.declared.place.Place.TheVariants.{Messages, AllMessages, Count, Grants, Parked, HostFile, HostFileAfter, Report}
+use Rattle.relay_http.specs.declared.route.Route.{Route}
+use Rattle.relay_http.specs.declared.route.Route.TheVariants.{Messages, AllMessages, Count, Grants, Parked, HostFile, HostFileAfter, Report}
+use Rattle.relay_http.specs.declared.route.Route.TheVariants.{Requests, RequestsAfter, NamedRequest}
 use Rattle.relay_http.proofs.ScanLemmas.{ended_behind, ended_is_head, scanned-append}
 use Rattle.relay_http.proofs.SettleLemmas.{has_more, head_fits, headless_more, whole_more}
-use Rattle.relay_http.proofs.WantedLemmas.{one_request, take_rest}
+use Rattle.relay_http.proofs.RequestLemmas.{one_request, take_rest}
 
 -- ---- content by its length
 
@@ -90,29 +93,29 @@ never_more bytes more never = λ later. subst HasNoHead (sym (append_assoc bytes
 
 -- ---- what is settled
 
-pub settled_by : (bytes : List ℕ) (request : Request ℕ) → AsksByHead bytes request → is_short request ≡ false → IsSettled bytes
+pub settled_by : (bytes : List ℕ) (request : Request ℕ) → IsHttpRequestByHead bytes request → is_short request ≡ false → IsSettled bytes
 settled_by bytes request x whole = (request, λ more. whole_more bytes more request x whole)
 
 pub never_settles : (bytes : List ℕ) → NeverHasHead bytes → IsSettled bytes
-never_settles bytes never = (record { with_body = true; asked = refused BadHead }, λ more. inr (never more, refl))
+never_settles bytes never = (record { with_body = true; action = refused BadHead }, λ more. inr (never more, refl))
 
 pub settled_more : (bytes more : List ℕ) → IsSettled bytes → IsSettled (bytes ++ more)
 settled_more bytes more x =
-    (x.0, λ later. subst (λ (l : List ℕ). Asks l x.0) (sym (append_assoc bytes more later)) (x.1 (more ++ later)))
+    (x.0, λ later. subst (λ (l : List ℕ). IsHttpRequest l x.0) (sym (append_assoc bytes more later)) (x.1 (more ++ later)))
 
--- what is settled is what the bytes ask
-pub settled_asks : (bytes more : List ℕ) (request : Request ℕ) → IsSettled bytes → Asks bytes request → Asks (bytes ++ more) request
-settled_asks bytes more request x asks =
-    let now : Asks bytes x.0 = subst (λ (l : List ℕ). Asks l x.0) (append-nil bytes) (x.1 []) in
-    subst (λ (r : Request ℕ). Asks (bytes ++ more) r) (one_request bytes x.0 request now asks) (x.1 more)
+-- what is settled is the request that the bytes are
+pub settled_request : (bytes more : List ℕ) (request : Request ℕ) → IsSettled bytes → IsHttpRequest bytes request → IsHttpRequest (bytes ++ more) request
+settled_request bytes more request x asks =
+    let now : IsHttpRequest bytes x.0 = subst (λ (l : List ℕ). IsHttpRequest l x.0) (append-nil bytes) (x.1 []) in
+    subst (λ (r : Request ℕ). IsHttpRequest (bytes ++ more) r) (one_request bytes x.0 request now asks) (x.1 more)
 
 -- ---- who is asked for content
 
 -- A request that is cut short: what it asks, whatever the content is, is a delivery of so many bytes.
-abbrev pub Posts : (List ℕ → Asked (List ℕ)) → Fields → (rest : List ℕ) → Type 0
-Posts asked fields rest =
+abbrev pub Posts : (List ℕ → Action (List ℕ)) → Fields → (rest : List ℕ) → Type 0
+Posts action fields rest =
     (relay : List ℕ) × (n : ℕ) × (length rest < n) × (size_of fields ≡ Ok n) × (n ≤ 16384)
-    × ((other : List ℕ) → asked other ≡ delivered relay (sized n other))
+    × ((other : List ℕ) → action other ≡ delivered relay (sized n other))
 
 size_by_not_short : (vs : List (List ℕ)) → size_by vs ≡ Err ShortBody → ⊥
 size_by_not_short [] e = cc
@@ -128,23 +131,23 @@ size_not_short [] vs e = size_by_not_short vs e
 size_not_short (c ∷ cs) vs e = cc
 
 cut_short : (s : Result ℕ RequestFault) (relay rest : List ℕ) → (s ≡ Err ShortBody → ⊥)
-    → ◌≡◌ {A = Asked (List ℕ)} (delivered relay (cut s rest)) (refused ShortBody)
+    → ◌≡◌ {A = Action (List ℕ)} (delivered relay (cut s rest)) (refused ShortBody)
     → (n : ℕ) × (s ≡ Ok n) × (length rest < n) × (n ≤ 16384)
 cut_short (Err fault) relay rest other e = absurd (other (let same : fault ≡ ShortBody = cc in ap Err same))
 cut_short (Ok n) relay rest other e = by (nat_lt most_content n) refl (nat_lt (length rest) n) refl e
   where
     by : (a : Bool) → nat_lt most_content n ≡ a → (b : Bool) → nat_lt (length rest) n ≡ b
-        → ◌≡◌ {A = Asked (List ℕ)} (delivered relay (cond a (Err TooLong) (cond b (Err ShortBody) (Ok (take n rest))))) (refused ShortBody)
+        → ◌≡◌ {A = Action (List ℕ)} (delivered relay (cond a (Err TooLong) (cond b (Err ShortBody) (Ok (take n rest))))) (refused ShortBody)
         → (m : ℕ) × (◌≡◌ {A = Result ℕ RequestFault} (Ok n) (Ok m)) × (length rest < m) × (m ≤ 16384)
     by true f b g e = absurd cc
     by false f false g e = absurd cc
     by false f true g e = (n, refl, grind (arith, nat_tests), grind (arith, nat_tests))
 
-sought_short : (place : Place) (named : List ℕ → List ℕ) (fields : Fields) (rest : List ℕ) → sought place named fields rest ≡ refused ShortBody
-    → Posts (λ other. sought place named fields other) fields rest
+sought_short : (route : Route) (named : List ℕ → List ℕ) (fields : Fields) (rest : List ℕ) → sought route named fields rest ≡ refused ShortBody
+    → Posts (λ other. sought route named fields other) fields rest
 sought_short Messages named fields rest e =
     let relay = named (codes "relay") in
-    let here : ◌≡◌ {A = Asked (List ℕ)} (delivered relay (cut (size_of fields) rest)) (refused ShortBody) =
+    let here : ◌≡◌ {A = Action (List ℕ)} (delivered relay (cut (size_of fields) rest)) (refused ShortBody) =
     ap (λ (r : Result (List ℕ) RequestFault). delivered relay r) (sym (content_is fields rest)) ∙ e in
     let c = cut_short (size_of fields) relay rest
     (size_not_short (values (codes "transfer-encoding") fields) (values (codes "content-length") fields)) here in (
@@ -158,29 +161,32 @@ sought_short Messages named fields rest e =
     )
 sought_short AllMessages named fields rest e = absurd cc
 sought_short Count named fields rest e = absurd cc
+sought_short Requests named fields rest e = absurd cc
+sought_short RequestsAfter named fields rest e = absurd cc
+sought_short NamedRequest named fields rest e = absurd cc
 sought_short Grants named fields rest e = absurd cc
 sought_short Parked named fields rest e = absurd cc
 sought_short HostFile named fields rest e = absurd cc
 sought_short HostFileAfter named fields rest e = absurd cc
 sought_short Report named fields rest e = absurd cc
 
-place_short : (place : Place) (method : List ℕ) (named : List ℕ → List ℕ) (fields : Fields) (rest : List ℕ)
-    → at_place place method named fields rest ≡ refused ShortBody → Posts (λ other. at_place place method named fields other) fields rest
-place_short place method named fields rest e = by (allow (methods_of place) method) e
+method_short : (route : Route) (method : List ℕ) (named : List ℕ → List ℕ) (fields : Fields) (rest : List ℕ)
+    → by_method route method named fields rest ≡ refused ShortBody → Posts (λ other. by_method route method named fields other) fields rest
+method_short route method named fields rest e = by (allow (methods_of route) method) e
   where
-    by : (b : Bool) → cond b (sought place named fields rest) (refused (BadMethod (methods_of place))) ≡ refused ShortBody
-        → Posts (λ other. cond b (sought place named fields other) (refused (BadMethod (methods_of place)))) fields rest
-    by true f = sought_short place named fields rest f
+    by : (b : Bool) → cond b (sought route named fields rest) (refused (BadMethod (methods_of route))) ≡ refused ShortBody
+        → Posts (λ other. cond b (sought route named fields other) (refused (BadMethod (methods_of route)))) fields rest
+    by true f = sought_short route named fields rest f
     by false f = absurd cc
 
-route_short : (route : Option (RouteOf Place)) (method target : List ℕ) (fields : Fields) (rest : List ℕ)
+route_short : (route : Option (RouteOf Route)) (method target : List ℕ) (fields : Fields) (rest : List ℕ)
     → on_route route method target fields rest ≡ refused ShortBody → Posts (λ other. on_route route method target fields other) fields rest
 route_short None method target fields rest e = absurd cc
-route_short (Some route) method target fields rest e = place_short route.value method (λ name. part name route target) fields rest e
+route_short (Some route) method target fields rest e = method_short route.value method (λ name. part name route target) fields rest e
 
-asked_short : (method target : List ℕ) (minor : ℕ) (fields : Fields) (rest : List ℕ) → asked_by method target minor fields rest ≡ refused ShortBody
-    → Posts (λ other. asked_by method target minor fields other) fields rest
-asked_short method target minor fields rest e = by (is_bad_host minor (values (codes "host") fields)) (not (is_plain target)) e
+action_short : (method target : List ℕ) (minor : ℕ) (fields : Fields) (rest : List ℕ) → action_by method target minor fields rest ≡ refused ShortBody
+    → Posts (λ other. action_by method target minor fields other) fields rest
+action_short method target minor fields rest e = by (is_bad_host minor (values (codes "host") fields)) (not (is_plain target)) e
   where
     by : (a b : Bool) → cond a (refused BadHead) (cond b (refused BadTarget) (on_route (first routes target) method target fields rest)) ≡ refused ShortBody
         → Posts (λ other. cond a (refused BadHead) (cond b (refused BadTarget) (on_route (first routes target) method target fields other))) fields rest
@@ -201,10 +207,13 @@ short_is BadLength e = absurd cc
 short_is TooLong e = absurd cc
 short_is BadMoment e = absurd cc
 
-lacks_is : (asked : Asked ℕ) → lacks_content asked ≡ true → asked ≡ refused ShortBody
+lacks_is : (action : Action ℕ) → lacks_content action ≡ true → action ≡ refused ShortBody
 lacks_is (deliver relay body) e = absurd cc
 lacks_is all_messages e = absurd cc
 lacks_is count e = absurd cc
+lacks_is requests e = absurd cc
+lacks_is (requests_after at) e = absurd cc
+lacks_is (named_request asker number) e = absurd cc
 lacks_is (grants at) e = absurd cc
 lacks_is parked e = absurd cc
 lacks_is (host_file host) e = absurd cc
@@ -212,17 +221,22 @@ lacks_is (host_file_after host at) e = absurd cc
 lacks_is (report at) e = absurd cc
 lacks_is (refused fault) e = ap (λ (f : RequestFault). refused f) (short_is fault e)
 
-dated_short : (asked : Asked (List ℕ)) → Dates asked (refused ShortBody) → asked ≡ refused ShortBody
+dated_short : (action : Action (List ℕ)) → Dates action (refused ShortBody) → action ≡ refused ShortBody
 dated_short (deliver relay body) e = absurd cc
 dated_short all_messages e = absurd cc
 dated_short count e = absurd cc
-dated_short (grants at) (inl x) = absurd (let wrong : ◌≡◌ {A = Asked ℕ} (refused ShortBody) (grants x.0) = x.2 in cc)
+dated_short requests e = absurd cc
+dated_short (requests_after at) (inl x) = absurd (let wrong : ◌≡◌ {A = Action ℕ} (refused ShortBody) (requests_after x.0) = x.2 in cc)
+dated_short (requests_after at) (inr x) = absurd (let wrong = x.1 in cc)
+dated_short (named_request asker number) (inl x) = absurd (let wrong : ◌≡◌ {A = Action ℕ} (refused ShortBody) (named_request asker x.0) = x.3 in cc)
+dated_short (named_request asker number) (inr x) = absurd (let wrong = x.1 in cc)
+dated_short (grants at) (inl x) = absurd (let wrong : ◌≡◌ {A = Action ℕ} (refused ShortBody) (grants x.0) = x.2 in cc)
 dated_short (grants at) (inr x) = absurd (let wrong = x.1 in cc)
 dated_short parked e = absurd cc
 dated_short (host_file host) e = absurd cc
-dated_short (host_file_after host at) (inl x) = absurd (let wrong : ◌≡◌ {A = Asked ℕ} (refused ShortBody) (host_file_after host x.0) = x.2 in cc)
+dated_short (host_file_after host at) (inl x) = absurd (let wrong : ◌≡◌ {A = Action ℕ} (refused ShortBody) (host_file_after host x.0) = x.2 in cc)
 dated_short (host_file_after host at) (inr x) = absurd (let wrong = x.1 in cc)
-dated_short (report at) (inl x) = absurd (let wrong : ◌≡◌ {A = Asked ℕ} (refused ShortBody) (report x.0) = x.2 in cc)
+dated_short (report at) (inl x) = absurd (let wrong : ◌≡◌ {A = Action ℕ} (refused ShortBody) (report x.0) = x.2 in cc)
 dated_short (report at) (inr x) = absurd (let wrong = x.1 in cc)
 dated_short (refused fault) e = let same : fault ≡ ShortBody = cc in ap (λ (f : RequestFault). refused f) same
 
@@ -245,54 +259,55 @@ sized_whole n rest small whole = by (nat_lt most_content n) refl (nat_lt (length
     by false f false g = refl
 
 -- what the bytes with this head ask, where it does not hang on a moment
-asks_so : (bytes : List ℕ) (h : RequestHead) (asked : Asked ℕ) → HasHead bytes h → Dates (asks_by h bytes).asked asked
-    → AsksByHead bytes (record { with_body = not (is_head h.method); asked = asked })
-asks_so bytes h asked has dates = (h, has, (refl, dates))
+request_so : (bytes : List ℕ) (h : RequestHead) (action : Action ℕ) → HasHead bytes h → Dates (request_from h bytes).action action
+    → IsHttpRequestByHead bytes (record { with_body = not (is_head h.method); action = action })
+request_so bytes h action has dates = (h, has, (refl, dates))
 
 -- one that is cut short has a length
-pub short_size : (bytes : List ℕ) (h : RequestHead) (request : Request ℕ) → DatesRequest (asks_by h bytes) request → is_short request ≡ true
+pub short_size : (bytes : List ℕ) (h : RequestHead) (request : Request ℕ) → DatesRequest (request_from h bytes) request → is_short request ≡ true
     → (n : ℕ) × (size_of (map name_and_value h.fields) ≡ Ok n)
 short_size bytes h request dates short =
-    let here : (asks_by h bytes).asked ≡ refused ShortBody =
-    dated_short (asks_by h bytes).asked (subst (λ (a : Asked ℕ). Dates (asks_by h bytes).asked a) (lacks_is request.asked short) dates.1) in
-    let posts = asked_short h.method h.target h.minor (map name_and_value h.fields) (drop (length (print_request h)) bytes) here in
+    let here : (request_from h bytes).action ≡ refused ShortBody =
+    dated_short (request_from h bytes).action (subst (λ (a : Action ℕ). Dates (request_from h bytes).action a) (lacks_is request.action short) dates.1) in
+    let posts = action_short h.method h.target h.minor (map name_and_value h.fields) (drop (length (print_request h)) bytes) here in
     (posts.1, posts.3)
 
-pub lacks_by : (bytes : List ℕ) (h : RequestHead) (request : Request ℕ) (n : ℕ) → HasHead bytes h → DatesRequest (asks_by h bytes) request
+pub lacks_by : (bytes : List ℕ) (h : RequestHead) (request : Request ℕ) (n : ℕ) → HasHead bytes h → DatesRequest (request_from h bytes) request
     → is_short request ≡ true → size_of (map name_and_value h.fields) ≡ Ok n → LacksContent bytes (n - (length bytes - length (print_request h)))
 lacks_by bytes h request n has dates short sized_n =
     let len = length (print_request h) in
     let fields = map name_and_value h.fields in
     let fits = head_fits bytes h has.0.0 has.0.1 in
-    let here : (asks_by h bytes).asked ≡ refused ShortBody =
-    dated_short (asks_by h bytes).asked (subst (λ (a : Asked ℕ). Dates (asks_by h bytes).asked a) (lacks_is request.asked short) dates.1) in
-    let posts : Posts (λ other. asked_by h.method h.target h.minor fields other) fields (drop len bytes) =
-    asked_short h.method h.target h.minor fields (drop len bytes) here in
+    let here : (request_from h bytes).action ≡ refused ShortBody =
+    dated_short (request_from h bytes).action (subst (λ (a : Action ℕ). Dates (request_from h bytes).action a) (lacks_is request.action short) dates.1) in
+    let posts : Posts (λ other. action_by h.method h.target h.minor fields other) fields (drop len bytes) =
+    action_short h.method h.target h.minor fields (drop len bytes) here in
     let same : posts.1 ≡ n = let both : ◌≡◌ {A = Result ℕ RequestFault} (Ok posts.1) (Ok n) = sym posts.3 ∙ sized_n in cc in
     let is_len : length (drop len bytes) ≡ length bytes - len = length-drop len bytes in
     let below : length bytes - len < n = omega (arith, posts.2, same, is_len) in
     let small : n ≤ 16384 = omega (arith, posts.4, same) in
     let later : (more : List ℕ) → length (drop len (bytes ++ more)) ≡ (length bytes - len) + length more = λ more.
     omega (arith, length-drop len (bytes ++ more), length-append bytes more, fits.0) in
-    let asks : (more : List ℕ) → (asks_by h (bytes ++ more)).asked ≡ delivered posts.0 (sized n (drop len (bytes ++ more))) = λ more.
+    let asks : (more : List ℕ) → (request_from h (bytes ++ more)).action ≡ delivered posts.0 (sized n (drop len (bytes ++ more))) = λ more.
     posts.5 (drop len (bytes ++ more)) ∙ ap (λ (m : ℕ). delivered posts.0 (sized m (drop len (bytes ++ more)))) same in
     record {
       some = omega (arith, below);
       fits = omega (arith, fits.0, fits.1, below, small);
       short = λ more lt request2 asks2.
-          let cut_off : (asks_by h (bytes ++ more)).asked ≡ refused ShortBody = asks more ∙ ap (λ (r : Result (List ℕ) RequestFault). delivered posts.0 r)
+          let cut_off : (request_from h (bytes ++ more)).action ≡ refused ShortBody = asks more ∙ ap (λ (r : Result (List ℕ) RequestFault). delivered posts.0 r)
           (sized_short n (drop len (bytes ++ more)) small (omega (arith, later more, lt))) in
-          let x : AsksByHead (bytes ++ more) (record { with_body = not (is_head h.method); asked = refused ShortBody }) =
-          asks_so (bytes ++ more) h (refused ShortBody) (has_more bytes more h has)
-          (subst (λ (a : Asked (List ℕ)). Dates a (refused ShortBody)) (sym cut_off) refl) in
-          ap (λ (r : Request ℕ). r.asked) (one_request (bytes ++ more) request2 _ asks2 (inl x));
+          let x : IsHttpRequestByHead (bytes ++ more) (record { with_body = not (is_head h.method); action = refused ShortBody }) =
+          request_so (bytes ++ more) h (refused ShortBody) (has_more bytes more h has)
+          (subst (λ (a : Action (List ℕ)). Dates a (refused ShortBody)) (sym cut_off) refl) in
+          ap (λ (r : Request ℕ). r.action) (one_request (bytes ++ more) request2 _ asks2 (inl x));
       enough = λ more le.
           let body = take n (drop len (bytes ++ more)) in
-          let whole : (asks_by h (bytes ++ more)).asked ≡ deliver posts.0 body = asks more ∙ ap (λ (r : Result (List ℕ) RequestFault). delivered posts.0 r)
+          let whole : (request_from h (bytes ++ more)).action ≡ deliver posts.0 body =
+          asks more ∙ ap (λ (r : Result (List ℕ) RequestFault). delivered posts.0 r)
           (sized_whole n (drop len (bytes ++ more)) small (omega (arith, later more, le))) in
-          let x : AsksByHead (bytes ++ more) (record { with_body = not (is_head h.method); asked = deliver posts.0 body }) =
-          asks_so (bytes ++ more) h (deliver posts.0 body) (has_more bytes more h has)
-          (subst (λ (a : Asked (List ℕ)). Dates a (deliver posts.0 body)) (sym whole) refl) in
+          let x : IsHttpRequestByHead (bytes ++ more) (record { with_body = not (is_head h.method); action = deliver posts.0 body }) =
+          request_so (bytes ++ more) h (deliver posts.0 body) (has_more bytes more h has)
+          (subst (λ (a : Action (List ℕ)). Dates a (deliver posts.0 body)) (sym whole) refl) in
           settled_by (bytes ++ more) _ x refl;
     }
 
@@ -302,7 +317,7 @@ lacks_more bytes more n x lt = record {
   fits = omega (arith, x.fits, length-append bytes more, lt);
   short = λ later short request asks.
       x.short (more ++ later) (omega (arith, length-append more later, short, lt)) request
-      (subst (λ (l : List ℕ). Asks l request) (append_assoc bytes more later) asks);
+      (subst (λ (l : List ℕ). IsHttpRequest l request) (append_assoc bytes more later) asks);
   enough = λ later enough. subst IsSettled (sym (append_assoc bytes more later))
       (x.enough (more ++ later) (omega (arith, length-append more later, enough, lt)));
 }

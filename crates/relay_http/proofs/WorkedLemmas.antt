@@ -10,8 +10,8 @@ use Rattle.std.proofs.Math.Seq.{drop-append_seam}
 use Rattle.httparse.specs.Grammar.{Field, IsField, IsRequestHead, IsToken, RequestHead, crlf}
 use Rattle.httparse.specs.Grammar.{is_token, is_token_byte, is_uri_byte, is_value_byte, print_request}
 use Rattle.httparse.specs.Spans.{name_and_value}
-use Rattle.relay_http.specs.Asked.{Request}
-use Rattle.relay_http.specs.Wanted.{Asks, DatesRequest, front, request_by}
+use Rattle.relay_http.specs.Request.{Request}
+use Rattle.relay_http.specs.RequestBytes.{IsHttpRequest, DatesRequest, front, request_by}
 use Rattle.relay_http.proofs.RouteLemmas.{below_ascii}
 
 abbrev is_field : Field → Bool
@@ -62,7 +62,7 @@ spelled method target minor fields = record {
 pub worked : (h : RequestHead) (rest bytes : List ℕ) (request : Request ℕ)
     → is_request_head h ≡ true → bytes ≡ print_request h ++ rest → nat_le (length bytes) 8192 ≡ true → nat_le (length h.fields) 32 ≡ true
     → DatesRequest (request_by h.method h.target h.minor (map name_and_value h.fields) rest) request
-    → Asks bytes request
+    → IsHttpRequest bytes request
 unfolding front
 worked h rest bytes request is parts short few dates =
     let size : length bytes ≤ 8192 = grind (arith, nat_tests) in

@@ -6,20 +6,24 @@ use Rattle.roster.specs.Fields.{RosterFields}
 use Rattle.desk_store.specs.Left.{Left, AddsOnly}
 use Rattle.desk_store.specs.declared.keeper.Keeper.{Ghosts}
 use Rattle.desk.specs.Crash.{IsAddedByDelivery}
-use Rattle.relay_http.specs.Asked.{Asked, Request, deliver, all_messages, count, grants}
-use Rattle.relay_http.specs.Asked.{parked, host_file, host_file_after, report, refused}
-use Rattle.relay_http.specs.Replies.{Reply}
-use Rattle.relay_http.specs.Reply.{written}
+use Rattle.relay_http.specs.Request.{Action, Request, deliver, all_messages, count, grants}
+use Rattle.relay_http.specs.Request.{parked, host_file, host_file_after, report, refused}
+use Rattle.relay_http.specs.Request.{requests, requests_after, named_request}
+use Rattle.relay_http.specs.Responses.{Response}
+use Rattle.relay_http.specs.Response.{written}
 use Rattle.relay_http.specs.declared.status.Status.TheVariants.{Done}
 
--- A delivery commits only its message, if that is to be acknowledged and the keeper was up. Nothing
--- else that is asked commits anything.
+-- A delivery commits only its message, if that is to be acknowledged and the keeper was up. No
+-- other action commits anything.
 abbrev pub IsAddedBy : (Up : Type 0) → RosterFields Cmnd → (roster : List ℕ)
-    → (old : Message → Type 0) → Asked ℕ → Left → Type 0
+    → (old : Message → Type 0) → Action ℕ → Left → Type 0
 IsAddedBy Up f roster old (deliver relay body) left =
     IsAddedByDelivery Up f roster old (record { relay = relay; body = body }) left
 IsAddedBy Up f roster old all_messages left = ⊥
 IsAddedBy Up f roster old count left = ⊥
+IsAddedBy Up f roster old requests left = ⊥
+IsAddedBy Up f roster old (requests_after at) left = ⊥
+IsAddedBy Up f roster old (named_request asker number) left = ⊥
 IsAddedBy Up f roster old (grants at) left = ⊥
 IsAddedBy Up f roster old parked left = ⊥
 IsAddedBy Up f roster old (host_file host) left = ⊥
@@ -27,17 +31,17 @@ IsAddedBy Up f roster old (host_file_after host at) left = ⊥
 IsAddedBy Up f roster old (report at) left = ⊥
 IsAddedBy Up f roster old (refused fault) left = ⊥
 
--- After a reply with the status 200 the keeper is up. A crash leaves what it might have left
+-- After a response with the status 200 the keeper is up. A crash leaves what it might have left
 -- before, and besides only what was committed.
 pub record Lasts {K : Type 0} (g : Ghosts K) (f : RosterFields Cmnd) (roster : List ℕ)
-    (before after : K) (asked : Asked ℕ) (reply : Reply) : Type 0 where
-  pub live : g.is_clean after → reply.status ≡ Done → g.is_up after
+    (before after : K) (action : Action ℕ) (response : Response) : Type 0 where
+  pub live : g.is_clean after → response.status ≡ Done → g.is_up after
   pub leaves : g.is_clean after → AddsOnly (g.may_leave before) (g.may_leave after)
-      (IsAddedBy (g.is_up before) f roster (g.holds before) asked)
+      (IsAddedBy (g.is_up before) f roster (g.holds before) action)
 
--- the same, with a reply whose bytes were written
+-- the same, with a response whose bytes were written
 abbrev pub LastsWith : {K : Type 0} → Ghosts K → RosterFields Cmnd → (roster : List ℕ)
     → (before after : K) → (Wrote : List ℕ → Type 0) → Request ℕ → Type 0
 LastsWith g f roster before after Wrote request =
-    (reply : Reply) × Lasts g f roster before after request.asked reply
-    × Wrote (written reply.status reply.body request.with_body)
+    (response : Response) × Lasts g f roster before after request.action response
+    × Wrote (written response.status response.body request.with_body)

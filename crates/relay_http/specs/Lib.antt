@@ -1,11 +1,11 @@
-pub mod Asked
+pub mod Request
 pub mod Target
 pub mod Routes
 pub mod Fields
 pub mod Content
-pub mod Wanted
-pub mod Reply
-pub mod Replies
+pub mod RequestBytes
+pub mod Response
+pub mod Responses
 pub mod Exchange
 pub mod Lasting
 pub mod Counting

@@ -1,9 +1,9 @@
--- What the bytes that have come of a request still need, until it is known what it asks for.
+-- What the bytes that have come of a request still need, until the request is known.
 use Rattle.std.specs.Prelude.{◌≡◌, ◌≤◌, ◌<◌, ◌+◌, ◌++◌, ℕ, List, Option, Result, Ok, Err, length}
 use Rattle.std.specs.Io.KnownBytes.{Consumes}
 use Rattle.httparse.specs.Grammar.{RequestHead}
-use Rattle.relay_http.specs.Asked.{Request, refused}
-use Rattle.relay_http.specs.Wanted.{Asks, HasHead, most_head_bytes}
+use Rattle.relay_http.specs.Request.{Request, refused}
+use Rattle.relay_http.specs.RequestBytes.{IsHttpRequest, HasHead, most_head_bytes}
 use Rattle.relay_http.specs.Counting.{one_failure}
 use Rattle.relay_http.specs.declared.exchange.Need.{Need}
 use Rattle.relay_http.specs.declared.exchange.Need.TheVariants as need
@@ -11,9 +11,9 @@ use Rattle.relay_http.specs.declared.exchange.ReadFault.{ReadFault}
 use Rattle.relay_http.specs.declared.exchange.ReadFault.TheVariants as fault
 use Rattle.relay_http.specs.declared.fault.RequestFault.TheVariants.{ShortBody}
 
--- The bytes ask for one thing, whatever bytes follow.
+-- The bytes are one request, whatever bytes follow.
 abbrev pub IsSettled : List ℕ → Type 0
-IsSettled bytes = (request : Request ℕ) × ((more : List ℕ) → Asks (bytes ++ more) request)
+IsSettled bytes = (request : Request ℕ) × ((more : List ℕ) → IsHttpRequest (bytes ++ more) request)
 
 -- no head is there
 abbrev pub HasNoHead : List ℕ → Type 0
@@ -29,7 +29,7 @@ pub record LacksContent (bytes : List ℕ) (n : ℕ) : Type 0 where
   pub some : 0 < n
   pub fits : length bytes + n ≤ most_read
   pub short : (more : List ℕ) → length more < n → (request : Request ℕ)
-      → Asks (bytes ++ more) request → request.asked ≡ refused ShortBody
+      → IsHttpRequest (bytes ++ more) request → request.action ≡ refused ShortBody
   pub enough : (more : List ℕ) → n ≤ length more → IsSettled (bytes ++ more)
 
 -- What the bytes need: the rest of a head, where none is there and one may still be; so many bytes

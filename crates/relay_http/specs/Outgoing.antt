@@ -1,4 +1,4 @@
--- A reply on its way out: its bytes, and how many of them went out. For the program alone.
+-- A response on its way out: its bytes, and how many of them went out. For the program alone.
 use Rattle.std.specs.Prelude.{ℕ, List, [], Bool, string_bytes}
 use Rattle.std.specs.Prelude.{if◌then◌else◌}
 use Rattle.relay_http.specs.declared.body.Body.{Body}
@@ -10,4 +10,4 @@ body_bytes (Made text) = string_bytes text
 
 -- the body, where it is wanted
 abbrev pub part_of : Body → Bool → List ℕ
-part_of body is_wanted = if is_wanted then body_bytes body else []
+part_of body with_body = if with_body then body_bytes body else []

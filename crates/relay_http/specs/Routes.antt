@@ -7,68 +7,79 @@ use Rattle.matchit.specs.Route.{Scan, parse_route}
 use Rattle.matchit.specs.Router.{RouteOf, nearest, route_from}
 use Rattle.matchit.specs.Params.{walk, named}
 use Rattle.matchit.specs.declared.error.InsertError.{InsertError}
-use Rattle.relay_http.specs.declared.place.Place.{Place}
-use Rattle.relay_http.specs.declared.place.Place.TheVariants.{Messages, AllMessages, Count, Grants}
-use Rattle.relay_http.specs.declared.place.Place.TheVariants.{Parked, HostFile, HostFileAfter}
-use Rattle.relay_http.specs.declared.place.Place.TheVariants.{Report}
+use Rattle.relay_http.specs.declared.route.Route.{Route}
+use Rattle.relay_http.specs.declared.route.Route.TheVariants.{Messages, AllMessages, Count, Grants}
+use Rattle.relay_http.specs.declared.route.Route.TheVariants.{Parked, HostFile, HostFileAfter}
+use Rattle.relay_http.specs.declared.route.Route.TheVariants.{Report, Requests}
+use Rattle.relay_http.specs.declared.route.Route.TheVariants.{RequestsAfter, NamedRequest}
 
 -- the routes with one more
-abbrev pub added : Result Scan InsertError → Place → RowsOf (RouteOf Place) → RowsOf (RouteOf Place)
-added (Ok s) place rows = placed (s.pattern, route_from s place) rows
-added (Err e) place rows = rows
+abbrev pub added : Result Scan InsertError → Route → RowsOf (RouteOf Route) → RowsOf (RouteOf Route)
+added (Ok s) route rows = placed (s.pattern, route_from s route) rows
+added (Err e) route rows = rows
 
-abbrev pub with_route : List ℕ → Place → RowsOf (RouteOf Place) → RowsOf (RouteOf Place)
-with_route text place rows = added (parse_route text) place rows
+abbrev pub with_route : List ℕ → Route → RowsOf (RouteOf Route) → RowsOf (RouteOf Route)
+with_route text route rows = added (parse_route text) route rows
 
 -- no route conflicts with this one
-abbrev pub IsFree : Result Scan InsertError → RowsOf (RouteOf Place) → Type 0
+abbrev pub IsFree : Result Scan InsertError → RowsOf (RouteOf Route) → Type 0
 IsFree (Ok s) rows = nearest s.pattern rows ≡ None
 IsFree (Err e) rows = ⊥
 
--- the route of each place: a parameter in braces takes one component of the path, which is not
--- empty
-unfoldable pub routes : RowsOf (RouteOf Place)
+-- Each route with its path: a parameter in braces takes one component of the path, which is not
+-- empty. A component that is a route's own word is that word first, and a parameter's part only
+-- where no such route has the rest of the target.
+unfoldable pub routes : RowsOf (RouteOf Route)
 routes =
-    with_route (codes "/v1/count") Count
+    with_route (codes "/v1/requests/{asker}/{no}") NamedRequest
+    (with_route (codes "/v1/requests/after/{at}") RequestsAfter
+    (with_route (codes "/v1/requests") Requests
+    (with_route (codes "/v1/count") Count
     (with_route (codes "/v1/messages") AllMessages
     (with_route (codes "/v1/hosts/{host}/sudoers/{at}") HostFileAfter
     (with_route (codes "/v1/reviews/{at}") Report
     (with_route (codes "/v1/hosts/{host}/sudoers") HostFile
     (with_route (codes "/v1/parked") Parked
     (with_route (codes "/v1/grants/{at}") Grants
-    (with_route (codes "/v1/relays/{relay}/messages") Messages [])))))))
+    (with_route (codes "/v1/relays/{relay}/messages") Messages []))))))))))
 
 -- the part of the target that the route's parameter of this name takes
-unfoldable pub part : List ℕ → RouteOf Place → List ℕ → List ℕ
+unfoldable pub part : List ℕ → RouteOf Route → List ℕ → List ℕ
 part name route target =
     unwrap_or (named name (walk route.pattern route.text target route.names 0 0)) []
 
--- the name of the first parameter in the route of a place
-abbrev pub parameter : Place → List ℕ
+-- the name of the first parameter of a route
+abbrev pub parameter : Route → List ℕ
 parameter Messages = codes "relay"
 parameter AllMessages = []
 parameter Count = []
+parameter Requests = []
+parameter RequestsAfter = codes "at"
+parameter NamedRequest = codes "asker"
 parameter Grants = codes "at"
 parameter Parked = []
 parameter HostFile = codes "host"
 parameter HostFileAfter = codes "host"
 parameter Report = codes "at"
 
--- the name of the moment's parameter after it
-abbrev pub moment_parameter : Place → List ℕ
-moment_parameter Messages = []
-moment_parameter AllMessages = []
-moment_parameter Count = []
-moment_parameter Grants = []
-moment_parameter Parked = []
-moment_parameter HostFile = []
-moment_parameter HostFileAfter = codes "at"
-moment_parameter Report = []
+-- the name of the second
+abbrev pub second_parameter : Route → List ℕ
+second_parameter Messages = []
+second_parameter AllMessages = []
+second_parameter Count = []
+second_parameter Requests = []
+second_parameter RequestsAfter = []
+second_parameter NamedRequest = codes "no"
+second_parameter Grants = []
+second_parameter Parked = []
+second_parameter HostFile = []
+second_parameter HostFileAfter = codes "at"
+second_parameter Report = []
 
--- the place is the route's, and the bytes are what its parameters took
-abbrev pub Takes : Option (RouteOf Place) → List ℕ → Option (Place × List ℕ × List ℕ) → Type 0
+-- the value is the route's, and the bytes are what its parameters took
+abbrev pub Takes : Option (RouteOf Route) → List ℕ → Option (Route × List ℕ × List ℕ) → Type 0
 Takes None target None = Unit {0}
 Takes None target (Some x) = ⊥
 Takes (Some route) target None = ⊥
 Takes (Some route) target (Some x) = (route.value ≡ x.0)
-    × (part (parameter x.0) route target ≡ x.1) × (part (moment_parameter x.0) route target ≡ x.2)
+    × (part (parameter x.0) route target ≡ x.1) × (part (second_parameter x.0) route target ≡ x.2)

@@ -1,4 +1,4 @@
--- What went out of a reply.
+-- What went out of a response.
 use Rattle.std.specs.Prelude.{◌≡◌, ℕ, List, ◌++◌, Option, Result, Ok, Err}
 use Rattle.std.specs.Io.KnownBytes.{Appends}
 

@@ -1,7 +1,8 @@
 -- When the content is not there yet. For the program alone: no promise cites it.
 use Rattle.std.specs.Prelude.{Bool, true, false}
-use Rattle.relay_http.specs.Asked.{Asked, Request, deliver, all_messages, count, grants}
-use Rattle.relay_http.specs.Asked.{parked, host_file, host_file_after, report, refused}
+use Rattle.relay_http.specs.Request.{Action, Request, deliver, all_messages, count, grants}
+use Rattle.relay_http.specs.Request.{parked, host_file, host_file_after, report, refused}
+use Rattle.relay_http.specs.Request.{requests, requests_after, named_request}
 use Rattle.relay_http.specs.declared.fault.RequestFault.{RequestFault}
 use Rattle.relay_http.specs.declared.fault.RequestFault.TheVariants.{BadHead, BadTarget, NoRoute}
 use Rattle.relay_http.specs.declared.fault.RequestFault.TheVariants.{BadMethod, LengthRequired}
@@ -19,10 +20,13 @@ is_short_body BadLength = false
 is_short_body TooLong = false
 is_short_body BadMoment = false
 
-abbrev pub lacks_content : {At : Type 0} → Asked At → Bool
+abbrev pub lacks_content : {At : Type 0} → Action At → Bool
 lacks_content (deliver relay body) = false
 lacks_content all_messages = false
 lacks_content count = false
+lacks_content requests = false
+lacks_content (requests_after at) = false
+lacks_content (named_request asker number) = false
 lacks_content (grants at) = false
 lacks_content parked = false
 lacks_content (host_file host) = false
@@ -31,4 +35,4 @@ lacks_content (report at) = false
 lacks_content (refused fault) = is_short_body fault
 
 abbrev pub is_short : {At : Type 0} → Request At → Bool
-is_short request = lacks_content request.asked
+is_short request = lacks_content request.action

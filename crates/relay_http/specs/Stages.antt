@@ -8,7 +8,7 @@ use Rattle.relay_http.specs.Content.{is_length, sized}
 use Rattle.relay_http.specs.Fields.{Fields, is_bad_host, values}
 use Rattle.relay_http.specs.Needs.{HasNoHead, IsSettled, LacksContent}
 use Rattle.relay_http.specs.Scan.{scanned}
-use Rattle.relay_http.specs.Wanted.{HasHead, front, most_head_bytes}
+use Rattle.relay_http.specs.RequestBytes.{HasHead, front, most_head_bytes}
 use Rattle.relay_http.specs.declared.exchange.Stage.{Stage}
 use Rattle.relay_http.specs.declared.exchange.Stage.TheVariants as stage
 use Rattle.relay_http.specs.declared.fault.RequestFault.{RequestFault}

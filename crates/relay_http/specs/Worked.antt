@@ -1,6 +1,6 @@
--- Worked requests and replies, as text.
+-- Worked requests and responses, as text.
 use Rattle.std.specs.Prelude.{ℕ, List, [], ◌∷◌, ◌++◌, codes}
-use Rattle.relay_http.specs.Reply.{line_end}
+use Rattle.relay_http.specs.Response.{line_end}
 
 -- lines, each ended by a carriage return and a newline
 abbrev pub lines : List (List ℕ) → List ℕ
@@ -18,5 +18,5 @@ posted size = lines (codes "POST /v1/relays/web/messages HTTP/1.1"
     ∷ codes "Host: desk" ∷ (codes "Content-Length: " ++ size) ∷ [] ∷ []) ++ approval
 
 -- a head of this request line and one Host field
-abbrev pub asked_with_host : (request_line : List ℕ) → List ℕ
-asked_with_host request_line = lines (request_line ∷ codes "Host: desk" ∷ [] ∷ [])
+abbrev pub head_with_host : (request_line : List ℕ) → List ℕ
+head_with_host request_line = lines (request_line ∷ codes "Host: desk" ∷ [] ∷ [])

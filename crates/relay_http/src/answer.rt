@@ -1,9 +1,9 @@
-//! Replies, before they are written.
+//! Responses, before they are written.
 
 ghost use Rattle.std.specs.Prelude.{◌≡◌};
-ghost use Rattle.relay_http.specs.Prepared.{reply_of, to_question};
-ghost use Rattle.relay_http.specs.Replies.{TellsRefusal, refusal, to_delivery};
-ghost use Rattle.relay_http.specs.Reply.{fault_line, status_of};
+ghost use Rattle.relay_http.specs.Prepared.{response_of, to_question};
+ghost use Rattle.relay_http.specs.Responses.{TellsRefusal, refusal, to_delivery};
+ghost use Rattle.relay_http.specs.Response.{fault_line, status_of};
 
 use crate::body::Body;
 use crate::fault::RequestFault;
@@ -11,7 +11,7 @@ use crate::refusal_line::{refusal_line, refusal_status};
 use crate::status::Status;
 use desk::{Ack, Refusal};
 
-/// A reply, before it is written: its status, its body, and the desk's refusal that it tells.
+/// A response, before it is written: its status, its body, and the desk's refusal that it tells.
 #[derive(Debug, Drop)]
 pub struct Answer {
     pub status: Status,
@@ -19,11 +19,11 @@ pub struct Answer {
     pub refusal: Option<Refusal>,
 }
 
-/// The reply to a request that is refused by its bytes alone. It takes no memory.
+/// The response to a request that is refused by its bytes alone. It takes no memory.
 pub fn to_fault(fault: RequestFault) -> Answer
-    ensures status { (reply_of result).status ≡ status_of fault }
-    ensures body { (reply_of result).body ≡ fault_line fault }
-    ensures told { TellsRefusal result.refusal (reply_of result) }
+    ensures status { (response_of result).status ≡ status_of fault }
+    ensures body { (response_of result).body ≡ fault_line fault }
+    ensures told { TellsRefusal result.refusal (response_of result) }
 {
     Answer {
         status: fault.status(),
@@ -32,10 +32,10 @@ pub fn to_fault(fault: RequestFault) -> Answer
     }
 }
 
-/// The reply to what the desk refuses. It takes no memory.
+/// The response to what the desk refuses. It takes no memory.
 fn to_refusal(reason: Refusal) -> Answer
-    ensures reply { reply_of result ≡ refusal reason }
-    ensures told { TellsRefusal result.refusal (reply_of result) }
+    ensures response { response_of result ≡ refusal reason }
+    ensures told { TellsRefusal result.refusal (response_of result) }
 {
     Answer {
         status: refusal_status(reason),
@@ -44,10 +44,10 @@ fn to_refusal(reason: Refusal) -> Answer
     }
 }
 
-/// The reply to a delivery. It takes no memory.
+/// The response to a delivery. It takes no memory.
 pub fn to_delivery(answer: Result<Ack, Refusal>) -> Answer
-    ensures reply { reply_of result ≡ to_delivery answer }
-    ensures told { TellsRefusal result.refusal (reply_of result) }
+    ensures response { response_of result ≡ to_delivery answer }
+    ensures told { TellsRefusal result.refusal (response_of result) }
 {
     match answer {
         Ok(_) => Answer {
@@ -59,10 +59,10 @@ pub fn to_delivery(answer: Result<Ack, Refusal>) -> Answer
     }
 }
 
-/// The reply to a question of the desk.
+/// The response to a question of the desk.
 pub fn to_question(answer: Result<String, Refusal>) -> Answer
-    ensures reply { reply_of result ≡ to_question answer }
-    ensures told { TellsRefusal result.refusal (reply_of result) }
+    ensures response { response_of result ≡ to_question answer }
+    ensures told { TellsRefusal result.refusal (response_of result) }
 {
     match answer {
         Ok(text) => Answer {

@@ -1,18 +1,20 @@
-//! The desk's answers to what requests ask.
+//! The desk's answers to the actions of requests.
 
 ghost use Rattle.std.specs.Prelude.{◌≡◌};
 ghost use Rattle.desk_store.specs.Serves.{Serves};
-ghost use Rattle.relay_http.specs.Asked.{all_messages, asked_of, count, deliver, grants};
-ghost use Rattle.relay_http.specs.Asked.{host_file, host_file_after, parked, report};
+ghost use Rattle.relay_http.specs.Request.{all_messages, action_of, count, deliver, grants};
+ghost use Rattle.relay_http.specs.Request.{host_file, host_file_after, named_request, parked};
+ghost use Rattle.relay_http.specs.Request.{report, requests, requests_after};
 ghost use Rattle.relay_http.specs.Exchange.{IsAnswered};
 ghost use Rattle.relay_http.specs.Lasting.{Lasts};
-ghost use Rattle.relay_http.specs.Prepared.{reply_of, to_question};
-ghost use Rattle.relay_http.specs.Replies.{TellsRefusal};
+ghost use Rattle.relay_http.specs.Prepared.{response_of, to_question};
+ghost use Rattle.relay_http.specs.Responses.{TellsRefusal};
 
+use crate::action::Action;
 use crate::answer::{Answer, to_delivery, to_fault, to_question};
-use crate::asked::Ask;
 use crate::bodies::{count_text, lines_text, live_text};
 use desk::{Desk, Keeper, Refusal};
+use findings::Pick;
 use std::alloc::Global;
 use sudo_words::{HostName, Moment, WordFault};
 
@@ -21,10 +23,10 @@ fn delivered<K: Keeper>(desk: &mut Desk<K>, relay: &str, body: &[u8]) -> Answer
     ensures answered { IsAnswered desk.old.roster desk.old.base
         (K.is_up desk.new.keeper) (K.holds desk.old.keeper) (K.holds desk.new.keeper)
         (K.is_same desk.old.keeper desk.new.keeper) (Serves K.Keeper desk.old.keeper
-        desk.new.keeper) (deliver relay.now body.now) (reply_of result) }
+        desk.new.keeper) (deliver relay.now body.now) (response_of result) }
     ensures lasts { Lasts K.Keeper desk.old.roster.says desk.old.roster.text
-        desk.old.keeper desk.new.keeper (deliver relay.now body.now) (reply_of result) }
-    ensures told { TellsRefusal result.refusal (reply_of result) }
+        desk.old.keeper desk.new.keeper (deliver relay.now body.now) (response_of result) }
+    ensures told { TellsRefusal result.refusal (response_of result) }
     ensures roster { desk.new.roster ≡ desk.old.roster }
     ensures base { desk.new.base ≡ desk.old.base }
 {
@@ -69,6 +71,48 @@ fn count<K: Keeper>(alloc: Global, desk: &mut Desk<K>) -> Result<String, Refusal
         },
         Err(refusal) => Err(refusal),
     }
+}
+
+/// What became of every request.
+fn requests<K: Keeper>(desk: &mut Desk<K>) -> Result<String, Refusal>
+    ensures answered { IsAnswered desk.old.roster desk.old.base
+        (K.is_up desk.new.keeper) (K.holds desk.old.keeper) (K.holds desk.new.keeper)
+        (K.is_same desk.old.keeper desk.new.keeper)
+        (Serves K.Keeper desk.old.keeper desk.new.keeper) requests (to_question result) }
+    ensures lasts { Lasts K.Keeper desk.old.roster.says desk.old.roster.text
+        desk.old.keeper desk.new.keeper requests (to_question result) }
+    ensures roster { desk.new.roster ≡ desk.old.roster }
+    ensures base { desk.new.base ≡ desk.old.base }
+{
+    desk_audit::document(desk, &Pick::all())
+}
+
+/// What became of the requests after the moment.
+fn requests_after<K: Keeper>(desk: &mut Desk<K>, at: Moment) -> Result<String, Refusal>
+    ensures answered { IsAnswered desk.old.roster desk.old.base
+        (K.is_up desk.new.keeper) (K.holds desk.old.keeper) (K.holds desk.new.keeper)
+        (K.is_same desk.old.keeper desk.new.keeper)
+        (Serves K.Keeper desk.old.keeper desk.new.keeper) (requests_after at) (to_question result) }
+    ensures lasts { Lasts K.Keeper desk.old.roster.says desk.old.roster.text
+        desk.old.keeper desk.new.keeper (requests_after at) (to_question result) }
+    ensures roster { desk.new.roster ≡ desk.old.roster }
+    ensures base { desk.new.base ≡ desk.old.base }
+{
+    desk_audit::document(desk, &Pick::after(at))
+}
+
+/// What became of the request that the asker made under the number.
+fn named_request<K: Keeper>(desk: &mut Desk<K>, asker: &str, no: u32) -> Result<String, Refusal>
+    ensures answered { IsAnswered desk.old.roster desk.old.base
+        (K.is_up desk.new.keeper) (K.holds desk.old.keeper) (K.holds desk.new.keeper)
+        (K.is_same desk.old.keeper desk.new.keeper) (Serves K.Keeper desk.old.keeper
+        desk.new.keeper) (named_request asker.now no) (to_question result) }
+    ensures lasts { Lasts K.Keeper desk.old.roster.says desk.old.roster.text
+        desk.old.keeper desk.new.keeper (named_request asker.now no) (to_question result) }
+    ensures roster { desk.new.roster ≡ desk.old.roster }
+    ensures base { desk.new.base ≡ desk.old.base }
+{
+    desk_audit::document_of(desk, asker, no)
 }
 
 /// The lines of the grants in force.
@@ -166,27 +210,31 @@ fn report<K: Keeper>(desk: &mut Desk<K>, at: Moment) -> Result<String, Refusal>
     review::report(desk, at)
 }
 
-/// The answer of the desk to what is asked.
-pub fn answered<K: Keeper>(alloc: Global, desk: &mut Desk<K>, ask: Ask<'_>) -> Answer
+/// The answer of the desk to an action.
+pub fn answered<K: Keeper>(alloc: Global, desk: &mut Desk<K>, action: Action<'_>) -> Answer
     ensures answered { IsAnswered desk.old.roster desk.old.base
         (K.is_up desk.new.keeper) (K.holds desk.old.keeper) (K.holds desk.new.keeper)
         (K.is_same desk.old.keeper desk.new.keeper)
-        (Serves K.Keeper desk.old.keeper desk.new.keeper) (asked_of ask.entry) (reply_of result) }
+        (Serves K.Keeper desk.old.keeper desk.new.keeper)
+        (action_of action.entry) (response_of result) }
     ensures lasts { Lasts K.Keeper desk.old.roster.says desk.old.roster.text
-        desk.old.keeper desk.new.keeper (asked_of ask.entry) (reply_of result) }
-    ensures told { TellsRefusal result.refusal (reply_of result) }
+        desk.old.keeper desk.new.keeper (action_of action.entry) (response_of result) }
+    ensures told { TellsRefusal result.refusal (response_of result) }
     ensures roster { desk.new.roster ≡ desk.old.roster }
     ensures base { desk.new.base ≡ desk.old.base }
 {
-    match ask {
-        Ask::Deliver { relay, body } => delivered(desk, relay, body),
-        Ask::AllMessages => to_question(all_messages(alloc, desk)),
-        Ask::Count => to_question(count(alloc, desk)),
-        Ask::Grants(at) => to_question(live(alloc, desk, at)),
-        Ask::Parked => to_question(parked(alloc, desk)),
-        Ask::HostFile(host) => to_question(host_file(alloc, desk, host)),
-        Ask::HostFileAfter(host, at) => to_question(host_file_after(alloc, desk, host, at)),
-        Ask::Report(at) => to_question(report(desk, at)),
-        Ask::Refused(fault) => to_fault(fault),
+    match action {
+        Action::Deliver { relay, body } => delivered(desk, relay, body),
+        Action::AllMessages => to_question(all_messages(alloc, desk)),
+        Action::Count => to_question(count(alloc, desk)),
+        Action::Requests => to_question(requests(desk)),
+        Action::RequestsAfter(at) => to_question(requests_after(desk, at)),
+        Action::NamedRequest { asker, no } => to_question(named_request(desk, asker, no)),
+        Action::Grants(at) => to_question(live(alloc, desk, at)),
+        Action::Parked => to_question(parked(alloc, desk)),
+        Action::HostFile(host) => to_question(host_file(alloc, desk, host)),
+        Action::HostFileAfter(host, at) => to_question(host_file_after(alloc, desk, host, at)),
+        Action::Report(at) => to_question(report(desk, at)),
+        Action::Refused(fault) => to_fault(fault),
     }
 }

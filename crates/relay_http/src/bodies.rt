@@ -1,9 +1,9 @@
-//! The bodies of replies to questions.
+//! The bodies of responses to questions.
 
 ghost use Rattle.std.specs.Prelude.{◌≡◌, ◌++◌, ◌∷◌, [], IfOk, OnOk, map, string_bytes};
-ghost use Rattle.relay_http.specs.Replies.{count_line, digest_text};
-ghost use Rattle.relay_http.specs.Replies.{each_on_a_line, live_line, moment_text};
-ghost use Rattle.relay_http.specs.Replies.{name_text, newline, window_text};
+ghost use Rattle.relay_http.specs.Responses.{count_line, digest_text};
+ghost use Rattle.relay_http.specs.Responses.{each_on_a_line, live_line, moment_text};
+ghost use Rattle.relay_http.specs.Responses.{name_text, newline, window_text};
 
 use desk::{Live, RequestName};
 use grants::Window;
@@ -13,7 +13,7 @@ use std::fmt::Write;
 use sudo_policy::{Policy, print_policy};
 use sudo_words::{Moment, NoMemory};
 
-#[tactic(auto, unfolding(crate::specs::Replies::moment_text))]
+#[tactic(auto, unfolding(crate::specs::Responses::moment_text))]
 fn push_stamp(out: &mut String, moment: Moment) -> Result<(), AllocError>
     ensures { OnOk result (string_bytes out.new ≡ string_bytes out.old ++ moment_text moment) }
 {
@@ -21,7 +21,7 @@ fn push_stamp(out: &mut String, moment: Moment) -> Result<(), AllocError>
 }
 
 /// Appends the window of a grant's line: its first and its last moment.
-#[tactic(auto, unfolding(crate::specs::Replies::window_text))]
+#[tactic(auto, unfolding(crate::specs::Responses::window_text))]
 fn push_window(out: &mut String, window: Window) -> Result<(), AllocError>
     ensures { OnOk result (string_bytes out.new ≡ string_bytes out.old ++ window_text window) }
 {
@@ -32,7 +32,7 @@ fn push_window(out: &mut String, window: Window) -> Result<(), AllocError>
 }
 
 /// Appends the name of a grant's request.
-#[tactic(auto, unfolding(crate::specs::Replies::name_text))]
+#[tactic(auto, unfolding(crate::specs::Responses::name_text))]
 fn push_name(out: &mut String, name: &RequestName) -> Result<(), AllocError>
     ensures { OnOk result (string_bytes out.new ≡ string_bytes out.old ++ name_text name.now) }
 {
@@ -42,7 +42,7 @@ fn push_name(out: &mut String, name: &RequestName) -> Result<(), AllocError>
 }
 
 /// Appends the line of a grant in force.
-#[tactic(auto, unfolding(crate::specs::Replies::live_line))]
+#[tactic(auto, unfolding(crate::specs::Responses::live_line))]
 fn push_live(out: &mut String, live: &Live) -> Result<(), AllocError>
     ensures { OnOk result
         (string_bytes out.new ≡ string_bytes out.old ++ live_line live.now ++ newline ∷ []) }
@@ -85,7 +85,7 @@ pub fn lines_text(alloc: Global, texts: &[String]) -> Result<String, AllocError>
 }
 
 /// Appends the SHA-256 digest of the text.
-#[tactic(auto, unfolding(crate::specs::Replies::digest_text))]
+#[tactic(auto, unfolding(crate::specs::Responses::digest_text))]
 fn push_digest(alloc: Global, out: &mut String, text: &str) -> Result<(), AllocError>
     ensures { OnOk result (string_bytes out.new ≡ string_bytes out.old ++ digest_text text.now) }
 {
@@ -95,7 +95,7 @@ fn push_digest(alloc: Global, out: &mut String, text: &str) -> Result<(), AllocE
 
 /// The line that says how many messages there are, with the digests of the roster's text and of the
 /// base's canonical text.
-#[tactic(auto, unfolding(crate::specs::Replies::count_line))]
+#[tactic(auto, unfolding(crate::specs::Responses::count_line))]
 pub fn count_text(
     alloc: Global,
     messages: usize,

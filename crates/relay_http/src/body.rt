@@ -1,9 +1,9 @@
-//! The bodies of replies.
+//! The bodies of responses.
 
 ghost use Rattle.std.specs.Prelude.{◌≡◌};
 ghost use Rattle.relay_http.specs.Outgoing.{body_bytes, part_of};
 
-/// The body of a reply: one of the program's own lines, or a text that was made for it.
+/// The body of a response: one of the program's own lines, or a text that was made for it.
 #[derive(Debug, Drop)]
 pub enum Body {
     Fixed(&'static [u8]),
@@ -21,11 +21,11 @@ impl Body {
         }
     }
 
-    /// Its bytes where it is wanted, and else none.
-    pub fn part(&self, is_wanted: bool) -> &[u8]
-        ensures { result.now ≡ part_of self.now is_wanted }
+    /// Its bytes where the response has its body, and else none.
+    pub fn part(&self, with_body: bool) -> &[u8]
+        ensures { result.now ≡ part_of self.now with_body }
     {
-        if is_wanted {
+        if with_body {
             return self.as_bytes();
         }
         b""

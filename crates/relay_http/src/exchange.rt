@@ -3,21 +3,21 @@
 ghost use Rattle.std.specs.Prelude.{◌≡◌, ◌≤◌, ◌<◌, ◌+◌, ◌++◌, [], IfOk, OnErr};
 ghost use Rattle.std.specs.Prelude.{◌==◌, Err, false, length, take, true};
 ghost use Rattle.std.specs.Io.KnownBytes.{IsAtEnd};
-ghost use Rattle.relay_http.specs.Asked.{request_of};
+ghost use Rattle.relay_http.specs.Request.{request_of};
 ghost use Rattle.relay_http.specs.Needs.{HasRead, IsNeed, IsSettled, after_reading};
 ghost use Rattle.relay_http.specs.Needs.{most_read, most_room};
 ghost use Rattle.relay_http.specs.declared.exchange.ReadFault.TheVariants as fault;
 ghost use Rattle.relay_http.specs.Scan.{scanned};
 ghost use Rattle.relay_http.specs.Stages.{IsFound, IsStage};
-ghost use Rattle.relay_http.specs.Wanted.{Asks};
+ghost use Rattle.relay_http.specs.RequestBytes.{IsHttpRequest};
 ghost use Rattle.relay_http.specs.declared.line.Line.TheVariants.{Blank};
 
-use crate::asked::Wanted;
+use crate::action::HttpRequest;
 use crate::counted::Counted;
 use crate::head::{Head, Looked, MOST_HEAD_BYTES, look};
 use crate::line::{Line, scan};
-use crate::outgoing::Page;
-use crate::request::{NO_HEAD, is_cut_short, wanted_by};
+use crate::outgoing::ExchangeBuffer;
+use crate::request::{NO_HEAD, is_cut_short, request_from};
 use crate::routes::Routes;
 use std::alloc::Global;
 use std::io::{ErrorKind, Read};
@@ -27,7 +27,7 @@ use sudo_words::NoMemory;
 /// Room for the longest head and the longest content, which are 24,576 bytes, and one more read.
 const MOST_ROOM: usize = 28_672;
 
-/// What has to come before it is known what a request asks for.
+/// What has to come before the request is known.
 #[derive(Clone, Copy, Debug, PartialEq, Eq)]
 pub enum Need {
     /// Nothing: no bytes that follow change it.
@@ -193,8 +193,8 @@ impl Exchange {
         }
     }
 
-    /// Whether no bytes that follow change what those that have come ask for. So it is once 24,576
-    /// have come.
+    /// Whether no bytes that follow change the request that those that have come are. So it is once
+    /// 24,576 have come.
     pub fn is_settled(&self) -> bool
         ensures settled { result ≡ true → IsSettled self.now.bytes }
         ensures open { result ≡ false → length self.now.bytes < most_read }
@@ -208,7 +208,7 @@ impl Exchange {
         &mut self,
         routes: &Routes,
         reader: &mut Counted<R>,
-        page: &mut Page,
+        buffer: &mut ExchangeBuffer,
     ) -> Result<usize, ReadFault>
         ensures read { IfOk result (λ n. HasRead (R.remaining reader.old.inner)
             (R.remaining reader.new.inner) self.old.bytes self.new.bytes n) }
@@ -220,11 +220,11 @@ impl Exchange {
             → self.old.room < length self.old.bytes + 4_096 }
         ensures counted { reader.new.failures ≡ after_reading result reader.old.failures }
     {
-        let count = match reader.read(&mut page.bytes) {
+        let count = match reader.read(&mut buffer.bytes) {
             Ok(count) => count,
             Err(error) => return Err(ReadFault::Failed(error.kind())),
         };
-        match self.take(routes, &page.bytes[..count]) {
+        match self.take(routes, &buffer.bytes[..count]) {
             Ok(_) => Ok(count),
             Err(NoMemory) => Err(ReadFault::NoMemory),
         }
@@ -244,13 +244,13 @@ impl Exchange {
         self.come.is_empty()
     }
 
-    /// What the bytes that have come ask for, if no more come. It takes no memory.
-    pub fn wanted(&self, routes: &Routes) -> Wanted<'_>
-        ensures { Asks self.now.bytes (request_of result) }
+    /// The request that the bytes that have come are, if no more come. It takes no memory.
+    pub fn request(&self, routes: &Routes) -> HttpRequest<'_>
+        ensures { IsHttpRequest self.now.bytes (request_of result) }
     {
         match self.stage {
-            Stage::Lacks(head, _) => wanted_by(routes, &head, self.come.as_slice()),
-            Stage::Found(head) => wanted_by(routes, &head, self.come.as_slice()),
+            Stage::Lacks(head, _) => request_from(routes, &head, self.come.as_slice()),
+            Stage::Found(head) => request_from(routes, &head, self.come.as_slice()),
             Stage::Begins(_) => NO_HEAD,
             Stage::Broken => NO_HEAD,
         }

@@ -1,6 +1,6 @@
 //! Why a request is refused by its bytes alone.
 
-use crate::place::Methods;
+use crate::route::Methods;
 use crate::status::Status;
 use desk::Refusal;
 use std::error::Error;
@@ -33,7 +33,7 @@ pub enum RequestFault {
 
 impl fmt::Display for RequestFault {
     ghost use Rattle.std.specs.Prelude.{Some};
-    ghost use Rattle.relay_http.specs.Reply.{fault_text};
+    ghost use Rattle.relay_http.specs.Response.{fault_text};
 
     ghost output = { λ f. Some (fault_text f) };
 
@@ -47,7 +47,7 @@ impl Error for RequestFault {}
 
 impl RequestFault {
     ghost use Rattle.std.specs.Prelude.{◌≡◌};
-    ghost use Rattle.relay_http.specs.Reply.{fault_line, status_of};
+    ghost use Rattle.relay_http.specs.Response.{fault_line, status_of};
 
     /// The status of the refusal.
     pub fn status(self) -> Status

@@ -1,11 +1,11 @@
-//! The desk's HTTP interface: what a request asks for, and the bytes of the reply.
+//! The desk's HTTP interface: what a request asks for, and the bytes of the response.
 //!
-//! A request is read in pieces, and a reply is written without taking memory.
+//! A request is read in pieces, and a response is written without taking memory.
 #![tactic(auto)]
 
+mod action;
 mod answer;
 mod answering;
-mod asked;
 mod bodies;
 mod body;
 mod content;
@@ -18,13 +18,13 @@ pub mod laws;
 mod line;
 mod methods;
 mod outgoing;
-mod page;
-mod place;
 mod reading;
 mod refusal_line;
-mod reply;
-mod replying;
 mod request;
+mod responding;
+mod response;
+mod response_head;
+mod route;
 mod routes;
 mod sending;
 mod serving;
@@ -33,15 +33,15 @@ mod target;
 mod values;
 mod worked;
 
-pub use asked::{Ask, Wanted};
+pub use action::{Action, HttpRequest};
 pub use counted::Counted;
 pub use exchange::{Exchange, Need, ReadFault};
 pub use fault::RequestFault;
-pub use outgoing::{Outgoing, Page};
-pub use place::Methods;
-pub use reply::{refused, written};
-pub use replying::Reply;
-pub use request::wanted;
+pub use outgoing::{ExchangeBuffer, Outgoing};
+pub use request::request_in;
+pub use responding::HttpResponse;
+pub use response::{refused, written};
+pub use route::Methods;
 pub use routes::Routes;
 pub use serving::{ServeFault, serve_one};
 pub use status::Status;

@@ -1,9 +1,9 @@
 //! The methods that the desk knows.
 
 ghost use Rattle.std.specs.Prelude.{◌≡◌};
-ghost use Rattle.relay_http.specs.Wanted.{allow, is_head};
+ghost use Rattle.relay_http.specs.RequestBytes.{allow, is_head};
 
-use crate::place::Methods;
+use crate::route::Methods;
 use http::Method;
 
 /// Whether the method is HEAD.

@@ -1,42 +1,42 @@
-//! A reply on its way out.
+//! A response on its way out.
 
 ghost use Rattle.std.specs.Prelude.{◌≡◌, ◌≤◌, ◌<◌, ◌+◌, ◌++◌, ◌==◌, [], drop, length, take};
 ghost use Rattle.std.specs.Prelude.{IfOk, OnErr};
 ghost use Rattle.std.specs.Io.KnownBytes.{Appends};
 ghost use Rattle.relay_http.specs.Counting.{after_write};
 ghost use Rattle.relay_http.specs.Outgoing.{body_bytes};
-ghost use Rattle.relay_http.specs.Reply.{written};
+ghost use Rattle.relay_http.specs.Response.{written};
 
 use crate::body::Body;
 use crate::counted::Counted;
-use crate::page::{MOST_REPLY_HEAD, PAGE, blank_page, put, put_head};
+use crate::response_head::{BUFFER_SIZE, MOST_RESPONSE_HEAD, blank_buffer, put, put_head};
 use crate::status::Status;
 use std::alloc::Global;
 use std::io::{self, ErrorKind, Write};
 use std::marker::Model;
 use sudo_words::NoMemory;
 
-/// A page for what one read brings, and on which a short reply is put together, so that one write
-/// sends it. What is on it before is never looked at.
+/// A buffer for what one read brings, and in which a short response is put together, so that one
+/// write sends it. What is in it before is never looked at.
 #[derive(Drop)]
-pub struct Page {
+pub struct ExchangeBuffer {
     pub(crate) bytes: Vec<u8>,
     ghost whole: { length bytes.items ≡ 4_096 },
 }
 
-impl Page {
-    /// A blank page.
-    pub fn new(alloc: Global) -> Result<Page, NoMemory> {
-        Ok(Page {
-            bytes: blank_page(alloc)?,
+impl ExchangeBuffer {
+    /// An empty buffer.
+    pub fn new(alloc: Global) -> Result<ExchangeBuffer, NoMemory> {
+        Ok(ExchangeBuffer {
+            bytes: blank_buffer(alloc)?,
         })
     }
 }
 
-/// A reply on its way out. Contracts see it as the bytes that did not go out yet.
+/// A response on its way out. Contracts see it as the bytes that did not go out yet.
 #[derive(Drop)]
 pub struct Outgoing {
-    head: [u8; MOST_REPLY_HEAD],
+    head: [u8; MOST_RESPONSE_HEAD],
     /// How many bytes the head has.
     end: usize,
     body: Body,
@@ -58,18 +58,18 @@ impl Model for Outgoing {
 }
 
 /// One write of what is left of a head and a body after the bytes that were sent: of both, if they
-/// fit on the page.
+/// fit in the buffer.
 fn write_on<W: Write>(
     writer: &mut Counted<W>,
-    page: &mut [u8],
+    buffer: &mut [u8],
     head: &[u8],
     body: &[u8],
     sent: usize,
 ) -> io::Result<usize>
-    requires page { length page.old ≡ 4_096 }
+    requires buffer { length buffer.old ≡ 4_096 }
     requires head { length head.now ≤ 256 }
     requires sent { sent ≤ length (head.now ++ body.now) }
-    ensures len { length page.new ≡ length page.old }
+    ensures len { length buffer.new ≡ length buffer.old }
     ensures within { IfOk result (λ n. sent + n ≤ length (head.now ++ body.now)) }
     ensures taken { IfOk result (λ n. Appends (W.contents writer.old.inner)
         (W.contents writer.new.inner) (take n (drop sent (head.now ++ body.now)))) }
@@ -80,20 +80,20 @@ fn write_on<W: Write>(
     if sent >= head.len() {
         return writer.write(&body[sent - head.len()..]);
     }
-    if body.len() > PAGE - head.len() {
+    if body.len() > BUFFER_SIZE - head.len() {
         return writer.write(&head[sent..]);
     }
-    let end = put(page, 0, head);
-    let end = put(page, end, body);
-    writer.write(&page[sent..end])
+    let end = put(buffer, 0, head);
+    let end = put(buffer, end, body);
+    writer.write(&buffer[sent..end])
 }
 
 impl Outgoing {
-    /// The reply of a status with a body, or its head alone. It takes no memory.
+    /// The response of a status with a body, or its head alone. It takes no memory.
     pub fn new(status: Status, body: Body, with_body: bool) -> Outgoing
         ensures { result ≡ written status (body_bytes body) with_body }
     {
-        let mut head = [0; MOST_REPLY_HEAD];
+        let mut head = [0; MOST_RESPONSE_HEAD];
         let end = put_head(&mut head, status, body.as_bytes().len());
         Outgoing {
             head,
@@ -116,7 +116,7 @@ impl Outgoing {
     pub fn send<W: Write>(
         &mut self,
         writer: &mut Counted<W>,
-        page: &mut Page,
+        buffer: &mut ExchangeBuffer,
     ) -> Result<usize, ErrorKind>
         ensures within { IfOk result (λ n. n ≤ length self.old) }
         ensures rest { IfOk result (λ n. self.new ≡ drop n self.old) }
@@ -129,7 +129,7 @@ impl Outgoing {
     {
         match write_on(
             writer,
-            &mut page.bytes,
+            &mut buffer.bytes,
             &self.head[..self.end],
             self.body.part(self.with_body),
             self.sent,

@@ -1,14 +1,14 @@
-//! The replies that say that the desk refuses.
+//! The responses that say that the desk refuses.
 
 ghost use Rattle.std.specs.Prelude.{◌≡◌};
-ghost use Rattle.relay_http.specs.Replies as replies;
+ghost use Rattle.relay_http.specs.Responses as responses;
 
 use crate::status::Status;
 use desk::Refusal;
 
 /// The status of a refusal.
 pub fn refusal_status(refusal: Refusal) -> Status
-    ensures { result ≡ replies.refusal_status refusal }
+    ensures { result ≡ responses.refusal_status refusal }
 {
     match refusal {
         Refusal::NotCanonical | Refusal::BadField => Status::BadRequest,
@@ -28,7 +28,7 @@ pub fn refusal_status(refusal: Refusal) -> Status
 /// The body of a refusal: its code and name, and a newline. It is a static text, since it is needed
 /// also where memory ran out.
 pub fn refusal_line(refusal: Refusal) -> &'static [u8]
-    ensures { result.now ≡ (replies.refusal refusal).body }
+    ensures { result.now ≡ (responses.refusal refusal).body }
 {
     refusal.line().as_bytes()
 }

@@ -1,187 +1,247 @@
-//! What the bytes of a connection ask for.
+//! The request that the bytes of a connection are.
 
-ghost use Rattle.std.specs.Prelude.{◌≡◌, ℕ, List, codes, map};
+ghost use Rattle.std.specs.Prelude.{◌≡◌, ℕ, List, IfSome, Some, codes, map};
 ghost use Rattle.httparse.specs.Grammar.{RequestHead};
-ghost use Rattle.relay_http.specs.Asked.{Request, asked_of, grants};
-ghost use Rattle.relay_http.specs.Asked.{host_file_after, report, request_of};
+ghost use Rattle.relay_http.specs.Request.{Request, action_of, grants};
+ghost use Rattle.relay_http.specs.Request.{host_file_after, named_request, report};
+ghost use Rattle.relay_http.specs.Request.{request_of, requests_after};
 ghost use Rattle.relay_http.specs.Fields as head_fields;
 ghost use Rattle.relay_http.specs.Fields.{Fields, values};
-ghost use Rattle.relay_http.specs.Routes.{moment_parameter, parameter};
+ghost use Rattle.relay_http.specs.Routes.{second_parameter, parameter};
 ghost use Rattle.relay_http.specs.Settled.{is_short};
 ghost use Rattle.relay_http.specs.Stages.{IsFound, IsHeadAt, cut, size_of};
-ghost use Rattle.relay_http.specs.Wanted.{Asks, Dates, DatesRequest, asked_by, asks_by};
-ghost use Rattle.relay_http.specs.Wanted.{at_place, delivered, request_by};
+ghost use Rattle.relay_http.specs.RequestBytes.{IsHttpRequest, Dates, DatesRequest};
+ghost use Rattle.relay_http.specs.RequestBytes.{action_by, request_from};
+ghost use Rattle.relay_http.specs.RequestBytes.{IsNumber, by_method, delivered, request_by};
 
-use crate::asked::{Ask, Wanted};
+use crate::action::{Action, HttpRequest};
 use crate::content::content;
 use crate::fault::RequestFault;
 use crate::head::{Head, Looked, look};
 use crate::methods::{allow, is_head};
-use crate::place::Place;
+use crate::route::Route;
 use crate::routes::Routes;
 use crate::target::is_plain;
+use itoa::Buffer;
 use std::str::from_utf8;
-use sudo_words::Moment;
+use sudo_words::{Form, Moment, UserForm, decimal_of};
 
-/// What bytes without a head ask for.
-pub const NO_HEAD: Wanted<'static> = Wanted {
+/// The greatest number of a request.
+const LAST_NUMBER: u64 = 999_999_999;
+
+/// The request of bytes without a head.
+pub const NO_HEAD: HttpRequest<'static> = HttpRequest {
     with_body: true,
-    ask: Ask::Refused(RequestFault::BadHead),
+    action: Action::Refused(RequestFault::BadHead),
 };
 
 /// The grants at the moment of this text.
-fn grants_at<'b>(at: &str) -> Ask<'b>
-    ensures { Dates (grants at.now) (asked_of result) }
+fn grants_at<'b>(at: &str) -> Action<'b>
+    ensures { Dates (grants at.now) (action_of result) }
 {
     match Moment::read_stamp(at) {
-        Some(moment) => Ask::Grants(moment),
-        None => Ask::Refused(RequestFault::BadMoment),
+        Some(moment) => Action::Grants(moment),
+        None => Action::Refused(RequestFault::BadMoment),
     }
 }
 
 /// The host's file after the moment of this text.
-fn host_file_after<'b>(host: &'b str, at: &str) -> Ask<'b>
-    ensures { Dates (host_file_after host.now at.now) (asked_of result) }
+fn host_file_after<'b>(host: &'b str, at: &str) -> Action<'b>
+    ensures { Dates (host_file_after host.now at.now) (action_of result) }
 {
     match Moment::read_stamp(at) {
-        Some(moment) => Ask::HostFileAfter(host, moment),
-        None => Ask::Refused(RequestFault::BadMoment),
+        Some(moment) => Action::HostFileAfter(host, moment),
+        None => Action::Refused(RequestFault::BadMoment),
     }
 }
 
 /// The report at the moment of this text.
-fn report_at<'b>(at: &str) -> Ask<'b>
-    ensures { Dates (report at.now) (asked_of result) }
+fn report_at<'b>(at: &str) -> Action<'b>
+    ensures { Dates (report at.now) (action_of result) }
 {
     match Moment::read_stamp(at) {
-        Some(moment) => Ask::Report(moment),
-        None => Ask::Refused(RequestFault::BadMoment),
+        Some(moment) => Action::Report(moment),
+        None => Action::Refused(RequestFault::BadMoment),
+    }
+}
+
+/// The number, if a request may have it and the text is its decimal digits.
+fn written(text: &str, number: u64) -> Option<u32>
+    ensures found { IfSome result (IsNumber text.now) }
+    ensures only { IsNumber text.now number → result ≡ Some number }
+{
+    if number > LAST_NUMBER {
+        return None;
+    }
+    let mut digits = Buffer::new();
+    if digits.format(number) != text {
+        return None;
+    }
+    Some(number as u32)
+}
+
+/// The number of a request that this text writes as messages do, without zeros before it.
+fn number_of(text: &str) -> Option<u32>
+    ensures found { IfSome result (IsNumber text.now) }
+    ensures only { (n : ℕ) → IsNumber text.now n → result ≡ Some n }
+{
+    match decimal_of(text.as_bytes()) {
+        Some(number) => written(text, number),
+        None => None,
+    }
+}
+
+/// The request that the asker made under the number of this text, where the texts are those of a
+/// name and of a number.
+fn named_request<'b>(asker: &'b str, no: &str) -> Action<'b>
+    ensures { Dates (named_request asker.now no.now) (action_of result) }
+{
+    if !UserForm::test(asker.as_bytes()) {
+        return Action::Refused(RequestFault::NoRoute);
+    }
+    match number_of(no) {
+        Some(no) => Action::NamedRequest { asker, no },
+        None => Action::Refused(RequestFault::NoRoute),
+    }
+}
+
+/// The requests after the moment of this text.
+fn requests_after<'b>(at: &str) -> Action<'b>
+    ensures { Dates (requests_after at.now) (action_of result) }
+{
+    match Moment::read_stamp(at) {
+        Some(moment) => Action::RequestsAfter(moment),
+        None => Action::Refused(RequestFault::BadMoment),
     }
 }
 
 /// A delivery by this relay, of the content of this length.
-fn delivery<'b>(relay: &'b str, size: Result<u64, RequestFault>, rest: &'b [u8]) -> Ask<'b>
-    ensures { asked_of result ≡ delivered relay.now (cut size rest.now) }
+fn delivery<'b>(relay: &'b str, size: Result<u64, RequestFault>, rest: &'b [u8]) -> Action<'b>
+    ensures { action_of result ≡ delivered relay.now (cut size rest.now) }
 {
     match content(size, rest) {
-        Ok(body) => Ask::Deliver { relay, body },
-        Err(fault) => Ask::Refused(fault),
+        Ok(body) => Action::Deliver { relay, body },
+        Err(fault) => Action::Refused(fault),
     }
 }
 
-/// What is asked of a place, where its route's parameters took these texts.
-fn at_place<'b>(
-    place: Place,
+/// The action at a route by a method, where the route's parameters took these texts.
+fn by_method<'b>(
+    route: Route,
     taken: &'b str,
-    moment: &'b str,
+    second: &'b str,
     method: &[u8],
     size: Result<u64, RequestFault>,
     rest: &'b [u8],
-) -> Ask<'b>
-    ensures { (part_named : List ℕ → List ℕ) → part_named (parameter place) ≡ taken.now
-        → part_named (moment_parameter place) ≡ moment.now
+) -> Action<'b>
+    ensures { (part_named : List ℕ → List ℕ) → part_named (parameter route) ≡ taken.now
+        → part_named (second_parameter route) ≡ second.now
         → (fields : Fields) → size ≡ size_of fields
-        → Dates (at_place place method.now part_named fields rest.now) (asked_of result) }
+        → Dates (by_method route method.now part_named fields rest.now) (action_of result) }
 {
-    if !allow(place.methods(), method) {
-        return Ask::Refused(RequestFault::BadMethod(place.methods()));
+    if !allow(route.methods(), method) {
+        return Action::Refused(RequestFault::BadMethod(route.methods()));
     }
-    match place {
-        Place::Messages => delivery(taken, size, rest),
-        Place::AllMessages => Ask::AllMessages,
-        Place::Count => Ask::Count,
-        Place::Grants => grants_at(taken),
-        Place::Parked => Ask::Parked,
-        Place::HostFile => Ask::HostFile(taken),
-        Place::HostFileAfter => host_file_after(taken, moment),
-        Place::Report => report_at(taken),
+    match route {
+        Route::Messages => delivery(taken, size, rest),
+        Route::AllMessages => Action::AllMessages,
+        Route::Count => Action::Count,
+        Route::Requests => Action::Requests,
+        Route::RequestsAfter => requests_after(taken),
+        Route::NamedRequest => named_request(taken, second),
+        Route::Grants => grants_at(taken),
+        Route::Parked => Action::Parked,
+        Route::HostFile => Action::HostFile(taken),
+        Route::HostFileAfter => host_file_after(taken, second),
+        Route::Report => report_at(taken),
     }
 }
 
-/// What a head asks for, by its parts and the bytes after it.
-fn asked_by<'b>(
+/// The action of a head, by its parts and the bytes after it.
+fn action_by<'b>(
     routes: &Routes,
     method: &[u8],
     target: &'b str,
     is_bad_host: bool,
     size: Result<u64, RequestFault>,
     rest: &'b [u8],
-) -> Ask<'b>
+) -> Action<'b>
     ensures { (minor : ℕ) (fields : Fields)
         → is_bad_host ≡ head_fields.is_bad_host minor (values (codes "host") fields)
         → size ≡ size_of fields
-        → Dates (asked_by method.now target.now minor fields rest.now) (asked_of result) }
+        → Dates (action_by method.now target.now minor fields rest.now) (action_of result) }
 {
     if is_bad_host {
-        return Ask::Refused(RequestFault::BadHead);
+        return Action::Refused(RequestFault::BadHead);
     }
     if !is_plain(target.as_bytes()) {
-        return Ask::Refused(RequestFault::BadTarget);
+        return Action::Refused(RequestFault::BadTarget);
     }
     match routes.find(target) {
-        Some((place, taken, moment)) => at_place(place, taken, moment, method, size, rest),
-        None => Ask::Refused(RequestFault::NoRoute),
+        Some((route, taken, second)) => by_method(route, taken, second, method, size, rest),
+        None => Action::Refused(RequestFault::NoRoute),
     }
 }
 
-/// What the bytes ask for, by their head.
-pub fn wanted_by<'b>(routes: &Routes, head: &Head, bytes: &'b [u8]) -> Wanted<'b>
+/// The request that the bytes are, by their head.
+pub fn request_from<'b>(routes: &Routes, head: &Head, bytes: &'b [u8]) -> HttpRequest<'b>
     requires { IsFound bytes.now head.now }
     ensures { (h : RequestHead) → IsHeadAt bytes.now head.now h
-        → DatesRequest (asks_by h bytes.now) (request_of result) }
+        → DatesRequest (request_from h bytes.now) (request_of result) }
 {
     let method = head.method.of(bytes);
     let rest = &bytes[head.len..];
     match from_utf8(head.target.of(bytes)) {
-        Ok(target) => Wanted {
+        Ok(target) => HttpRequest {
             with_body: !is_head(method),
-            ask: asked_by(routes, method, target, head.is_bad_host, head.size, rest),
+            action: action_by(routes, method, target, head.is_bad_host, head.size, rest),
         },
         Err(_) => NO_HEAD,
     }
 }
 
 /// Whether the content is not there yet.
-fn is_short(wanted: &Wanted<'_>) -> bool
-    ensures { result ≡ is_short (request_of wanted.now) }
+fn is_short(request: &HttpRequest<'_>) -> bool
+    ensures { result ≡ is_short (request_of request.now) }
 {
-    matches!(wanted.ask, Ask::Refused(RequestFault::ShortBody))
+    matches!(request.action, Action::Refused(RequestFault::ShortBody))
 }
 
-/// What the bytes ask for, and whether they lack content.
+/// The request that the bytes are, and whether they lack content.
 #[derive(Clone, Copy)]
 struct SoFar<'b> {
-    wanted: Wanted<'b>,
+    request: HttpRequest<'b>,
     is_short: bool,
 }
 
 fn so_far<'b>(routes: &Routes, head: &Head, bytes: &'b [u8]) -> SoFar<'b>
     requires { IsFound bytes.now head.now }
-    ensures wanted { (h : RequestHead) → IsHeadAt bytes.now head.now h
-        → DatesRequest (asks_by h bytes.now) (request_of result.wanted) }
-    ensures short { result.is_short ≡ is_short (request_of result.wanted) }
+    ensures request { (h : RequestHead) → IsHeadAt bytes.now head.now h
+        → DatesRequest (request_from h bytes.now) (request_of result.request) }
+    ensures short { result.is_short ≡ is_short (request_of result.request) }
 {
-    let wanted = wanted_by(routes, head, bytes);
-    let is_short = is_short(&wanted);
-    SoFar { wanted, is_short }
+    let request = request_from(routes, head, bytes);
+    let is_short = is_short(&request);
+    SoFar { request, is_short }
 }
 
 /// Whether the head asks for more content than is there.
 pub fn is_cut_short(routes: &Routes, head: &Head, bytes: &[u8]) -> bool
     requires { IsFound bytes.now head.now }
     ensures { (request : Request ℕ) × ((h : RequestHead) → IsHeadAt bytes.now head.now h
-        → DatesRequest (asks_by h bytes.now) request) × (result ≡ is_short request) }
+        → DatesRequest (request_from h bytes.now) request) × (result ≡ is_short request) }
 {
     so_far(routes, head, bytes).is_short
 }
 
-/// What the bytes of a connection ask for. It takes no memory.
-pub fn wanted<'b>(routes: &Routes, bytes: &'b [u8]) -> Wanted<'b>
-    ensures found { Asks bytes.now (request_of result) }
-    ensures only { (request : Request ℕ) → Asks bytes.now request → request ≡ request_of result }
+/// The request that the bytes of a connection are. It takes no memory.
+pub fn request_in<'b>(routes: &Routes, bytes: &'b [u8]) -> HttpRequest<'b>
+    ensures found { IsHttpRequest bytes.now (request_of result) }
+    ensures only { (request : Request ℕ) → IsHttpRequest bytes.now request
+        → request ≡ request_of result }
 {
     match look(bytes) {
-        Looked::Found(head) => wanted_by(routes, &head, bytes),
+        Looked::Found(head) => request_from(routes, &head, bytes),
         Looked::Partial | Looked::Never => NO_HEAD,
     }
 }

@@ -4,11 +4,11 @@ ghost use Rattle.std.specs.Prelude.{◌≡◌, [], IfOk, IsTrue, OnOk, option_ma
 ghost use Rattle.matchit.specs.Params.{AllText, named, walk};
 ghost use Rattle.matchit.specs.Route.{parse_route};
 ghost use Rattle.matchit.specs.Seek.{first};
-ghost use Rattle.relay_http.specs.Routes.{IsFree, Takes, moment_parameter};
+ghost use Rattle.relay_http.specs.Routes.{IsFree, Takes, second_parameter};
 ghost use Rattle.relay_http.specs.Routes.{parameter, routes, with_route};
 ghost use Rattle.relay_http.specs.Target.{is_plain};
 
-use crate::place::Place;
+use crate::route::Route;
 use matchit::{InsertError, Params, Router};
 use std::alloc::Global;
 use std::marker::Model;
@@ -17,7 +17,7 @@ use sudo_words::NoMemory;
 /// The routes of the desk, made once, before any request is read.
 #[derive(Drop)]
 pub struct Routes {
-    router: Router<Place>,
+    router: Router<Route>,
 }
 
 impl Model for Routes {
@@ -39,9 +39,8 @@ impl Routes {
         })
     }
 
-    /// The place that a target's route leads to, with what the route's parameters took: the first,
-    /// and the moment after it.
-    pub(crate) fn find<'b>(&self, target: &'b str) -> Option<(Place, &'b str, &'b str)>
+    /// The route that a target has, with what the route's two parameters took.
+    pub(crate) fn find<'b>(&self, target: &'b str) -> Option<(Route, &'b str, &'b str)>
         requires { IsTrue (is_plain target.now) }
         ensures { Takes (first routes target.now) target.now
             (option_map (λ x. (x.0, x.1.now, x.2.now)) result) }
@@ -50,7 +49,7 @@ impl Routes {
             Ok(found) => Some((
                 *found.value,
                 taken(*found.value, &found.params),
-                moment_taken(*found.value, &found.params),
+                second_taken(*found.value, &found.params),
             )),
             Err(_) => None,
         }
@@ -59,11 +58,11 @@ impl Routes {
 
 /// Adds a route that conflicts with none before it, so that only want of memory can refuse it.
 #[tactic(auto, using(crate::proofs::RouteLemmas::inserted, crate::proofs::RouteLemmas::not_refused))]
-fn add(router: &mut Router<Place>, route: &str, place: Place) -> Result<(), NoMemory>
-    requires { IsFree (parse_route route.now) router.old }
-    ensures { OnOk result (router.new ≡ with_route route.now place router.old) }
+fn add(router: &mut Router<Route>, path: &str, route: Route) -> Result<(), NoMemory>
+    requires { IsFree (parse_route path.now) router.old }
+    ensures { OnOk result (router.new ≡ with_route path.now route router.old) }
 {
-    match router.insert(route, place) {
+    match router.insert(path, route) {
         Ok(()) => Ok(()),
         Err(InsertError::OutOfMemory) => Err(NoMemory),
         Err(_) => unreachable!(),
@@ -71,69 +70,80 @@ fn add(router: &mut Router<Place>, route: &str, place: Place) -> Result<(), NoMe
 }
 
 #[tactic(auto, unfolding(crate::specs::Routes::routes))]
-fn router(alloc: Global) -> Result<Router<Place>, NoMemory>
+fn router(alloc: Global) -> Result<Router<Route>, NoMemory>
     ensures { IfOk result (λ router. router ≡ routes) }
 {
     let mut router = Router::new(alloc);
-    add(&mut router, "/v1/relays/{relay}/messages", Place::Messages)?;
-    add(&mut router, "/v1/grants/{at}", Place::Grants)?;
-    add(&mut router, "/v1/parked", Place::Parked)?;
-    add(&mut router, "/v1/hosts/{host}/sudoers", Place::HostFile)?;
-    add(&mut router, "/v1/reviews/{at}", Place::Report)?;
+    add(&mut router, "/v1/relays/{relay}/messages", Route::Messages)?;
+    add(&mut router, "/v1/grants/{at}", Route::Grants)?;
+    add(&mut router, "/v1/parked", Route::Parked)?;
+    add(&mut router, "/v1/hosts/{host}/sudoers", Route::HostFile)?;
+    add(&mut router, "/v1/reviews/{at}", Route::Report)?;
     add(
         &mut router,
         "/v1/hosts/{host}/sudoers/{at}",
-        Place::HostFileAfter,
+        Route::HostFileAfter,
     )?;
-    add(&mut router, "/v1/messages", Place::AllMessages)?;
-    add(&mut router, "/v1/count", Place::Count)?;
+    add(&mut router, "/v1/messages", Route::AllMessages)?;
+    add(&mut router, "/v1/count", Route::Count)?;
+    add(&mut router, "/v1/requests", Route::Requests)?;
+    add(&mut router, "/v1/requests/after/{at}", Route::RequestsAfter)?;
+    add(
+        &mut router,
+        "/v1/requests/{asker}/{no}",
+        Route::NamedRequest,
+    )?;
     Ok(router)
 }
 
-/// The name of the first parameter in the route of a place.
-fn parameter(place: Place) -> &'static str
-    ensures { result.now ≡ parameter place }
+/// The name of the first parameter of a route.
+fn parameter(route: Route) -> &'static str
+    ensures { result.now ≡ parameter route }
 {
-    match place {
-        Place::Messages => "relay",
-        Place::Grants | Place::Report => "at",
-        Place::AllMessages | Place::Count | Place::Parked => "",
-        Place::HostFile | Place::HostFileAfter => "host",
+    match route {
+        Route::Messages => "relay",
+        Route::Grants | Route::Report | Route::RequestsAfter => "at",
+        Route::AllMessages | Route::Count | Route::Requests | Route::Parked => "",
+        Route::NamedRequest => "asker",
+        Route::HostFile | Route::HostFileAfter => "host",
     }
 }
 
-/// The name of the moment's parameter after it.
-fn moment_parameter(place: Place) -> &'static str
-    ensures { result.now ≡ moment_parameter place }
+/// The name of the second parameter.
+fn second_parameter(route: Route) -> &'static str
+    ensures { result.now ≡ second_parameter route }
 {
-    match place {
-        Place::HostFileAfter => "at",
-        Place::Messages
-        | Place::AllMessages
-        | Place::Count
-        | Place::Grants
-        | Place::Parked
-        | Place::HostFile
-        | Place::Report => "",
+    match route {
+        Route::HostFileAfter => "at",
+        Route::NamedRequest => "no",
+        Route::Messages
+        | Route::AllMessages
+        | Route::Count
+        | Route::Requests
+        | Route::RequestsAfter
+        | Route::Grants
+        | Route::Parked
+        | Route::HostFile
+        | Route::Report => "",
     }
 }
 
-/// What the first parameter of a place's route took.
-fn taken<'b>(place: Place, params: &Params<'_, 'b>) -> &'b str
+/// What the first parameter of a route took.
+fn taken<'b>(route: Route, params: &Params<'_, 'b>) -> &'b str
     requires { AllText (walk params.now.pattern.now params.now.text.now
         params.now.path.now params.now.names.now 0 0) }
-    ensures { result.now ≡ unwrap_or (named (parameter place) (walk params.now.pattern.now
+    ensures { result.now ≡ unwrap_or (named (parameter route) (walk params.now.pattern.now
         params.now.text.now params.now.path.now params.now.names.now 0 0)) [] }
 {
-    params.get(parameter(place)).unwrap_or("")
+    params.get(parameter(route)).unwrap_or("")
 }
 
-/// What the moment's parameter after it took.
-fn moment_taken<'b>(place: Place, params: &Params<'_, 'b>) -> &'b str
+/// What the second parameter took.
+fn second_taken<'b>(route: Route, params: &Params<'_, 'b>) -> &'b str
     requires { AllText (walk params.now.pattern.now params.now.text.now
         params.now.path.now params.now.names.now 0 0) }
-    ensures { result.now ≡ unwrap_or (named (moment_parameter place) (walk params.now.pattern.now
+    ensures { result.now ≡ unwrap_or (named (second_parameter route) (walk params.now.pattern.now
         params.now.text.now params.now.path.now params.now.names.now 0 0)) [] }
 {
-    params.get(moment_parameter(place)).unwrap_or("")
+    params.get(second_parameter(route)).unwrap_or("")
 }

@@ -1,31 +1,31 @@
-//! Writing a whole reply.
+//! Writing a whole response.
 
 ghost use Rattle.std.specs.Prelude.{◌≡◌, MatchResult};
 ghost use Rattle.relay_http.specs.Counting.{one_failure};
 ghost use Rattle.relay_http.specs.Sent.{Sends};
 
 use crate::counted::Counted;
-use crate::outgoing::{Outgoing, Page};
+use crate::outgoing::{ExchangeBuffer, Outgoing};
 use std::io::Write;
 
 /// A write failed, or took nothing.
 #[derive(Clone, Copy)]
 pub struct WriteFailed;
 
-/// Writes all that is left of a reply. Where a write fails or takes nothing, a beginning of it went
-/// out.
+/// Writes all that is left of a response. Where a write fails or takes nothing, a beginning of it
+/// went out.
 pub fn send_all<W: Write>(
-    reply: &mut Outgoing,
+    response: &mut Outgoing,
     writer: &mut Counted<W>,
-    page: &mut Page,
+    buffer: &mut ExchangeBuffer,
 ) -> Result<(), WriteFailed>
     ensures sent { Sends (W.contents writer.old.inner)
-        (W.contents writer.new.inner) result reply.old }
+        (W.contents writer.new.inner) result response.old }
     ensures counted { MatchResult result (λ _. writer.new.failures ≡ writer.old.failures)
         (λ _. writer.new.failures ≡ one_failure writer.old.failures) }
 {
-    while !reply.is_out() {
-        match reply.send(writer, page) {
+    while !response.is_out() {
+        match response.send(writer, buffer) {
             Ok(0) | Err(_) => return Err(WriteFailed),
             Ok(_) => {}
         }

@@ -4,18 +4,19 @@ ghost use Rattle.std.specs.Prelude.{◌≡◌, ◌≢◌, ◌⊎◌, ℕ, Err, I
 ghost use Rattle.httparse.specs.Grammar.{RequestHead};
 ghost use Rattle.desk_store.specs.Keeping.{HasFailed};
 ghost use Rattle.desk_store.specs.Serves.{Serves};
-ghost use Rattle.relay_http.specs.Asked.{Request};
+ghost use Rattle.relay_http.specs.Request.{Request};
 ghost use Rattle.relay_http.specs.Counting.{one_failure};
-ghost use Rattle.relay_http.specs.Exchange.{HasReplied, IsAcknowledged, IsExchange, WritesWant};
+ghost use Rattle.relay_http.specs.Exchange.{HasResponded, IsAcknowledged, IsExchange};
+ghost use Rattle.relay_http.specs.Exchange.{WritesServerFailure};
 ghost use Rattle.relay_http.specs.Lasting.{LastsWith};
 ghost use Rattle.relay_http.specs.Sent.{Sends};
-ghost use Rattle.relay_http.specs.Wanted.{Asks, HasHead};
+ghost use Rattle.relay_http.specs.RequestBytes.{IsHttpRequest, HasHead};
 ghost use Rattle.relay_http.specs.declared.serving.ServeFault.TheVariants.{NoMemory, ReadFailed};
 ghost use Rattle.relay_http.specs.declared.serving.ServeFault.TheVariants.{WriteFailed};
 
 use crate::counted::Counted;
 use crate::exchange::Exchange;
-use crate::outgoing::Page;
+use crate::outgoing::ExchangeBuffer;
 use crate::reading::read_request;
 use crate::routes::Routes;
 use crate::sending::{self, send_all};
@@ -30,8 +31,8 @@ use std::io::{Read, Write};
 pub enum ServeFault {
     /// A read failed: nothing was written, and nothing was asked of the desk.
     ReadFailed,
-    /// A write failed, or took nothing: a beginning of the reply went out, and a message that was
-    /// acknowledged stays.
+    /// A write failed, or took nothing: a beginning of the response went out, and a message that
+    /// was acknowledged stays.
     WriteFailed,
     /// Memory ran out before anything was read.
     NoMemory,
@@ -54,65 +55,68 @@ impl fmt::Display for ServeFault {
 
 impl Error for ServeFault {}
 
-/// Has the desk answer what the bytes that have come ask for, and writes the reply. Once a message
-/// is acknowledged no memory is taken.
-fn reply_to<K: Keeper, W: Write>(
+/// Has the desk answer what the bytes that have come ask for, and writes the response. Once a
+/// message is acknowledged no memory is taken.
+fn respond_to<K: Keeper, W: Write>(
     alloc: Global,
     routes: &Routes,
     exchange: &Exchange,
     desk: &mut Desk<K>,
     writer: &mut Counted<W>,
-    page: &mut Page,
+    buffer: &mut ExchangeBuffer,
 ) -> Result<(), sending::WriteFailed>
-    ensures exchange { (request : Request ℕ) × Asks exchange.now.bytes request
+    ensures exchange { (request : Request ℕ) × IsHttpRequest exchange.now.bytes request
         × IsExchange desk.old.roster desk.old.base (K.is_up desk.new.keeper)
         (K.holds desk.old.keeper) (K.holds desk.new.keeper) (K.is_same desk.old.keeper
-        desk.new.keeper) (Serves K.Keeper desk.old.keeper desk.new.keeper) (λ reply.
-        Sends (W.contents writer.old.inner) (W.contents writer.new.inner) result reply) request }
-    ensures lasts { (request : Request ℕ) × Asks exchange.now.bytes request × LastsWith K.Keeper
-        desk.old.roster.says desk.old.roster.text desk.old.keeper desk.new.keeper (λ reply. Sends
-        (W.contents writer.old.inner) (W.contents writer.new.inner) result reply) request }
+        desk.new.keeper) (Serves K.Keeper desk.old.keeper desk.new.keeper) (λ response.
+        Sends (W.contents writer.old.inner) (W.contents writer.new.inner) result response) request }
+    ensures lasts { (request : Request ℕ) × IsHttpRequest exchange.now.bytes request
+        × LastsWith K.Keeper desk.old.roster.says desk.old.roster.text desk.old.keeper
+        desk.new.keeper (λ response. Sends (W.contents writer.old.inner)
+        (W.contents writer.new.inner) result response) request }
     ensures counted { MatchResult result (λ _. writer.new.failures ≡ writer.old.failures)
         (λ _. writer.new.failures ≡ one_failure writer.old.failures) }
     ensures roster { desk.new.roster ≡ desk.old.roster }
     ensures base { desk.new.base ≡ desk.old.base }
 {
-    let mut reply = exchange.answer(alloc, routes, desk);
-    send_all(&mut reply.rest, writer, page)
+    let mut response = exchange.answer(alloc, routes, desk);
+    send_all(&mut response.rest, writer, buffer)
 }
 
-/// Reads a request, has the desk answer it, and writes the reply.
+/// Reads a request, has the desk answer it, and writes the response.
 ///
-/// The room for a request, the page and the routes are made before anything is read: if memory runs
-/// out for them, the result is `NoMemory`, and nothing was read. If it runs out later, the desk's
-/// reply says so. Once a message is acknowledged no memory is taken.
+/// The room for a request, the buffer and the routes are made before anything is read: if memory
+/// runs out for them, the result is `NoMemory`, and nothing was read. If it runs out later, the
+/// desk's response says so. Once a message is acknowledged no memory is taken.
 pub fn serve_one<K: Keeper, R: Read, W: Write>(
     alloc: Global,
     desk: &mut Desk<K>,
     reader: &mut Counted<R>,
     writer: &mut Counted<W>,
 ) -> Result<(), ServeFault>
-    // The bytes that the reader has left ask for one thing. The desk's reply to it was written, or
+    // The bytes that the reader has left are one request. The desk's response to it was written, or
     // where a write failed a beginning of it.
-    ensures exchange { HasReplied result
-        → IfSome (R.remaining reader.old.inner) (λ all. (request : Request ℕ) → Asks all request
+    ensures exchange { HasResponded result
+        → IfSome (R.remaining reader.old.inner) (λ all. (request : Request ℕ)
+        → IsHttpRequest all request
         → IsExchange desk.old.roster desk.old.base (K.is_up desk.new.keeper)
         (K.holds desk.old.keeper) (K.holds desk.new.keeper) (K.is_same desk.old.keeper
         desk.new.keeper) (Serves K.Keeper desk.old.keeper desk.new.keeper) (λ bytes.
         Sends (W.contents writer.old.inner) (W.contents writer.new.inner) result bytes) request) }
     // A request that is not a POST changes nothing, and only the exchange of a POST to a relay's
     // messages with the status 200 changes anything.
-    ensures queries { HasReplied result → K.is_up desk.new.keeper
+    ensures queries { HasResponded result → K.is_up desk.new.keeper
         → IfSome (R.remaining reader.old.inner) (λ all. (head : RequestHead) → HasHead all head
         → head.method ≢ codes "POST" → K.is_same desk.old.keeper desk.new.keeper) }
-    ensures changes { HasReplied result → K.is_up desk.new.keeper
+    ensures changes { HasResponded result → K.is_up desk.new.keeper
         → IfSome (R.remaining reader.old.inner)
         (λ all. K.is_same desk.old.keeper desk.new.keeper ⊎ IsAcknowledged all
         (λ bytes. Sends (W.contents writer.old.inner) (W.contents writer.new.inner) result bytes)) }
-    // Over an honest disk: after a reply with the status 200 the keeper is up; and a crash leaves
-    // what it might have left before, or what a delivery commits, if the keeper was up.
-    ensures lasts { HasReplied result
-        → IfSome (R.remaining reader.old.inner) (λ all. (request : Request ℕ) → Asks all request
+    // Over an honest disk: after a response with the status 200 the keeper is up; and a crash
+    // leaves what it might have left before, or what a delivery commits, if the keeper was up.
+    ensures lasts { HasResponded result
+        → IfSome (R.remaining reader.old.inner) (λ all. (request : Request ℕ)
+        → IsHttpRequest all request
         → LastsWith K.Keeper desk.old.roster.says desk.old.roster.text desk.old.keeper
         desk.new.keeper (λ bytes. Sends (W.contents writer.old.inner) (W.contents writer.new.inner)
         result bytes) request) }
@@ -128,23 +132,23 @@ pub fn serve_one<K: Keeper, R: Read, W: Write>(
         × (writer.new.failures ≡ writer.old.failures)) }
     ensures roster { desk.new.roster ≡ desk.old.roster }
     ensures base { desk.new.base ≡ desk.old.base }
-    // The keeper is up then, unless a reply of K4 or K5 was written, or a beginning of it.
-    ensures served { Serves K.Keeper desk.old.keeper desk.new.keeper ⊥ (WritesWant
+    // The keeper is up then, unless a response of K4 or K5 was written, or a beginning of it.
+    ensures served { Serves K.Keeper desk.old.keeper desk.new.keeper ⊥ (WritesServerFailure
         (λ bytes. Sends (W.contents writer.old.inner) (W.contents writer.new.inner) result bytes)) }
 {
     let Ok(routes) = Routes::new(alloc) else {
         return Err(ServeFault::NoMemory);
     };
-    let Ok(mut page) = Page::new(alloc) else {
+    let Ok(mut buffer) = ExchangeBuffer::new(alloc) else {
         return Err(ServeFault::NoMemory);
     };
     let Ok(mut exchange) = Exchange::with_room(alloc) else {
         return Err(ServeFault::NoMemory);
     };
-    let Ok(()) = read_request(&mut exchange, &routes, reader, &mut page) else {
+    let Ok(()) = read_request(&mut exchange, &routes, reader, &mut buffer) else {
         return Err(ServeFault::ReadFailed);
     };
-    match reply_to(alloc, &routes, &exchange, desk, writer, &mut page) {
+    match respond_to(alloc, &routes, &exchange, desk, writer, &mut buffer) {
         Ok(()) => Ok(()),
         Err(_) => Err(ServeFault::WriteFailed),
     }

@@ -1,12 +1,12 @@
-//! The statuses of replies.
+//! The statuses of responses.
 
 ghost use Rattle.std.specs.Prelude.{◌≡◌, ◌≤◌, length};
-ghost use Rattle.relay_http.specs.Reply.{allow_line, phrase_of};
+ghost use Rattle.relay_http.specs.Response.{allow_line, phrase_of};
 
-use crate::place::Methods;
+use crate::route::Methods;
 use http::StatusCode;
 
-/// The status of a reply.
+/// The status of a response.
 #[derive(Clone, Copy, Debug, PartialEq, Eq)]
 pub enum Status {
     /// 200: the desk's answer.
@@ -28,7 +28,7 @@ pub enum Status {
 }
 
 impl Status {
-    ghost use Rattle.relay_http.specs.Reply.{code_of};
+    ghost use Rattle.relay_http.specs.Response.{code_of};
 
     /// Its code.
     pub fn code(self) -> StatusCode

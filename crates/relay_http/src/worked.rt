@@ -1,91 +1,113 @@
-//! Worked requests and replies: what literal texts ask for, by the definitions alone, and the bytes
-//! of replies.
+//! Worked requests and responses: what literal texts ask for, by the definitions alone, and the
+//! bytes of responses.
 
 ghost use Rattle.std.specs.Prelude.{◌≡◌, ◌++◌, ◌∷◌, [], codes, false, true};
-ghost use Rattle.relay_http.specs.Asked.{all_messages, count, deliver, grants, host_file};
-ghost use Rattle.relay_http.specs.Asked.{host_file_after, parked, refused, report};
-ghost use Rattle.relay_http.specs.Reply.{fault_line, status_of, written};
-ghost use Rattle.relay_http.specs.Wanted.{Asks};
-ghost use Rattle.relay_http.specs.Worked.{approval, asked_with_host, lines, posted};
+ghost use Rattle.relay_http.specs.Request.{all_messages, count, deliver, grants, host_file};
+ghost use Rattle.relay_http.specs.Request.{host_file_after, named_request, parked, refused};
+ghost use Rattle.relay_http.specs.Request.{report, requests, requests_after};
+ghost use Rattle.relay_http.specs.Response.{fault_line, status_of, written};
+ghost use Rattle.relay_http.specs.RequestBytes.{IsHttpRequest};
+ghost use Rattle.relay_http.specs.Worked.{approval, head_with_host, lines, posted};
 ghost use Rattle.relay_http.specs.declared.fault.RequestFault.TheVariants.{BadHead, BadLength};
 ghost use Rattle.relay_http.specs.declared.fault.RequestFault.TheVariants.{BadMethod, BadMoment};
 ghost use Rattle.relay_http.specs.declared.fault.RequestFault.TheVariants.{BadTarget};
 ghost use Rattle.relay_http.specs.declared.fault.RequestFault.TheVariants.{LengthRequired, NoRoute};
 ghost use Rattle.relay_http.specs.declared.fault.RequestFault.TheVariants.{ShortBody, TooLong};
-ghost use Rattle.relay_http.specs.declared.place.Methods.TheVariants.{GetOrHead, Post};
+ghost use Rattle.relay_http.specs.declared.route.Methods.TheVariants.{GetOrHead, Post};
 ghost use Rattle.relay_http.specs.declared.status.Status.TheVariants as status;
 
 /// Requests that are answered by the desk: a delivery, one with zeros before its length, all
-/// messages, how many there are, the grants of a moment by HEAD, a host's file, the same after a
-/// moment, the report at a moment, and a query of HTTP/1.0 without Host.
+/// messages, how many there are, what became of every request, of those after a moment and of one,
+/// the grants of a moment by HEAD, a host's file, the same after a moment, the report at a moment,
+/// and a query of HTTP/1.0 without Host.
 pub fn worked_requests()
-    ensures delivery { Asks (posted (codes "70"))
-        (record { with_body = true; asked = deliver (codes "web") approval }) }
-    ensures zeros { Asks (posted (codes "0070"))
-        (record { with_body = true; asked = deliver (codes "web") approval }) }
-    ensures all_messages { Asks (asked_with_host (codes "GET /v1/messages HTTP/1.1"))
-        (record { with_body = true; asked = all_messages }) }
-    ensures count { Asks (asked_with_host (codes "GET /v1/count HTTP/1.1"))
-        (record { with_body = true; asked = count }) }
-    ensures grants { Asks (asked_with_host (codes "HEAD /v1/grants/20260105093000Z HTTP/1.1"))
-        (record { with_body = false; asked = grants 1_767_605_400 }) }
-    ensures host_file { Asks (asked_with_host (codes "GET /v1/hosts/db9/sudoers HTTP/1.1"))
-        (record { with_body = true; asked = host_file (codes "db9") }) }
-    ensures host_file_after { Asks
-        (asked_with_host (codes "GET /v1/hosts/db9/sudoers/20260105093000Z HTTP/1.1"))
-        (record { with_body = true; asked = host_file_after (codes "db9") 1_767_605_400 }) }
-    ensures report { Asks (asked_with_host (codes "GET /v1/reviews/20260105093000Z HTTP/1.1"))
-        (record { with_body = true; asked = report 1_767_605_400 }) }
-    ensures old { Asks (lines (codes "GET /v1/parked HTTP/1.0" ∷ [] ∷ []))
-        (record { with_body = true; asked = parked }) }
+    ensures delivery { IsHttpRequest (posted (codes "70"))
+        (record { with_body = true; action = deliver (codes "web") approval }) }
+    ensures zeros { IsHttpRequest (posted (codes "0070"))
+        (record { with_body = true; action = deliver (codes "web") approval }) }
+    ensures all_messages { IsHttpRequest (head_with_host (codes "GET /v1/messages HTTP/1.1"))
+        (record { with_body = true; action = all_messages }) }
+    ensures count { IsHttpRequest (head_with_host (codes "GET /v1/count HTTP/1.1"))
+        (record { with_body = true; action = count }) }
+    ensures requests { IsHttpRequest (head_with_host (codes "GET /v1/requests HTTP/1.1"))
+        (record { with_body = true; action = requests }) }
+    ensures requests_after { IsHttpRequest
+        (head_with_host (codes "GET /v1/requests/after/20260105093000Z HTTP/1.1"))
+        (record { with_body = true; action = requests_after 1_767_605_400 }) }
+    ensures named_request { IsHttpRequest
+        (head_with_host (codes "HEAD /v1/requests/ann/7 HTTP/1.1"))
+        (record { with_body = false; action = named_request (codes "ann") 7 }) }
+    ensures grants { IsHttpRequest
+        (head_with_host (codes "HEAD /v1/grants/20260105093000Z HTTP/1.1"))
+        (record { with_body = false; action = grants 1_767_605_400 }) }
+    ensures host_file { IsHttpRequest (head_with_host (codes "GET /v1/hosts/db9/sudoers HTTP/1.1"))
+        (record { with_body = true; action = host_file (codes "db9") }) }
+    ensures host_file_after { IsHttpRequest
+        (head_with_host (codes "GET /v1/hosts/db9/sudoers/20260105093000Z HTTP/1.1"))
+        (record { with_body = true; action = host_file_after (codes "db9") 1_767_605_400 }) }
+    ensures report { IsHttpRequest
+        (head_with_host (codes "GET /v1/reviews/20260105093000Z HTTP/1.1"))
+        (record { with_body = true; action = report 1_767_605_400 }) }
+    ensures old { IsHttpRequest (lines (codes "GET /v1/parked HTTP/1.0" ∷ [] ∷ []))
+        (record { with_body = true; action = parked }) }
 {}
 
 /// Requests that are refused: without a Host or with two, with a query in the target, without a
-/// route, with another method, with another text than a moment's canonical one; and deliveries
-/// without a length, with a signed one, with one byte too few, and with a length over the limit.
+/// route, with another method, with another text than a moment's canonical one, with a zero before
+/// a request's number, with no name before it; and deliveries without a length, with a signed one,
+/// with one byte too few, and with a length over the limit.
 pub fn worked_refusals()
-    ensures no_host { Asks (lines (codes "GET /v1/parked HTTP/1.1" ∷ [] ∷ []))
-        (record { with_body = true; asked = refused BadHead }) }
-    ensures two_hosts { Asks (lines (codes "HEAD /v1/parked HTTP/1.0" ∷ codes "Host: desk"
-        ∷ codes "hOST: desk" ∷ [] ∷ [])) (record { with_body = false; asked = refused BadHead }) }
-    ensures query { Asks (asked_with_host (codes "GET /v1/parked?x HTTP/1.1"))
-        (record { with_body = true; asked = refused BadTarget }) }
-    ensures slash { Asks (asked_with_host (codes "GET /v1/parked/ HTTP/1.1"))
-        (record { with_body = true; asked = refused NoRoute }) }
-    ensures posts { Asks (asked_with_host (codes "POST /v1/parked HTTP/1.1"))
-        (record { with_body = true; asked = refused (BadMethod GetOrHead) }) }
-    ensures counts { Asks (asked_with_host (codes "GET /v1/counts HTTP/1.1"))
-        (record { with_body = true; asked = refused NoRoute }) }
-    ensures posts_count { Asks (asked_with_host (codes "POST /v1/count HTTP/1.1"))
-        (record { with_body = true; asked = refused (BadMethod GetOrHead) }) }
-    ensures gets { Asks (asked_with_host (codes "GET /v1/relays/web/messages HTTP/1.1"))
-        (record { with_body = true; asked = refused (BadMethod Post) }) }
-    ensures moment { Asks (asked_with_host (codes "GET /v1/grants/2026010509Z HTTP/1.1"))
-        (record { with_body = true; asked = refused BadMoment }) }
-    ensures moment_with_offset { Asks
-        (asked_with_host (codes "GET /v1/grants/2026010504-0500 HTTP/1.1"))
-        (record { with_body = true; asked = refused BadMoment }) }
-    ensures file_after_day { Asks
-        (asked_with_host (codes "GET /v1/hosts/db9/sudoers/20260105 HTTP/1.1"))
-        (record { with_body = true; asked = refused BadMoment }) }
-    ensures report_by_day { Asks (asked_with_host (codes "HEAD /v1/reviews/20260105 HTTP/1.1"))
-        (record { with_body = false; asked = refused BadMoment }) }
-    ensures posts_report { Asks
-        (asked_with_host (codes "POST /v1/reviews/20260105093000Z HTTP/1.1"))
-        (record { with_body = true; asked = refused (BadMethod GetOrHead) }) }
-    ensures no_length { Asks (asked_with_host (codes "POST /v1/relays/web/messages HTTP/1.1"))
-        (record { with_body = true; asked = refused LengthRequired }) }
-    ensures signed { Asks (posted (codes "+70"))
-        (record { with_body = true; asked = refused BadLength }) }
-    ensures short { Asks (posted (codes "71"))
-        (record { with_body = true; asked = refused ShortBody }) }
-    ensures long { Asks (posted (codes "16385"))
-        (record { with_body = true; asked = refused TooLong }) }
+    ensures no_host { IsHttpRequest (lines (codes "GET /v1/parked HTTP/1.1" ∷ [] ∷ []))
+        (record { with_body = true; action = refused BadHead }) }
+    ensures two_hosts { IsHttpRequest (lines (codes "HEAD /v1/parked HTTP/1.0" ∷ codes "Host: desk"
+        ∷ codes "hOST: desk" ∷ [] ∷ [])) (record { with_body = false; action = refused BadHead }) }
+    ensures query { IsHttpRequest (head_with_host (codes "GET /v1/parked?x HTTP/1.1"))
+        (record { with_body = true; action = refused BadTarget }) }
+    ensures slash { IsHttpRequest (head_with_host (codes "GET /v1/parked/ HTTP/1.1"))
+        (record { with_body = true; action = refused NoRoute }) }
+    ensures posts { IsHttpRequest (head_with_host (codes "POST /v1/parked HTTP/1.1"))
+        (record { with_body = true; action = refused (BadMethod GetOrHead) }) }
+    ensures counts { IsHttpRequest (head_with_host (codes "GET /v1/counts HTTP/1.1"))
+        (record { with_body = true; action = refused NoRoute }) }
+    ensures posts_count { IsHttpRequest (head_with_host (codes "POST /v1/count HTTP/1.1"))
+        (record { with_body = true; action = refused (BadMethod GetOrHead) }) }
+    ensures zero_before { IsHttpRequest (head_with_host (codes "GET /v1/requests/ann/07 HTTP/1.1"))
+        (record { with_body = true; action = refused NoRoute }) }
+    ensures no_name { IsHttpRequest (head_with_host (codes "GET /v1/requests/Ann/7 HTTP/1.1"))
+        (record { with_body = true; action = refused NoRoute }) }
+    ensures after_number { IsHttpRequest
+        (head_with_host (codes "GET /v1/requests/after/7 HTTP/1.1"))
+        (record { with_body = true; action = refused BadMoment }) }
+    ensures gets { IsHttpRequest (head_with_host (codes "GET /v1/relays/web/messages HTTP/1.1"))
+        (record { with_body = true; action = refused (BadMethod Post) }) }
+    ensures moment { IsHttpRequest (head_with_host (codes "GET /v1/grants/2026010509Z HTTP/1.1"))
+        (record { with_body = true; action = refused BadMoment }) }
+    ensures moment_with_offset { IsHttpRequest
+        (head_with_host (codes "GET /v1/grants/2026010504-0500 HTTP/1.1"))
+        (record { with_body = true; action = refused BadMoment }) }
+    ensures file_after_day { IsHttpRequest
+        (head_with_host (codes "GET /v1/hosts/db9/sudoers/20260105 HTTP/1.1"))
+        (record { with_body = true; action = refused BadMoment }) }
+    ensures report_by_day { IsHttpRequest
+        (head_with_host (codes "HEAD /v1/reviews/20260105 HTTP/1.1"))
+        (record { with_body = false; action = refused BadMoment }) }
+    ensures posts_report { IsHttpRequest
+        (head_with_host (codes "POST /v1/reviews/20260105093000Z HTTP/1.1"))
+        (record { with_body = true; action = refused (BadMethod GetOrHead) }) }
+    ensures no_length { IsHttpRequest
+        (head_with_host (codes "POST /v1/relays/web/messages HTTP/1.1"))
+        (record { with_body = true; action = refused LengthRequired }) }
+    ensures signed { IsHttpRequest (posted (codes "+70"))
+        (record { with_body = true; action = refused BadLength }) }
+    ensures short { IsHttpRequest (posted (codes "71"))
+        (record { with_body = true; action = refused ShortBody }) }
+    ensures long { IsHttpRequest (posted (codes "16385"))
+        (record { with_body = true; action = refused TooLong }) }
 {}
 
-/// The replies to a delivery, to a method that a route does not have, and to HEAD where a route
+/// The responses to a delivery, to a method that a route does not have, and to HEAD where a route
 /// does not have it.
-pub fn worked_replies()
+pub fn worked_responses()
     ensures ack { written status.Done (codes "ack" ++ 10 ∷ []) true ≡ lines
         (codes "HTTP/1.1 200 OK" ∷ codes "Content-Type: text/plain" ∷ codes "Content-Length: 4"
         ∷ codes "Connection: close" ∷ [] ∷ []) ++ codes "ack" ++ 10 ∷ [] }

@@ -6,5 +6,8 @@ pub mod ReportParts
 pub mod NameParts
 pub mod Approvers
 pub mod Joined
-pub mod OfDesk
+pub mod OfSummaries
+pub mod SomeNeed
+pub mod SomeReport
+pub mod Needless
 pub mod PastReports

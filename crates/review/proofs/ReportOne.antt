@@ -9,7 +9,7 @@ use Rattle.std.proofs.lemmas.Cmp.{nat_cmp_total, on_total, then_total}
 use Rattle.sudo_words.specs.declared.cmnd.Cmnd.{Cmnd}
 use Rattle.sudo_policy.specs.declared.entry.Entry.{Entry}
 use Rattle.messages.specs.Fields.{RequestFields}
-use Rattle.messages.specs.Names.{SameMessages}
+use Rattle.messages.specs.Names.{SameMessages, name_cmp}
 use Rattle.messages.specs.declared.request_name.RequestName.{RequestName}
 use Rattle.messages.specs.declared.message.Message.{Message}
 use Rattle.messages.specs.declared.message.Message.TheVariants.{Request, Verdict}
@@ -19,6 +19,7 @@ use Rattle.grants.specs.Statuses.{IsStatus, window_at}
 use Rattle.grants.specs.declared.outcome.Status.{Status}
 use Rattle.grants.specs.declared.outcome.Window.{Window}
 use Rattle.grants.proofs.StatusLaws.{one_status, order_free}
+use Rattle.outcomes.proofs.SetLemmas.{one_parked, parked_of_set}
 use Rattle.review.specs.declared.need.Need.{Need}
 use Rattle.review.specs.declared.reason.Reason.{Reason}
 use Rattle.review.specs.Barred.{AreBarredLines, HasApproved, HasApprovedAt, IsWhy, approval, barred_for, reason}
@@ -26,14 +27,14 @@ use Rattle.sorting.specs.Lists.{AreParts, text_order}
 use Rattle.review.specs.Columns.{lines_text}
 use Rattle.review.specs.Needs.{IsNeedOn, grant_scope, own_policy}
 use Rattle.review.specs.Report.{AreAll, AreBarred, AreBarredUnder, AreBroadLines, AreInForce, BarredLines, IsAsked, IsLiveLine, IsOnlyRequest}
-use Rattle.review.specs.Report.{IsParkedText, IsReport, LinesInForce, conflicts_of, is_open, lesser_first, live_line, name_order, report_lines}
+use Rattle.review.specs.Report.{IsReport, LinesInForce, conflicts_of, is_open, lesser_first, live_line, report_lines}
 use Rattle.review.proofs.NeedLemmas.{one_need_beyond, one_need_over}
 use Rattle.sorting.proofs.OneSorted.{one_once, one_sorted}
 
-names_total : IsTotalOrder name_order
+pub names_total : IsTotalOrder name_cmp
 names_total = then_total (on_total (λ (n : RequestName). n.by) nat_list_cmp_total) (on_total (λ (n : RequestName). n.no) nat_cmp_total)
 
-pairs_total : IsTotalOrder pair_order
+pub pairs_total : IsTotalOrder pair_order
 pairs_total = then_total (on_total (λ (p : List ℕ × List ℕ). p.0) nat_list_cmp_total) (on_total (λ (p : List ℕ × List ℕ). p.1) nat_list_cmp_total)
 
 -- two whole lists of the same things are the same
@@ -61,14 +62,6 @@ module _ (f : RosterFields Cmnd) (s t : List Message) (same : SameMessages s t) 
 
   same_approved : (u v : List Message) → SameMessages u v → (q : RequestFields) (person : List ℕ) → HasApproved u q person → HasApproved v q person
   same_approved u v e q person is = (is.0, (e (Verdict (approval q person is.0))).0 is.1)
-
-  same_parked : (u v : List Message) → SameMessages u v → (text : List ℕ) → IsParkedText u text → IsParkedText v text
-  same_parked u v e text is = record {
-    verdict = is.verdict;
-    given = (e (Verdict is.verdict)).0 is.given;
-    waits = λ q asked. is.waits q ((e (Request q)).1 asked);
-    text_is = is.text_is;
-  }
 
   one_name_status : (name : RequestName) (a b : Status) → IsStatus f s name a → IsStatus f t name b → a ≡ b
   one_name_status name a b is also = one_status f t name a b (order_free f s t name a same is) also
@@ -140,11 +133,10 @@ pub one_report : (f : RosterFields Cmnd) (base : List Entry) (s t : List Message
     → SameMessages s t → IsReport f base s at x → IsReport f base t at y → x ≡ y
 one_report f base s t at x y same a b =
     let back : SameMessages t s = turned f s t same in
-    let names : a.names ≡ b.names = one_all name_order names_total (IsAsked s) (IsAsked t)
+    let names : a.names ≡ b.names = one_all name_cmp names_total (IsAsked s) (IsAsked t)
     (same_asked f s t same s t same) (same_asked f s t same t s back) a.names b.names a.names_are b.names_are in
     let pairs : a.pairs ≡ b.pairs = one_once pair_order pairs_total (map lesser_first f.conflicts) a.pairs b.pairs a.pairs_are b.pairs_are in
-    let parked : a.parked ≡ b.parked = one_all text_order nat_list_cmp_total (IsParkedText s) (IsParkedText t)
-    (same_parked f s t same s t same) (same_parked f s t same t s back) a.parked b.parked a.parked_are b.parked_are in
+    let parked : a.parked ≡ b.parked = one_parked t a.parked b.parked (parked_of_set s t a.parked same a.parked_are) b.parked_are in
     let live : a.live ≡ b.live = one_parts_of_two (AreInForce f s at (IsLiveLine base)) (AreInForce f t at (IsLiveLine base))
     (one_in_force f s t same (IsLiveLine base) (one_live_line base) at) b.names a.live b.live
     (subst (λ (ns : List RequestName). AreParts (AreInForce f s at (IsLiveLine base)) ns a.live) names a.live_are) b.live_are in

@@ -1,11 +1,14 @@
 -- What a grant gives beyond the base, on the hosts that it names (least privilege, NIST SP 800-53
 -- AC-6(7)).
-use Rattle.std.specs.Prelude.{ℕ, List, Contains, Some, map, codes}
+use Rattle.std.specs.Prelude.{ℕ, nat_eq, Bool, not, ◌&&◌, List, Contains, Some, filter, map, codes}
+use Rattle.std.specs.Str.{bytes_eq}
 use Rattle.sudo_policy.specs.declared.entry.Entry.{Entry}
 use Rattle.sudo_policy.specs.declared.entry.Entry.TheVariants as entries
 use Rattle.messages.specs.Fields.{RequestFields}
+use Rattle.messages.specs.declared.request_name.RequestName.{RequestName}
 use Rattle.grants.specs.GrantRules.{grant_rule}
 use Rattle.grants.specs.declared.outcome.Window.{Window}
+use Rattle.outcomes.specs.HostFile.{Line}
 use Rattle.review.specs.declared.need.Need.{Need}
 use Rattle.review.specs.declared.need.Need.TheVariants.{Needed, Needless, Unknown}
 use Rattle.sudo_decide.specs.declared.scope.Scope.{Scope}
@@ -43,6 +46,17 @@ IsNeedOver On hosts Unknown =
 -- whether the grant is needed, beside the base
 abbrev pub IsNeed : (base : List Entry) → RequestFields → Window → Need → Type 0
 IsNeed base q w need = IsNeedOver (IsNeedOn base q w) q.hosts need
+
+-- ---- a host's file without a grant
+
+abbrev pub is_same_name : (a b : RequestName) → Bool
+is_same_name a b = bytes_eq a.by b.by && nat_eq a.no b.no
+
+-- a file's lines without those of the name
+abbrev pub lines_without : RequestName → List Line → List Line
+lines_without name lines = filter (λ line. not (is_same_name line.name name)) lines
+
+-- ---- texts
 
 -- how it is written
 abbrev pub need_text : Need → List ℕ

@@ -3,30 +3,28 @@
 -- request (NIST SP 800-53 AC-5, AC-6(7)).
 use Rattle.std.specs.Prelude.{◌≡◌, ℕ, ◌&&◌, Bool, true, false, List, [], ◌∷◌, ◌++◌}
 use Rattle.std.specs.Prelude.{Contains, Option, Some, None, map, if◌then◌else◌, codes}
-use Rattle.std.specs.List.{AllByRecursion, flat_map}
+use Rattle.std.specs.List.{flat_map}
 use Rattle.std.specs.List.Sorted.{IsStrictlySortedBy}
-use Rattle.std.specs.Ordering.{nat_cmp, ordering_then}
 use Rattle.std.specs.declared.cmp.Ordering.{Ordering}
 use Rattle.sudo_words.specs.Command.{cmnd_text}
 use Rattle.sudo_words.specs.Moment.{stamp}
 use Rattle.sudo_words.specs.declared.cmnd.Cmnd.{Cmnd}
 use Rattle.sudo_words.specs.declared.cmnd.Cmnd.TheVariants.{All, Path, Dir}
 use Rattle.sudo_policy.specs.declared.entry.Entry.{Entry as PolicyEntry}
-use Rattle.messages.specs.Fields.{RequestFields, VerdictFields}
-use Rattle.messages.specs.Names.{IsNamed, IsAbout, name_of}
+use Rattle.messages.specs.Fields.{RequestFields}
+use Rattle.messages.specs.Names.{IsNamed, name_cmp, name_of}
 use Rattle.messages.specs.declared.request_name.RequestName.{RequestName}
-use Rattle.messages.specs.Wire.{wire}
 use Rattle.messages.specs.declared.message.Message.{Message}
-use Rattle.messages.specs.declared.message.Message.TheVariants.{Request, Verdict}
+use Rattle.messages.specs.declared.message.Message.TheVariants.{Request}
 use Rattle.roster.specs.Fields.{CeilingFields, Entry, RosterFields}
 use Rattle.roster.specs.Relations.{ceiling_at, holds, is_before, pair_order}
 use Rattle.grants.specs.Statuses.{IsStatus, window_at}
-use Rattle.grants.specs.Summaries.{Kept, StandsFor}
 use Rattle.grants.specs.Verdicts.{StandsAlone}
 use Rattle.grants.specs.declared.outcome.Status.{Status}
 use Rattle.grants.specs.declared.outcome.Status.TheVariants.{Disputed, Lapsed, Refused}
 use Rattle.grants.specs.declared.outcome.Status.TheVariants.{Waiting, Void, Granted}
 use Rattle.grants.specs.declared.outcome.Window.{Window}
+use Rattle.outcomes.specs.Parked.{AreParked}
 use Rattle.review.specs.declared.need.Need.{Need}
 use Rattle.review.specs.Barred.{AreBarredLines, HasApproved}
 use Rattle.sorting.specs.Lists.{AreParts, IsEachOnce, text_order}
@@ -41,10 +39,6 @@ pub record AreAll {X : Type 0} (order : X → X → Ordering)
   pub in_order : IsStrictlySortedBy order list
   pub each : (x : X) → Contains list x → Is x
   pub all : (x : X) → Is x → Contains list x
-
--- names by the asker in byte order, then by number
-abbrev pub name_order : RequestName → RequestName → Ordering
-name_order a b = ordering_then (text_order a.by b.by) (nat_cmp a.no b.no)
 
 -- somebody asks under the name
 pub record IsAsked (messages : List Message) (name : RequestName) : Type 0 where
@@ -157,14 +151,6 @@ abbrev pub conflicts_of : RosterFields Cmnd → (at : ℕ)
     → (pairs : List (List ℕ × List ℕ)) → List ℕ × List Entry → List (List ℕ)
 conflicts_of f at pairs person = flat_map (conflict_for f at person.0) pairs
 
--- ---- PARKED: the texts of the verdicts whose request is not among the messages
-
-pub record IsParkedText (messages : List Message) (text : List ℕ) : Type 0 where
-  pub verdict : VerdictFields
-  pub given : Contains messages (Verdict verdict)
-  pub waits : (q : RequestFields) → Contains messages (Request q) → ¬ IsAbout q verdict
-  pub text_is : text ≡ wire (Verdict verdict)
-
 -- ---- the whole
 
 abbrev pub report_lines : ℕ → (live barred conflicts broad parked : List (List ℕ)) → List (List ℕ)
@@ -176,7 +162,7 @@ report_lines at live barred conflicts broad parked =
     ++ codes "PARKED" ∷ parked
 
 -- The report's text. LIVE, BARRED and BROAD go over the names that somebody asks under, in their
--- order.
+-- order; PARKED has the texts of the verdicts that wait for their request.
 pub record IsReport (f : RosterFields Cmnd) (base : List PolicyEntry)
     (messages : List Message) (at : ℕ) (text : List ℕ) : Type 0 where
   pub names : List RequestName
@@ -185,19 +171,11 @@ pub record IsReport (f : RosterFields Cmnd) (base : List PolicyEntry)
   pub barred : List (List ℕ)
   pub broad : List (List ℕ)
   pub parked : List (List ℕ)
-  pub names_are : AreAll name_order (IsAsked messages) names
+  pub names_are : AreAll name_cmp (IsAsked messages) names
   pub pairs_are : ArePairs f pairs
   pub live_are : AreParts (AreInForce f messages at (IsLiveLine base)) names live
   pub barred_are : AreParts (AreBarred f messages) names barred
   pub broad_are : AreParts (AreInForce f messages at AreBroadLines) names broad
-  pub parked_are : AreAll text_order (IsParkedText messages) parked
+  pub parked_are : AreParked messages parked
   pub text_is : text ≡ lines_text
       (report_lines at live barred (flat_map (conflicts_of f at pairs) f.people) broad parked)
-
--- ---- what a report is made from
-
--- The summaries stand for the set: one for each name that somebody asks under, in the order of the
--- names.
-pub record AreSummaries (messages : List Message) (summaries : List Kept) : Type 0 where
-  pub names : AreAll name_order (IsAsked messages) (map (λ k. name_of k.request) summaries)
-  pub stand : AllByRecursion (StandsFor messages) summaries

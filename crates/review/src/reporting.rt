@@ -3,9 +3,10 @@
 ghost use Rattle.std.specs.Prelude.{◌≡◌, List, ◌++◌, IfOk, OnOk, codes, map, string_bytes};
 ghost use Rattle.sudo_words.specs.Moment.{stamp};
 ghost use Rattle.messages.specs.declared.message.Message.{Message as AnyMessage};
-ghost use Rattle.sorting.specs.Lists.{text_order};
+ghost use Rattle.outcomes.specs.Parked.{AreParked};
+ghost use Rattle.outcomes.specs.Summaries.{AreSummaries};
 ghost use Rattle.review.specs.Columns.{lines_text};
-ghost use Rattle.review.specs.Report.{AreAll, AreSummaries, IsParkedText, IsReport};
+ghost use Rattle.review.specs.Report.{IsReport};
 
 use crate::conflicts::push_all_conflicts;
 use crate::names::parts_of;
@@ -53,7 +54,7 @@ pub fn report_of(
     at: Moment,
 ) -> Result<String, NoMemory>
     ensures { (set : List AnyMessage) → AreSummaries set summaries.now
-        → AreAll text_order (IsParkedText set) (map string_bytes parked.now)
+        → AreParked set (map string_bytes parked.now)
         → IfOk result (λ s. IsReport roster.now.says base.now set at (string_bytes s)) }
 {
     let parts = parts_of(alloc, roster, base, summaries, at)?;

@@ -32,7 +32,7 @@ use Rattle.sudo_beyond.specs.declared.run.Run.{Run}
 use Rattle.sudo_beyond.specs.declared.size.Size.{Size}
 use Rattle.sudo_beyond.specs.Standing.{users, hosts, runas, commands}
 use Rattle.sorting.specs.Lists.{text_order, args_order, IsEachOnce, AreParts}
-use Rattle.sudo_beyond.specs.Cases.{AreNameCases, run_of, path_in, paths, dir_in, dirs, listed_args, args_in, args_with}
+use Rattle.sudo_beyond.specs.Cases.{AreNamesAndOther, AreNameCases, run_of, path_in, paths, dir_in, dirs, listed_args, args_in, args_with}
 use Rattle.sudo_beyond.specs.Cases.{ArePathCases, IsFreshFile, AreCommandCases, turns_of, turns, AreMomentCases, AreCases, product}
 use Rattle.sudo_beyond.specs.Answer.{AreFew, most_cases}
 use Rattle.sudo_beyond.specs.private.Gathering.{listing_in, listings}
@@ -155,7 +155,7 @@ module _ {X : Type 0} (R : X → X → Ordering) (total : IsTotalOrder R) (exact
       }
 
 -- elements that the orders do not tell apart are equal
-exact_texts : (x y : List ℕ) → text_order x y ≡ Equal → x ≡ y
+pub exact_texts : (x y : List ℕ) → text_order x y ≡ Equal → x ≡ y
 exact_texts x y tied = (bytes_eq-Decides x y).0 (texts_ties x y ∙ ap is_eq tied)
 
 exact_args : (x y : List (List ℕ)) → args_order x y ≡ Equal → x ≡ y
@@ -245,7 +245,7 @@ module _ (cmnds : List Cmnd) (counted : length cmnds < 2 ^ 64) where
   fresh_few : (dir : List ℕ) → HasAtMost (IsFreshFile (paths cmnds) dir) most_runs
   fresh_few dir = let one = fresh dir in record { list = one.list; is = one.is; few = omega (arith, one.few) }
 
-  of_commands : HasAtMost (AreCommandCases cmnds) (length cmnds * most_runs + 1)
+  pub of_commands : HasAtMost (AreCommandCases cmnds) (length cmnds * most_runs + 1)
   of_commands =
       let files = once_of text_order nat_list_cmp_total exact_texts (paths cmnds) in
       let directories = once_of text_order nat_list_cmp_total exact_texts (dirs cmnds) in
@@ -275,12 +275,25 @@ module _ (cmnds : List Cmnd) (counted : length cmnds < 2 ^ 64) where
 
 -- ---- moments
 
-of_moments : (rules : List Rule) → HasAtMost (AreMomentCases rules) (length (turns rules) + 1)
+pub of_moments : (rules : List Rule) → HasAtMost (AreMomentCases rules) (length (turns rules) + 1)
 of_moments rules =
     let once = once_of nat_cmp nat_cmp_total exact_moments (0 ∷ turns rules) in
     record { list = once.list; is = once.is; few = omega (arith, once.few) }
 
--- ---- names that are fixed
+-- ---- names
+
+-- where the names are not fixed, those that stand in the policies and one more
+all_names : (standing : List (List ℕ)) → length standing < 2 ^ 64 → (cases : List (List ℕ)) × AreNamesAndOther standing cases
+all_names standing short =
+    let once = once_of text_order nat_list_cmp_total exact_texts standing in
+    let found = found_other bytes_eq bytes_eq-Decides (λ w. w) (λ v w same. same) standing short in (
+      once.list ++ found.word ∷ [],
+      record { names = once.list; other_name = found.word; cases_are = refl; names_are = once.is; other_is = found.first },
+    )
+
+pub of_names : (fixed : Option (List ℕ)) (standing : List (List ℕ)) → length standing < 2 ^ 64 → (cases : List (List ℕ)) × AreNameCases fixed standing cases
+of_names (Some name) standing short = (name ∷ [], refl)
+of_names None standing short = all_names standing short
 
 of_fixed : (fixed : Option (List ℕ)) (standing : List (List ℕ)) → is_some fixed ≡ true → HasAtMost (AreNameCases fixed standing) 1
 of_fixed (Some name) standing some = record { list = name ∷ []; is = refl; few = omega arith }

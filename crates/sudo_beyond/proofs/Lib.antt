@@ -22,3 +22,4 @@ pub mod Existing
 pub mod Shown
 pub mod PolicyLaws
 pub mod HasCase
+pub mod Answered

@@ -1,6 +1,6 @@
 //! Laws of what lies beyond a policy, each the contract of a function that does nothing.
 
-ghost use Rattle.std.specs.Prelude.{◌≡◌, ℕ, ◌≤◌, ◌++◌, true, false};
+ghost use Rattle.std.specs.Prelude.{◌≡◌, ◌⊎◌, ℕ, ◌≤◌, ◌++◌, true, false, Option};
 ghost use Rattle.std.specs.Prelude.{List, [], ◌∷◌, length, Some, codes};
 ghost use Rattle.std.specs.List.{AllByRecursion, Contains, flat_map};
 ghost use Rattle.sudo_words.specs.Moment.{IsMoment};
@@ -26,6 +26,7 @@ ghost use Rattle.sudo_decide.specs.declared.scope.Scope.{Scope};
 ghost use Rattle.sudo_beyond.specs.Standing.{names_in, cmnds_in, users, hosts, runas, commands};
 ghost use Rattle.sudo_beyond.specs.Beyond.{Agrees, IsScope, IsInvocation, IsInScope};
 ghost use Rattle.sudo_beyond.specs.Beyond.{IsGap, LiesBeyond, SomethingBeyond};
+ghost use Rattle.sudo_beyond.specs.Answer.{AreFew, AreTooMany, IsFirstBeyond};
 ghost use Rattle.sudo_beyond.specs.Cases.{AreCases, run_of, moment_after, product, invocations};
 ghost use Rattle.sudo_beyond.specs.Worked.{all_but_bob, ann_alone, anything, runs_other};
 ghost use Rattle.sudo_beyond.specs.Alike.{AlikeNames, AlikeCmnds, AlikeMoments, Alike};
@@ -105,6 +106,23 @@ pub fn each_moment_has_a_case()
 pub fn one_list_of_each()
     ensures { (s : Scope) (a b : List Entry) (c d : Cases)
         → AreCases s a b c → AreCases s a b d → c ≡ d }
+{}
+
+/// Any two policies and any scope have these lists, which make few cases or too many.
+pub fn each_has_cases()
+    ensures cases { (s : Scope) (a b : List Entry) → IsPolicy a → IsPolicy b
+        → (c : Cases) × AreCases s a b c }
+    ensures count { (s : Scope) (a b : List Entry) → IsPolicy a → IsPolicy b
+        → AreFew s a b ⊎ AreTooMany s a b }
+{}
+
+/// Where the cases are few, they have an answer: the first that lies beyond, or that none does. So
+/// something lies beyond, or nothing does.
+pub fn each_has_an_answer()
+    ensures first { (s : Scope) (a b : List Entry) → AreFew s a b
+        → (found : Option Invocation) × IsFirstBeyond s a b found }
+    ensures told { (s : Scope) (a b : List Entry) → IsPolicy a → IsPolicy b → IsScope s
+        → AreFew s a b → SomethingBeyond s a b ⊎ (SomethingBeyond s a b → ⊥) }
 {}
 
 /// The lists make as many invocations as their product says, and each is well formed and in the

@@ -7,7 +7,7 @@ use Rattle.sudo_policy.specs.declared.entry.Rule.{Rule}
 use Rattle.sudo_policy.specs.declared.entry.Entry.{Entry}
 use Rattle.sudo_policy.specs.declared.entry.Entry.TheVariants as entries
 use Rattle.sudo_decide.specs.declared.decision.Decision.{Decision}
-use Rattle.sudo_decide.specs.declared.decision.Decision.TheVariants.{Deny, Allow, AllowNoPassword}
+use Rattle.sudo_decide.specs.declared.decision.Decision.TheVariants.{Deny}
 use Rattle.sudo_decide.specs.declared.invocation.Invocation.{Invocation}
 use Rattle.sudo_decide.specs.Decision as defined
 use Rattle.sudo_decide.specs.Decision.{is_yes, last_given, signed_answer, list_answer, DecidesBy}
@@ -48,12 +48,8 @@ written_says by r w i is =
     ∙ ap (λ (about : Bool). says_from (defined.takes_part r i.at) about (cmnds_say i.path i.args w.cmnds)) (is.about i)
     ∙ ap (says_from (defined.takes_part r i.at) (defined.is_about by r i)) (is.cmnd i)
 
-outcome_from : Bool → Bool → Decision
-outcome_from nopasswd allowed = if allowed then (if nopasswd then AllowNoPassword else Allow) else Deny
-
 written_outcome : (by : List Entry) (r : Rule) (w : PlainRule) (b : Bool) → IsWritten by r w → outcome w b ≡ defined.outcome r b
-unfolding outcome_from
-written_outcome by r w b is = ap (λ (tag : Bool). outcome_from tag b) is.nopasswd
+written_outcome by r w b is = ap (λ (tag : Bool). defined.decision_of tag b) is.nopasswd
 
 by_what_is_said : (by es : List Entry) (r : Rule) (w : PlainRule) (rules : List PlainRule) (i : Invocation) (o : Option Bool) → IsWritten by r w
     → says w i ≡ o → DecidesBy by es i (answer rules i) → DecidesBy by (es ++ entries.Rule r ∷ []) i (answer (rules ++ w ∷ []) i)

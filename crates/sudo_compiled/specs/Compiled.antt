@@ -8,9 +8,9 @@ use Rattle.sudo_words.specs.declared.cmnd.Cmnd.{Cmnd}
 use Rattle.sudo_words.specs.Command.{matches}
 use Rattle.sudo_policy.specs.declared.entry.Signed.{Signed}
 use Rattle.sudo_decide.specs.declared.decision.Decision.{Decision}
-use Rattle.sudo_decide.specs.declared.decision.Decision.TheVariants.{Deny, Allow, AllowNoPassword}
+use Rattle.sudo_decide.specs.declared.decision.Decision.TheVariants.{Deny}
 use Rattle.sudo_decide.specs.declared.invocation.Invocation.{Invocation}
-use Rattle.sudo_decide.specs.Decision.{is_yes, last_given, list_answer, is_not_before, is_not_after}
+use Rattle.sudo_decide.specs.Decision.{is_yes, last_given, list_answer, is_within, decision_of}
 use Rattle.sudo_compiled.specs.declared.plain.Plain.{Plain}
 use Rattle.sudo_compiled.specs.declared.plain.Plain.TheVariants as plains
 use Rattle.sudo_compiled.specs.declared.plain.PlainRule.{PlainRule}
@@ -34,7 +34,7 @@ cmnds_say path args list = list_answer (match_answer path args) list
 -- ---- rules
 
 abbrev pub takes_part : PlainRule → ℕ → Bool
-takes_part r at = is_not_before r.not_before at && is_not_after r.not_after at
+takes_part r at = is_within r.not_before r.not_after at
 
 abbrev pub is_about : PlainRule → Invocation → Bool
 is_about r i = is_yes (plains_say i.user r.users)
@@ -44,7 +44,7 @@ abbrev pub says : PlainRule → Invocation → Option Bool
 says r i = if takes_part r i.at && is_about r i then cmnds_say i.path i.args r.cmnds else None
 
 abbrev pub outcome : PlainRule → Bool → Decision
-outcome r answer = if answer then (if r.nopasswd then AllowNoPassword else Allow) else Deny
+outcome r answer = decision_of r.nopasswd answer
 
 -- what a rule decides, where it speaks
 abbrev pub spoken : Invocation → PlainRule → Option Decision

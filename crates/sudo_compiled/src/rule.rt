@@ -4,23 +4,7 @@ ghost use Rattle.std.specs.Prelude.{◌≡◌};
 ghost use Rattle.sudo_compiled.specs.Compiled as compiled;
 
 use crate::plain::PlainRule;
-use sudo_decide::{Decision, Invocation};
-use sudo_words::Moment;
-
-/// Whether the moment is within the rule's dates, both of them included.
-fn takes_part(rule: &PlainRule, at: Moment) -> bool
-    ensures { result ≡ compiled.takes_part rule.now at }
-{
-    let begun = match rule.not_before {
-        None => true,
-        Some(first) => first <= at,
-    };
-    let lasts = match rule.not_after {
-        None => true,
-        Some(last) => at <= last,
-    };
-    begun && lasts
-}
+use sudo_decide::{Decision, Invocation, is_within};
 
 /// Whether the rule's users, hosts and targets each say yes. The first that does not is the last
 /// asked.
@@ -45,24 +29,11 @@ pub(crate) fn is_about(rule: &PlainRule, i: &Invocation) -> bool
 fn says(rule: &PlainRule, i: &Invocation) -> Option<bool>
     ensures { result ≡ compiled.says rule.now i.now }
 {
-    if !takes_part(rule, i.at) {
+    if !is_within(rule.not_before, rule.not_after, i.at) {
         return None;
     }
     let said = rule.cmnds.says_of_run(&i.path, i.args.as_slice())?;
     if is_about(rule, i) { Some(said) } else { None }
-}
-
-/// What the rule decides by its answer.
-fn outcome(rule: &PlainRule, answer: bool) -> Decision
-    ensures { result ≡ compiled.outcome rule.now answer }
-{
-    if !answer {
-        Decision::Deny
-    } else if rule.nopasswd {
-        Decision::AllowNoPassword
-    } else {
-        Decision::Allow
-    }
 }
 
 /// What the rule decides, where it speaks.
@@ -71,6 +42,6 @@ pub(crate) fn spoken(rule: &PlainRule, i: &Invocation) -> Option<Decision>
 {
     match says(rule, i) {
         None => None,
-        Some(answer) => Some(outcome(rule, answer)),
+        Some(answer) => Some(Decision::of(rule.nopasswd, answer)),
     }
 }

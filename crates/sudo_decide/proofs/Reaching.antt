@@ -13,7 +13,8 @@ use Rattle.sudo_policy.specs.Alias.{user_def, host_def, runas_def, cmnd_def, use
 use Rattle.sudo_decide.specs.declared.decision.Decision.{Decision}
 use Rattle.sudo_decide.specs.declared.decision.Decision.TheVariants.{Deny, Allow, AllowNoPassword}
 use Rattle.sudo_decide.specs.declared.invocation.Invocation.{Invocation}
-use Rattle.sudo_decide.specs.Decision.{is_yes, signed_answer, cmnd_answer, cmnd_alias_says, names_say, takes_part, cmnd_says, says, outcome, DecidesBy}
+use Rattle.sudo_decide.specs.Decision.{is_yes, signed_answer, cmnd_answer, cmnd_alias_says, names_say}
+use Rattle.sudo_decide.specs.Decision.{takes_part, cmnd_says, says, outcome, decision_of, DecidesBy}
 use Rattle.sudo_decide.specs.Reach.{rules_in, Question, AnswersAlike, AllAnswerAlike}
 use Rattle.sudo_decide.proofs.AnswerLemmas.{option_or-None}
 use Rattle.sudo_decide.proofs.Speakers.{spoken, last_spoken, last_spoken-nil, last_spoken-cons, decides_alike}
@@ -75,14 +76,10 @@ says_alike p q r s alike =
     ap (λ (b : Bool). says_from b users_q hosts_q runas_q (cmnd_says q.defined s q.asked)) alike.dates in
     by_users ∙ by_hosts ∙ by_runas ∙ by_cmnd ∙ by_dates
 
-outcome_from : Bool → Bool → Decision
-outcome_from nopasswd answer = if answer then (if nopasswd then AllowNoPassword else Allow) else Deny
-
 spoken_alike : (p q : Question) (r s : Rule) → AnswersAlike p q r s → spoken p.defined p.asked (entries.Rule r) ≡ spoken q.defined q.asked (entries.Rule s)
-unfolding outcome_from
 spoken_alike p q r s alike =
     let by_tag : option_map (outcome r) (says p.defined r p.asked) ≡ option_map (outcome s) (says p.defined r p.asked) =
-    ap (λ (tag : Bool). option_map (outcome_from tag) (says p.defined r p.asked)) alike.nopasswd in
+    ap (λ (tag : Bool). option_map (decision_of tag) (says p.defined r p.asked)) alike.nopasswd in
     by_tag ∙ ap (option_map (outcome s)) (says_alike p q r s alike)
 
 rules_spoken_alike : (p q : Question) (rs ss : List Rule) → AllAnswerAlike p q rs ss

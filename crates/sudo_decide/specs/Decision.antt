@@ -71,7 +71,7 @@ names_say defs asked list = list_answer (item_answer (name_alias_says defs asked
 
 -- ---- rules
 
--- a rule takes part from its first moment to its last, both included; an absent one is no bound
+-- a moment is from the first to the last, both included; an absent one is no bound
 abbrev pub is_not_before : Option ℕ → ℕ → Bool
 is_not_before None at = true
 is_not_before (Some first) at = nat_le first at
@@ -80,8 +80,12 @@ abbrev pub is_not_after : Option ℕ → ℕ → Bool
 is_not_after None at = true
 is_not_after (Some last) at = nat_le at last
 
+abbrev pub is_within : (not_before not_after : Option ℕ) → ℕ → Bool
+is_within not_before not_after at = is_not_before not_before at && is_not_after not_after at
+
+-- a rule takes part from its first moment to its last
 abbrev pub takes_part : Rule → ℕ → Bool
-takes_part r at = is_not_before r.not_before at && is_not_after r.not_after at
+takes_part r at = is_within r.not_before r.not_after at
 
 -- its users, its hosts and its targets each say yes, by the definitions among the entries, which
 -- are listed from the last to the first
@@ -109,9 +113,13 @@ entry_says defined alias i = None
 
 -- ---- policies: the last rule that speaks decides, and silence denies
 
+-- what this answer decides, with the tag NOPASSWD and without it
+abbrev pub decision_of : (nopasswd answer : Bool) → Decision
+decision_of nopasswd answer = if answer then (if nopasswd then AllowNoPassword else Allow) else Deny
+
 -- what a rule decides with this answer
 abbrev pub outcome : Rule → Bool → Decision
-outcome r answer = if answer then (if r.nopasswd then AllowNoPassword else Allow) else Deny
+outcome r answer = decision_of r.nopasswd answer
 
 abbrev pub AllSilent : List Entry → List Entry → Invocation → Type 0
 AllSilent defined es i = AllByRecursion (λ e. entry_says defined e i ≡ None) es

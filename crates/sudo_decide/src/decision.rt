@@ -1,5 +1,8 @@
 //! What a policy answers.
 
+ghost use Rattle.std.specs.Prelude.{◌≡◌};
+ghost use Rattle.sudo_decide.specs.Decision.{decision_of};
+
 use std::fmt;
 
 /// The answer to an invocation.
@@ -13,6 +16,21 @@ pub enum Decision {
     Allow,
     /// It may run, and no password is asked for.
     AllowNoPassword,
+}
+
+impl Decision {
+    /// What a rule decides with this answer, by whether it has the tag NOPASSWD.
+    pub fn of(nopasswd: bool, answer: bool) -> Decision
+        ensures { result ≡ decision_of nopasswd answer }
+    {
+        if !answer {
+            Decision::Deny
+        } else if nopasswd {
+            Decision::AllowNoPassword
+        } else {
+            Decision::Allow
+        }
+    }
 }
 
 impl fmt::Display for Decision {

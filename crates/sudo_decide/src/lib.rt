@@ -15,4 +15,5 @@ mod scope;
 pub use decision::Decision;
 pub use invocation::Invocation;
 pub use policy::decide;
+pub use rule::is_within;
 pub use scope::Scope;

@@ -6,7 +6,7 @@ ghost use Rattle.sudo_decide.specs.Decision.{Decides, DecidesBy};
 
 use crate::decision::Decision;
 use crate::invocation::Invocation;
-use crate::rule::{outcome, says};
+use crate::rule::says;
 use sudo_policy::{Entry, Policy};
 
 /// The decision of some entries followed by this one, from the decision of those before it, where
@@ -18,7 +18,7 @@ fn decision_after(p: &Policy, before: Decision, entry: &Entry, i: &Invocation) -
     match entry {
         Entry::Rule(rule) => match says(p, rule, i) {
             None => before,
-            Some(answer) => outcome(rule, answer),
+            Some(answer) => Decision::of(rule.nopasswd, answer),
         },
         _ => before,
     }

@@ -4,21 +4,21 @@ ghost use Rattle.std.specs.Prelude.{◌≡◌, reverse};
 ghost use Rattle.sudo_decide.specs.Decision as rules;
 
 use crate::answer::{is_yes, item_says, list_says, signed_answer};
-use crate::decision::Decision;
 use crate::invocation::Invocation;
 use crate::kind::{Cmnds, Hosts, Targets, Users};
 use sudo_policy::{Policy, Rule};
 use sudo_words::Moment;
 
-/// Whether the moment is within the rule's dates, both of them included.
-fn takes_part(rule: &Rule, at: Moment) -> bool
-    ensures { result ≡ rules.takes_part rule.now at }
+/// Whether the moment is within these dates of a rule, both of them included. An absent one is no
+/// bound.
+pub fn is_within(not_before: Option<Moment>, not_after: Option<Moment>, at: Moment) -> bool
+    ensures { result ≡ rules.is_within not_before not_after at }
 {
-    let begun = match rule.not_before {
+    let begun = match not_before {
         None => true,
         Some(first) => first <= at,
     };
-    let lasts = match rule.not_after {
+    let lasts = match not_after {
         None => true,
         Some(last) => at <= last,
     };
@@ -47,21 +47,8 @@ fn cmnd_says(p: &Policy, rule: &Rule, i: &Invocation) -> Option<bool>
 pub(crate) fn says(p: &Policy, rule: &Rule, i: &Invocation) -> Option<bool>
     ensures { result ≡ rules.says (reverse p.now) rule.now i.now }
 {
-    if !takes_part(rule, i.at) || !is_about(p, rule, i) {
+    if !is_within(rule.not_before, rule.not_after, i.at) || !is_about(p, rule, i) {
         return None;
     }
     cmnd_says(p, rule, i)
-}
-
-/// What the rule decides with this answer.
-pub(crate) fn outcome(rule: &Rule, answer: bool) -> Decision
-    ensures { result ≡ rules.outcome rule.now answer }
-{
-    if !answer {
-        Decision::Deny
-    } else if rule.nopasswd {
-        Decision::AllowNoPassword
-    } else {
-        Decision::Allow
-    }
 }

@@ -1,12 +1,13 @@
 -- What is known of a desk's messages. For private clauses.
-use Rattle.std.specs.Prelude.{◌≡◌, ℕ, List, [], Option, Some, None}
+use Rattle.std.specs.Prelude.{◌≡◌, ℕ, List, [], Option, Some, None, IfSome}
 use Rattle.messages.specs.declared.message.Message.{Message}
 use Rattle.outcomes.specs.Gathered.{AreGathered}
-use Rattle.desk_tables.specs.Sets.{Lists}
+use Rattle.desk_tables.specs.Sets.{IsNothing, Lists}
+use Rattle.desk_store.specs.Keeping.{IsKnownOf}
 use Rattle.desk.specs.Count.{IsCount}
 use Rattle.desk.specs.declared.loading.Known.{Known}
 use Rattle.desk.specs.declared.opening.Origin.{Origin}
-use Rattle.desk.specs.declared.opening.Origin.TheVariants.{Made}
+use Rattle.desk.specs.declared.opening.Origin.TheVariants.{Found, Made}
 
 -- the set has so many messages, if they were counted
 abbrev pub IsCounted : List Message → Option ℕ → Type 0
@@ -27,7 +28,17 @@ abbrev pub IsKnownOfUp : (Clean Up : Type 0) → Option Known → Type 0
 IsKnownOfUp Clean Up None = Unit {0}
 IsKnownOfUp Clean Up (Some known) = Clean → Up
 
--- At first something is known only of a desk that was made: what is gathered from no messages.
+-- A desk that was made holds nothing, and what the look told of the messages of one that was found,
+-- if it told anything, is known of what the desk holds.
+abbrev pub IsOriginOf : (Message → Type 0) → Origin → Type 0
+IsOriginOf S Made = IsNothing S
+IsOriginOf S (Found told) = IfSome told (IsKnownOf S)
+
+-- At first what is gathered from no messages is known of a desk that was made, and of one that was
+-- found what the look told; how many its messages are was not counted then.
 abbrev pub IsKnownAtFirst : Origin → Option Known → Type 0
-IsKnownAtFirst origin None = Unit {0}
-IsKnownAtFirst origin (Some known) = (origin ≡ Made) × IsKnownIn [] known
+IsKnownAtFirst Made None = Unit {0}
+IsKnownAtFirst Made (Some known) = IsKnownIn [] known
+IsKnownAtFirst (Found told) None = Unit {0}
+IsKnownAtFirst (Found told) (Some known) =
+    (told ≡ Some known.gathered) × (known.count ≡ None)

@@ -5,7 +5,7 @@ use Rattle.sqlite.specs.Effect.{Database}
 use Rattle.sqlite.specs.State.{State}
 use Rattle.desk_tables.specs.Kept.{table_in}
 use Rattle.desk_tables.specs.Stored.{IsUnreferred, tree_of}
-use Rattle.desk_tables.specs.private.Stepping.{IsInside, KeepsBut}
+use Rattle.desk_tables.specs.Steps.{IsInside, KeepsBut}
 use Rattle.desk_schema.specs.declared.part.Part.{Part}
 use Rattle.desk_schema.specs.declared.part.Part.TheVariants.{Desk, Messages, Names}
 use Rattle.desk_schema.specs.declared.part.Part.TheVariants.{Marks, Verdicts, Parked}

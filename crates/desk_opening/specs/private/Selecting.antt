@@ -1,5 +1,5 @@
 -- What the statements that read a desk's tables show.
-use Rattle.std.specs.Prelude.{List, [], ◌∷◌, ℕ, codes, map}
+use Rattle.std.specs.Prelude.{List, [], ◌∷◌, map}
 use Rattle.std.specs.List.Sorted.{IsPermutation}
 use Rattle.sqlite.specs.Order.{Row, column}
 use Rattle.sqlite.specs.Effect.{Database}
@@ -9,20 +9,12 @@ use Rattle.desk_schema.specs.declared.part.Part.TheVariants.{Desk, Messages, Nam
 use Rattle.desk_schema.specs.declared.part.Part.TheVariants.{Marks, Verdicts, Parked}
 use Rattle.desk_schema.specs.Parts.{name_of}
 
-abbrev pub select_of : Part → List ℕ
-select_of Desk = codes "SELECT id, schema, roster FROM desk"
-select_of Messages = codes "SELECT body FROM messages"
-select_of Names = codes "SELECT rowid, asker, no, body, disputed FROM names"
-select_of Marks = codes "SELECT rowid, asker, no, person, kind, at FROM marks"
-select_of Verdicts = codes "SELECT rowid, asker, no, person, kind, at FROM verdicts"
-select_of Parked = codes "SELECT rowid, body, asker, no FROM parked"
-
 -- the columns of a row that the statement shows
 abbrev pub shown_of : Part → Row → Row
 shown_of Desk r = column r 0 ∷ column r 2 ∷ column r 3 ∷ []
 shown_of Messages r = column r 1 ∷ []
 shown_of Names r = column r 0 ∷ column r 1 ∷ column r 2 ∷ column r 3 ∷ column r 4 ∷ []
-shown_of Marks r = column r 0 ∷ column r 1 ∷ column r 2 ∷ column r 3 ∷ column r 4 ∷ column r 5 ∷ []
+shown_of Marks r = column r 0 ∷ []
 shown_of Verdicts r =
     column r 0 ∷ column r 1 ∷ column r 2 ∷ column r 3 ∷ column r 4 ∷ column r 5 ∷ []
 shown_of Parked r = column r 0 ∷ column r 1 ∷ column r 2 ∷ column r 3 ∷ []

@@ -1,26 +1,23 @@
 -- What the statements that make a desk do to a connection.
-use Rattle.std.specs.Prelude.{◌≡◌, ◌+◌, ◌^◌, ◌++◌, IsTrue, nat_le}
+use Rattle.std.specs.Prelude.{◌≡◌, ◌+◌, ◌++◌, IsTrue}
 use Rattle.std.specs.Prelude.{ℕ, false, List, [], ◌∷◌, None, codes}
 use Rattle.std.specs.List.{AllByRecursion, position_from}
-use Rattle.std.specs.FinSet as set
 use Rattle.sqlite.specs.Table.{Table}
-use Rattle.sqlite.specs.Tree.{Trees}
-use Rattle.sqlite.specs.Change.{created, next_tree, KeepsRows}
+use Rattle.sqlite.specs.Change.{KeepsRows}
 use Rattle.sqlite_catalog.specs.Change.{automatics}
 use Rattle.sqlite.specs.Does.{lacks_sequence}
 use Rattle.sqlite.specs.State.{State}
-use Rattle.sqlite.specs.Effect.{Database, IsDatabase}
+use Rattle.sqlite.specs.Effect.{Database}
 use Rattle.sqlite_schema.specs.Names.{same_name}
-use Rattle.desk_tables.specs.Kept.{IsDeskDatabase}
-use Rattle.desk_tables.specs.Stored.{Content, Finds, IsUnreferred, content_of}
-use Rattle.desk_tables.specs.private.Stepping.{IsInside}
+use Rattle.desk_tables.specs.Stored.{IsUnreferred}
 use Rattle.desk_schema.specs.declared.part.Part.{Part}
 use Rattle.desk_schema.specs.declared.part.Part.TheVariants.{Desk, Messages, Names}
 use Rattle.desk_schema.specs.declared.part.Part.TheVariants.{Marks, Verdicts, Parked}
 use Rattle.desk_schema.specs.Beside.{KeepsBeside}
+use Rattle.desk_schema.specs.Founding.{Founds}
+use Rattle.desk_schema.specs.Shapes.{FindsPart}
 use Rattle.desk_schema.specs.Parts.{name_of, table_at}
 use Rattle.desk_schema.specs.Ready.{IsOpen, IsReady}
-use Rattle.desk_schema.specs.Shapes.{Lacks}
 
 -- the statement that makes the table
 abbrev pub text_of : Part → List ℕ
@@ -36,26 +33,11 @@ text_of Verdicts =
 text_of Parked =
     codes "CREATE TABLE parked (body TEXT PRIMARY KEY NOT NULL, asker TEXT NOT NULL, no INTEGER NOT NULL) STRICT"
 
--- The table was added, in a tree that is stored, and it is empty; those that were there keep their
--- rows.
-pub record Adds (table : Table) (old new : Database) : Type 0 where
-  pub schema : new.schema ≡ created old.schema table
-  pub stored : nat_le (2 ^ 31) (next_tree old.schema) ≡ false
-  pub empty : new.trees (next_tree old.schema) ≡ []
-  pub others : KeepsRows old.schema.tables old.trees new.trees
-
-pub record AddsPart (part : Part) (old new : State) : Type 0 where
-  pub inside : IsInside old new
-  pub adds : Lacks old.now.schema part → lacks_sequence old.now.schema ≡ false
-      → Adds (table_at part 0) old.now new.now
-
 -- the part's table is there, and has no row, and no foreign key refers to it
 pub record HasEmpty (db : Database) (part : Part) : Type 0 where
-  pub at : ℕ
-  pub tree : ℕ
-  pub finds : Finds db.schema (name_of part) at (table_at part tree)
-  pub empty : db.trees tree ≡ []
-  pub alone : IsUnreferred db.schema tree
+  pub found : FindsPart db.schema part
+  pub empty : db.trees found.table.tree ≡ []
+  pub alone : IsUnreferred db.schema found.table.tree
 
 -- the first parts were made, the rest is still open; the tables that were there keep their rows
 pub record Grows (made rest : List Part) (old new : Database) : Type 0 where
@@ -75,33 +57,11 @@ pub record GrownWhole (old new : State) : Type 0 where
   pub mode : IsTrue new.in_transaction
   pub grows : IsReady old.now.schema → GrowsWhole old.now new.now
 
--- a desk with this roster text and no message
-abbrev pub fresh : List ℕ → Content
-fresh roster = record { roster = roster; texts = set.empty }
-
--- a desk with the roster text and no message was made, in trees that obey the schema that they list
-pub record Makes (roster : List ℕ) (new : Database) : Type 0 where
-  pub sound : IsDatabase new
-  pub desk : IsDeskDatabase new
-  pub marks : Lacks new.schema Marks
-  pub content : content_of new ≡ fresh roster
-
--- It was made, and the tables that were there keep their rows.
-pub record Founds (roster : List ℕ) (old new : Database) : Type 0 where
-  pub makes : Makes roster new
-  pub kept : KeepsRows old.schema.tables old.trees new.trees
-
 pub record Filled (roster : List ℕ) (old new : State) : Type 0 where
   pub was_open : IsTrue old.is_open
   pub mode : IsTrue new.in_transaction
   pub founds : IsReady old.now.schema → Founds roster old.now new.now
   pub beside : IsReady old.now.schema → KeepsBeside old.now new.now
-
--- Any database with these trees is a desk with the roster text and no message, beside the tables
--- that were there.
-abbrev pub FoundsAt : List ℕ → Database → Trees → Type 0
-FoundsAt roster old trees =
-    (db : Database) → db.trees ≡ trees → IsDatabase db → Founds roster old db
 
 -- the name of the other part is not that of this one, nor of an index that SQLite makes for it
 pub record Differs (part other : Part) : Type 0 where

@@ -1,11 +1,20 @@
 -- What a keeper tells of what a database is found to keep.
+use Rattle.std.specs.Prelude.{◌≡◌, IfSome}
+use Rattle.outcomes.specs.Gathered.{AreGathered}
+use Rattle.desk_opening.specs.declared.found.Contents.{Contents}
 use Rattle.desk_opening.specs.declared.found.Found.{Found as InDatabase}
 use Rattle.desk_opening.specs.declared.found.Found.TheVariants as database
 use Rattle.desk_store.specs.declared.found.Found.{Found}
 use Rattle.desk_store.specs.declared.found.Found.TheVariants as found
+use Rattle.desk_store.specs.declared.found.FoundDesk.{FoundDesk}
 
-abbrev pub shown : InDatabase → Found
-shown database.Empty = found.Empty
-shown (database.Desk c) = found.Desk c.roster
-shown (database.Old c) = found.OldDesk
-shown database.NotADesk = found.NotADesk
+-- the desk's roster, and what is known of its messages, if something is
+pub record ShowsDesk (c : Contents) (desk : FoundDesk) : Type 0 where
+  pub roster : desk.roster ≡ c.roster
+  pub known : IfSome desk.known (AreGathered c.messages.items)
+
+abbrev pub IsShown : InDatabase → Found → Type 0
+IsShown database.Empty told = told ≡ found.Empty
+IsShown (database.Desk c) told = (desk : FoundDesk) × (told ≡ found.Desk desk) × ShowsDesk c desk
+IsShown (database.Old c) told = told ≡ found.OldDesk
+IsShown database.NotADesk told = told ≡ found.NotADesk

@@ -35,4 +35,6 @@ stays_set a b same =
 
 pub stays_old : (a b : Database) → b ≡ a → IsOldDesk a
     → IsOldDesk b × SameSet (HoldsText a) (HoldsText b)
-stays_old a b same old = (subst IsOldDesk (sym same) old, stays_set a b same)
+    × ((content_of b).roster ≡ (content_of a).roster)
+stays_old a b same old =
+    (subst IsOldDesk (sym same) old, stays_set a b same, stays_roster a b same)

@@ -1,39 +1,26 @@
 -- What a statement of a transaction does to the rows of a desk's tables.
-use Rattle.std.specs.Prelude.{◌≡◌, ◌≢◌, Some, IsTrue, true, false, Bool}
+use Rattle.std.specs.Prelude.{◌≡◌, IsTrue, false, Bool}
 use Rattle.std.specs.Prelude.{if◌then◌else◌, ℕ, pos, List, [], ◌∷◌, codes}
-use Rattle.std.specs.List.{AllByRecursion, list_any}
+use Rattle.std.specs.List.{list_any}
 use Rattle.std.specs.FinSet as set
 use Rattle.sqlite.specs.Order.{Row, column}
-use Rattle.sqlite.specs.Table.{Table}
 use Rattle.sqlite.specs.Effect.{Database, IsDatabase}
-use Rattle.sqlite.specs.State.{HasCleanDisk, State, Shows}
+use Rattle.sqlite.specs.State.{State}
 use Rattle.sqlite.specs.declared.types.Value.{Value}
 use Rattle.sqlite.specs.declared.types.Value.TheVariants.{Int, Text}
 use Rattle.sqlite_rules.specs.Lists.{Has}
 use Rattle.messages.specs.declared.request_name.RequestName.{RequestName}
 use Rattle.desk_tables.specs.Rows.{RowSet, IsRow, OfName}
-use Rattle.desk_tables.specs.Stored.{is_stray, recorded, texts_of, tree_of}
+use Rattle.desk_tables.specs.Stored.{is_stray, texts_of}
 use Rattle.desk_tables.specs.Kept.{IsTidy, table_in}
+use Rattle.desk_tables.specs.Steps.{IsInside, KeepsBut}
 use Rattle.desk_tables.specs.private.Changes.{Tells}
-
--- `Does` relates the states before and after a step of a transaction, if the disk is honest
-abbrev pub InStep : (old new : State) → (State → State → Type 0) → Type 0
-InStep old new Does = HasCleanDisk new → IsTrue old.in_transaction → Does old new
-
--- inside a transaction, which goes on
-abbrev pub IsInside : State → State → Type 0
-IsInside old new = Shows old new new.now old.committed true
 
 -- the connection is open, inside a transaction that goes on
 pub record IsOpenInside (old new : State) : Type 0 where
   pub was_open : IsTrue old.is_open
   pub is_open : IsTrue new.is_open
   pub mode : IsTrue new.in_transaction
-
--- each table but this one keeps its rows
-abbrev pub KeepsBut : List ℕ → Database → Database → Type 0
-KeepsBut name old new = AllByRecursion (λ (t : Table). t.tree ≢ tree_of old.schema name
-    → new.trees t.tree ≡ old.trees t.tree) old.schema.tables
 
 -- Only the rows of this table were changed, in trees that obey the schema that they list.
 pub record Alters (name : List ℕ) (Rows : RowSet → RowSet → Type 0)
@@ -103,21 +90,3 @@ pub record FindsParked (name : RequestName) (rows : List Row) (old new : State) 
   pub begun : IsOpenInside old new
   pub same : IsTidy old.now → new.now ≡ old.now
   pub shows : IsTidy old.now → ShowsParked name (IsRow (table_in old.now (codes "parked"))) rows
-
--- Only the rows of `desk` were changed, and `Row'` holds for them.
-pub record Marks (Row' : List Row → Type 0) (old new : Database) : Type 0 where
-  pub sound : IsDatabase new
-  pub schema : new.schema ≡ old.schema
-  pub row : Row' (table_in new (codes "desk"))
-  pub others : KeepsBut (codes "desk") old new
-  pub tidy : IsTidy new
-
-pub record Marked (Needs Row' : List Row → Type 0) (old new : State) : Type 0 where
-  pub inside : IsInside old new
-  pub marks : IsTidy old.now → Needs (table_in old.now (codes "desk")) → Marks Row' old.now new.now
-
-abbrev pub IsBare : List Row → Type 0
-IsBare rows = rows ≡ []
-
-abbrev pub Says : List ℕ → List Row → Type 0
-Says roster rows = recorded rows ≡ Some roster

@@ -1,5 +1,5 @@
 -- What several statements of a transaction do to a desk's tables.
-use Rattle.std.specs.Prelude.{◌≡◌, ◌⊎◌, map, Some, IsTrue, Bool, true, false, List, ℕ, codes}
+use Rattle.std.specs.Prelude.{◌≡◌, ◌⊎◌, Some, IsTrue, Bool, true, false, List, ℕ, codes}
 use Rattle.std.specs.FinSet as set
 use Rattle.sqlite.specs.declared.types.Value.{Value}
 use Rattle.sqlite.specs.declared.types.Value.TheVariants.{Text}
@@ -17,6 +17,7 @@ use Rattle.desk_tables.specs.Sets.{Lists}
 use Rattle.desk_tables.specs.Stored.{Texts, content_of, has, recorded, with_roster, with_text}
 use Rattle.desk_tables.specs.private.Changes.{Gains, Joins, Loses, Names}
 use Rattle.desk_tables.specs.Kept.{HasRows, HoldsText, IsDeskDatabase, IsTidy, Spares, table_in}
+use Rattle.desk_tables.specs.Steps.{texts_in}
 
 -- the rows are those that were there
 abbrev pub Stays : List Row → List Row → Type 0
@@ -110,24 +111,6 @@ pub record Received (text : List ℕ) (old new : State) : Type 0 where
   pub mode : IsTrue new.in_transaction
   pub receives : IsDatabase old.now → IsDeskDatabase old.now → Receives text old.now new.now
   pub repeats : IsDeskDatabase old.now → has (content_of old.now) text ≡ true → new.now ≡ old.now
-
--- the texts of the messages
-abbrev pub texts_in : List Message → Texts
-texts_in messages = set.from_list (map wire messages)
-
--- If the three tables were empty, they now have the rows of these messages.
-pub record Refills (messages : List Message) (old new : Database) : Type 0 where
-  pub sound : IsDatabase old → IsDatabase new
-  pub schema : new.schema ≡ old.schema
-  pub tidy : IsTidy new
-  pub rows : HasRows set.empty old → HasRows (texts_in messages) new
-  pub desk : table_in new (codes "desk") ≡ table_in old (codes "desk")
-  pub messages_same : table_in new (codes "messages") ≡ table_in old (codes "messages")
-  pub spares : Spares old new
-
-pub record Refilled (messages : List Message) (old new : State) : Type 0 where
-  pub mode : IsTrue new.in_transaction
-  pub refills : IsTidy old.now → Refills messages old.now new.now
 
 -- The three tables have the rows of these messages, whatever they had before.
 pub record Renews (messages : List Message) (old new : Database) : Type 0 where

@@ -1,24 +1,17 @@
 -- The lines of a host that are left, as the summaries' requests give them in turn.
-use Rattle.std.specs.Prelude.{◌≡◌, ℕ, ◌≤◌, List, ◌++◌, filter, length, map}
+use Rattle.std.specs.Prelude.{◌≡◌, ℕ, ◌≤◌, List, ◌++◌, length, map}
 use Rattle.std.specs.Prelude.{Option, Some, None}
 use Rattle.std.specs.List.{AllByRecursion}
 use Rattle.sudo_words.specs.declared.cmnd.Cmnd.{Cmnd}
 use Rattle.sudo_policy.specs.declared.entry.Entry.TheVariants as entries
 use Rattle.sudo_policy.specs.declared.entry.Rule.{Rule}
 use Rattle.sudo_policy.specs.Printing.{canon}
-use Rattle.messages.specs.Fields.{RequestFields}
 use Rattle.messages.specs.declared.message.Message.{Message}
 use Rattle.roster.specs.Fields.{RosterFields}
-use Rattle.grants.specs.GrantLines.{AreWritten}
-use Rattle.grants.specs.GrantRules.{IsGrantRule, rules_for}
+use Rattle.grants.specs.GrantLines.{AreWritten, rules_left}
+use Rattle.grants.specs.GrantRules.{IsGrantRule}
 use Rattle.grants.specs.Summaries.{Kept}
-use Rattle.grants.specs.declared.outcome.Status.{Status}
-use Rattle.outcomes.specs.LinesLeft.{stays}
 use Rattle.outcomes.specs.private.InTurn.{Give}
-
--- those left of the rules that a request gives the host
-abbrev pub rules_left : Option ℕ → List ℕ → RequestFields → Status → List Rule
-rules_left after host q status = filter (stays after) (rules_for host q status)
 
 -- After the text come the lines that are left of the summaries' requests, in turn: each is the line
 -- of a rule of a grant, and they are not too many.

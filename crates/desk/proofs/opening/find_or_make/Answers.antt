@@ -1,10 +1,12 @@
-use Rattle.std.proofs.Common.{◌≡◌, ◌∙◌, refl, sym, inl, inr, rules}
-use Rattle.std.specs.Prelude.{string_bytes}
+use Rattle.std.proofs.Common.{◌≡◌, ◌∙◌, refl, sym, subst, inl, inr, rules}
+use Rattle.std.specs.Prelude.{Option, IfSome, string_bytes}
+use Rattle.outcomes.specs.Gathered.{Known}
+use Rattle.desk_store.specs.Keeping.{IsKnownOf}
 use Rattle.desk_store.proofs.OutcomeLemmas.{ok_no_err}
 use Rattle.desk_store.proofs.ServingLemmas.{not_err, served_after, served_at_ok}
 use Rattle.desk.proofs.CrashLemmas.{kept_by_opening, leaves_same, made_by_opening}
 use Rattle.desk.proofs.LeftLemmas.{adds_as, adds_none, is_desk, is_old_desk, none_then_adds, told_live}
-use Rattle.desk.proofs.OpeningLemmas.{told_desk, told_empty, told_no_desk, told_old}
+use Rattle.desk.proofs.OpeningLemmas.{told_desk, told_empty, told_no_desk, told_old, told_still}
 use Rattle.desk.proofs.RefusalLemmas.{handed_on, told_no_base, told_want}
 use Rattle.desk.proofs.opening.find_or_make.Goals as goal
 
@@ -124,7 +126,7 @@ returns-in-Desk-clause-durable g c up =
     let new = c.look.new.self in
     let same = c.look.ensures.same up in
     let told = told_desk (K.is_empty old) (K.is_desk old) (K.is_old old)
-    (K.roster old) c.in_ok-look.field-0 c.in-Desk.recorded c.in-Desk.is (c.in_ok-look.ensures.found up) in
+    (K.roster old) c.in_ok-look.field-0 c.in-Desk.desk c.in-Desk.is (c.in_ok-look.ensures.found up) in
     leaves_same (K.may_leave new) (K.roster new) (K.roster old) (K.holds new) (K.holds old) (sym (laws.stays_roster old new same told.0))
     (laws.stays_set new old (laws.same_back old new same) (laws.stays_desk old new same told.0))
     (λ left may. (c.look.ensures.crash (c.look.ensures.served.was_up up) (laws.up_is_clean new up) left may).desk told.0)
@@ -133,16 +135,29 @@ pub returns-in-Desk-clause-roster : goal.returns-in-Desk-clause-roster
 returns-in-Desk-clause-roster g c = λ up.
     let laws = g.met.K.Keeper in
     let told = told_desk (g.K.Keeper.is_empty c.args.keeper.now) (g.K.Keeper.is_desk c.args.keeper.now) (g.K.Keeper.is_old c.args.keeper.now)
-    (g.K.Keeper.roster c.args.keeper.now) c.in_ok-look.field-0 c.in-Desk.recorded c.in-Desk.is (c.in_ok-look.ensures.found up) in
-    let text : string_bytes c.in-Desk.recorded ≡ c.args.text.now = search rules in
+    (g.K.Keeper.roster c.args.keeper.now) c.in_ok-look.field-0 c.in-Desk.desk c.in-Desk.is (c.in_ok-look.ensures.found up) in
+    let text : string_bytes c.in-Desk.desk.roster ≡ c.args.text.now = search rules in
     laws.stays_roster c.args.keeper.now c.look.new.self (c.look.ensures.same up) told.0 ∙ sym told.3 ∙ text
+
+pub returns-in-Desk-clause-first : goal.returns-in-Desk-clause-first
+returns-in-Desk-clause-first g c up =
+    let K = g.K.Keeper in
+    let laws = g.met.K.Keeper in
+    let old = c.args.keeper.now in
+    let new = c.look.new.self in
+    let same = c.look.ensures.same up in
+    let told = told_desk (K.is_empty old) (K.is_desk old) (K.is_old old)
+    (K.roster old) c.in_ok-look.field-0 c.in-Desk.desk c.in-Desk.is (c.in_ok-look.ensures.found up) in
+    let known = told_still (K.holds old) (K.holds new) c.in_ok-look.field-0 c.in-Desk.desk c.in-Desk.is
+    (laws.stays_set old new same told.0) (c.in_ok-look.ensures.known up) in
+    subst (λ (known : Option Known). IfSome known (IsKnownOf (K.holds new))) (sym c.known_in.ensures) known
 
 pub returns-in-Desk-clause-opens : goal.returns-in-Desk-clause-opens
 returns-in-Desk-clause-opens g c = λ up.
     let laws = g.met.K.Keeper in
     let told = told_desk (g.K.Keeper.is_empty c.args.keeper.now) (g.K.Keeper.is_desk c.args.keeper.now) (g.K.Keeper.is_old c.args.keeper.now)
-    (g.K.Keeper.roster c.args.keeper.now) c.in_ok-look.field-0 c.in-Desk.recorded c.in-Desk.is (c.in_ok-look.ensures.found up) in
-    let text : string_bytes c.in-Desk.recorded ≡ c.args.text.now = search rules in
+    (g.K.Keeper.roster c.args.keeper.now) c.in_ok-look.field-0 c.in-Desk.desk c.in-Desk.is (c.in_ok-look.ensures.found up) in
+    let text : string_bytes c.in-Desk.desk.roster ≡ c.args.text.now = search rules in
     inr (told.0, told.1, told.2, sym told.3 ∙ text, laws.stays_set c.args.keeper.now c.look.new.self (c.look.ensures.same up) told.0)
 
 -- ---- whether the keeper is up, and what was committed
@@ -184,7 +199,7 @@ returns-in_err-make-in-Empty-clause-leaves g c clean =
     ((c.look.ensures.served.was_up it.0, told.0), it.1)) (c.make.ensures.leaves clean))
 
 pub returns-in-Desk-clause-live : goal.returns-in-Desk-clause-live
-returns-in-Desk-clause-live g c clean = c.in_ok-look.ensures.live clean (is_desk c.in_ok-look.field-0 c.in-Desk.recorded c.in-Desk.is)
+returns-in-Desk-clause-live g c clean = c.in_ok-look.ensures.live clean (is_desk c.in_ok-look.field-0 c.in-Desk.desk c.in-Desk.is)
 
 pub returns-in-Desk-clause-leaves : goal.returns-in-Desk-clause-leaves
 returns-in-Desk-clause-leaves g c clean = adds_none _ _ _ (c.look.ensures.leaves clean)

@@ -1,4 +1,4 @@
-use Rattle.std.proofs.Common.{◌≡◌, ◌∙◌, List, ◌++◌, map, refl, rules, subst, sym}
+use Rattle.std.proofs.Common.{◌≡◌, ◌∙◌, List, ◌++◌, inl, map, refl, rules, subst, sym}
 use Rattle.std.specs.List.{AllByRecursion}
 use Rattle.messages.specs.declared.request_name.RequestName.{RequestName}
 use Rattle.roster.specs.Fields.{Reading}
@@ -6,7 +6,8 @@ use Rattle.desk_store.proofs.OutcomeLemmas.{ok_no_err}
 use Rattle.desk_store.proofs.ServingLemmas.{served_as, served_at_ok, served_by_none, served_then}
 use Rattle.outcomes.specs.Outcomes.{ComesTo}
 use Rattle.findings.specs.declared.entry.Entry.{Entry}
-use Rattle.desk_audit.proofs.AuditLemmas.{is_audit, keyed, keyed_is, lists_same, one_status_more, split_ends, split_once_more}
+use Rattle.desk.proofs.LeftLemmas.{asks_want}
+use Rattle.desk_audit.proofs.AuditLemmas.{adds_both, is_audit, keyed, keyed_is, lists_same, one_status_more, split_ends, split_once_more}
 use Rattle.desk_audit.proofs.entry.entries_of.Goals as goal
 
 pub loop-name-init : goal.loop-name-init
@@ -19,6 +20,8 @@ loop-name-init g c =
           let Q : List Entry → Type 0 = λ es. AllByRecursion (λ e. ComesTo old.roster.says set e.name e.status) es in
           subst Q (sym c.new-entries.ensures.items) tt;
       same = λ up. g.met.K.Keeper.same_itself old.keeper;
+      live = λ live. live;
+      leaves = λ clean left may. inl may;
       roster = refl;
       base = refl;
       served = served_by_none old.keeper ⊥ ⊥ (λ none. none);
@@ -47,6 +50,8 @@ loop-name-preserved g c =
           one_status_more P entries c.push.new.self.items entry c.in_ok-push.ensures.items (kept.told set was_up first_desk lists)
           (subst F kept.roster (subst (λ (n : RequestName). ComesTo mid.roster.says set n entry.status) (sym done.same.0) (done.status set up still)));
       same = λ up. law.same_on old.keeper mid.keeper new.keeper (kept.same (done.served.was_up up)) (done.unchanged up);
+      live = λ live. done.asks.live;
+      leaves = adds_both K old.keeper mid.keeper new.keeper done.served.was_clean kept.leaves done.asks.leaves;
       roster = done.roster ∙ kept.roster;
       base = done.base ∙ kept.base;
       served = served_then (λ none. none) kept.served (served_at_ok ⊥ ⊥ (λ none. none) done.served);
@@ -68,6 +73,8 @@ returns-in_err-entry g c =
       roster = done.roster ∙ kept.roster;
       base = done.base ∙ kept.base;
       served = search rules;
+      asks = λ live. asks_want K old.keeper new.keeper _ (search rules)
+          (adds_both K old.keeper mid.keeper new.keeper done.served.was_clean kept.leaves done.asks.leaves);
     }
 
 pub returns-in_err-push : goal.returns-in_err-push
@@ -86,6 +93,8 @@ returns-in_err-push g c =
       roster = done.roster ∙ kept.roster;
       base = done.base ∙ kept.base;
       served = search rules;
+      asks = λ live. asks_want K old.keeper new.keeper _ (search rules)
+          (adds_both K old.keeper mid.keeper new.keeper done.served.was_clean kept.leaves done.asks.leaves);
     }
 
 pub returns : goal.returns
@@ -99,4 +108,5 @@ returns g c =
       roster = kept.roster;
       base = kept.base;
       served = served_as _ _ (λ is. ok_no_err _ _ is) (λ none. absurd none) kept.served;
+      asks = λ live. record { live = kept.live live; leaves = kept.leaves };
     }

@@ -1,6 +1,7 @@
 use Rattle.std.proofs.Common.{◌≡◌, List, ◌++◌, map}
 use Rattle.std.specs.List.{AllByRecursion}
 use Rattle.messages.specs.declared.message.Message.{Message}
+use Rattle.desk_store.specs.Left.{AddsOnly}
 use Rattle.desk_store.specs.Serving.{IsServed}
 use Rattle.desk_store.specs.Sets.{Lists}
 use Rattle.outcomes.specs.Outcomes.{ComesTo}
@@ -13,6 +14,8 @@ invariant-loop-name g l = record {
   told : (set : List Message) → g.K.Keeper.is_up l.desk.keeper → g.K.Keeper.is_desk l.fn.desk.keeper → Lists (g.K.Keeper.holds l.fn.desk.keeper) set
       → AllByRecursion (λ e. ComesTo l.fn.desk.roster.says set e.name e.status) l.entries.items;
   same : g.K.Keeper.is_up l.desk.keeper → g.K.Keeper.is_same l.fn.desk.keeper l.desk.keeper;
+  live : (g.K.Keeper.is_clean l.fn.desk.keeper → g.K.Keeper.is_up l.fn.desk.keeper) → g.K.Keeper.is_clean l.desk.keeper → g.K.Keeper.is_up l.desk.keeper;
+  leaves : g.K.Keeper.is_clean l.desk.keeper → AddsOnly (g.K.Keeper.may_leave l.fn.desk.keeper) (g.K.Keeper.may_leave l.desk.keeper) (λ _. ⊥);
   roster : l.desk.roster ≡ l.fn.desk.roster;
   base : l.desk.base ≡ l.fn.desk.base;
   served : IsServed g.K.Keeper.is_up g.K.Keeper.is_clean g.K.Keeper.failures g.K.Keeper.beside l.fn.desk.keeper l.desk.keeper ⊥ ⊥;

@@ -3,7 +3,8 @@ use Rattle.sqlite.specs.declared.error.Error.{Error}
 use Rattle.sqlite.specs.State.{State, ExecutesInside}
 use Rattle.sqlite.specs.Held.{state}
 use Rattle.desk_schema.specs.declared.part.Part.{Part}
-use Rattle.desk_schema.specs.private.Making.{AddsPart, text_of}
+use Rattle.desk_schema.specs.Founding.{AddsPart}
+use Rattle.desk_schema.specs.private.Making.{text_of}
 use Rattle.desk_schema.proofs.CreateLemmas.{adds_part}
 use Rattle.desk_schema.proofs.making.add_table.Goals as goal
 

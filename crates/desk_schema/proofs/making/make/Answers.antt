@@ -2,7 +2,7 @@ use Rattle.std.proofs.Common.{rules, ◌≡◌, refl, subst}
 use Rattle.sqlite.specs.State.{HasCleanDisk, Survives}
 use Rattle.sqlite.specs.Held.{state}
 use Rattle.desk_tables.specs.SqliteStates.{IsUp}
-use Rattle.desk_schema.specs.private.Making.{Founds, FoundsAt}
+use Rattle.desk_schema.specs.Founding.{Founds, FoundsAt}
 use Rattle.desk_schema.proofs.EndLemmas.{whole_survives}
 use Rattle.desk_schema.proofs.MadeLemmas.{founds_again}
 use Rattle.desk_schema.proofs.making.make.Goals as goal

@@ -4,7 +4,7 @@ use Rattle.sqlite.specs.Held.{state}
 use Rattle.desk_tables.specs.Stored.{content_of, with_text}
 use Rattle.desk_tables.specs.Kept.{IsDeskDatabase, Spares}
 use Rattle.desk_tables.specs.SqliteStates.{IsUp}
-use Rattle.desk_tables.specs.private.Survival.{ArrivesAt}
+use Rattle.desk_tables.specs.Committed.{ArrivesAt}
 use Rattle.desk_tables.proofs.ArriveLemmas.{Ends, arrive_survives, commit_arrived, commit_desk, commit_ends, commit_repeated, commit_spared, commit_up}
 use Rattle.desk_tables.proofs.commit.arrive.Goals as goal
 

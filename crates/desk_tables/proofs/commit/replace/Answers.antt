@@ -4,7 +4,7 @@ use Rattle.sqlite.specs.Held.{state}
 use Rattle.desk_tables.specs.Stored.{content_of, with_roster}
 use Rattle.desk_tables.specs.Kept.{IsDeskDatabase, Spares}
 use Rattle.desk_tables.specs.SqliteStates.{IsUp}
-use Rattle.desk_tables.specs.private.Survival.{ChangesAt}
+use Rattle.desk_tables.specs.Committed.{ChangesAt}
 use Rattle.desk_tables.proofs.ArriveLemmas.{Ends}
 use Rattle.desk_tables.proofs.ReplaceLemmas.{replace_survives, commit_replaced, commit_desk, commit_ends, commit_spared, commit_up}
 use Rattle.desk_tables.proofs.commit.replace.Goals as goal

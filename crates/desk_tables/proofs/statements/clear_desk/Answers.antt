@@ -3,7 +3,7 @@ use Rattle.sqlite.specs.declared.error.Error.{Error}
 use Rattle.sqlite.specs.State.{State, ExecutesInside}
 use Rattle.sqlite.specs.Held.{state}
 use Rattle.desk_tables.specs.Kept.{IsKeyed}
-use Rattle.desk_tables.specs.private.Stepping.{IsBare, Marked}
+use Rattle.desk_tables.specs.Steps.{IsBare, Marked}
 use Rattle.desk_tables.proofs.RosterLemmas.{desk_emptied}
 use Rattle.desk_tables.proofs.Where.{desk_clear}
 use Rattle.desk_tables.proofs.statements.clear_desk.Goals as goal

@@ -3,7 +3,7 @@ use Rattle.sqlite.specs.declared.types.Value.TheVariants.{Text}
 use Rattle.sqlite.specs.declared.error.Error.{Error}
 use Rattle.sqlite.specs.State.{State, ExecutesInside}
 use Rattle.sqlite.specs.Held.{state}
-use Rattle.desk_tables.specs.private.Stepping.{IsBare, Marked, Says}
+use Rattle.desk_tables.specs.Steps.{IsBare, Marked, Says}
 use Rattle.desk_tables.proofs.Inserts.{roster_text}
 use Rattle.desk_tables.proofs.RosterLemmas.{roster_written}
 use Rattle.desk_tables.proofs.statements.put_roster.Goals as goal

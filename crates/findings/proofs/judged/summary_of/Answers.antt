@@ -2,13 +2,13 @@ use Rattle.std.proofs.Common.{List, take, sym, subst}
 use Rattle.messages.specs.Fields.{VerdictFields}
 use Rattle.grants.specs.Summaries.{StandsFor}
 use Rattle.findings.specs.Judging.{messages_on}
-use Rattle.findings.proofs.ListLemmas.{only_asked, take_next}
+use Rattle.findings.proofs.ListLemmas.{take_next}
 use Rattle.findings.proofs.judged.summary_of.Goals as goal
 
 pub loop-verdict-init : goal.loop-verdict-init
 loop-verdict-init c = record {
-  stands = c.in_ok-summary.ensures;
-  request = only_asked c.args.request.now c.in_ok-summary.summary.request c.in_ok-summary.ensures.asked;
+  stands = c.in_ok-summary.ensures.stands;
+  request = c.in_ok-summary.ensures.same_request;
 }
 
 pub loop-verdict-preserved : goal.loop-verdict-preserved

@@ -1,8 +1,7 @@
-use Rattle.std.proofs.Common.{◌≡◌, ℕ, List, [], ◌∷◌, take, sym, subst, inl, inr}
+use Rattle.std.proofs.Common.{ℕ, List, [], ◌∷◌, take, sym, subst, inl, inr}
 use Rattle.std.specs.List.{Contains}
 use Rattle.std.proofs.lemmas.List.{take_all}
 use Rattle.std.proofs.lemmas.List.Elements.{Contains-append_cases}
-use Rattle.messages.specs.declared.request_name.RequestName.{RequestName}
 use Rattle.sudo_decide.proofs.AnswerLemmas.{take_one_more}
 use Rattle.outcomes.specs.private.ByHost.{names_at}
 use Rattle.outcomes.proofs.Membership.{no_member, Contains-cases}

@@ -7,12 +7,11 @@ use Rattle.messages.specs.declared.message.Message.{Message}
 use Rattle.messages.specs.declared.message.Message.TheVariants.{Request, Verdict}
 use Rattle.grants.specs.Summaries.{StandsFor}
 use Rattle.sudo_decide.proofs.AnswerLemmas.{take_one_more}
-use Rattle.outcomes.proofs.GatherLemmas.{of_itself, of_verdict}
+use Rattle.outcomes.proofs.GatherLemmas.{of_verdict}
 use Rattle.outcomes.proofs.gathering.first_of.Goals as goal
 
 pub loop-verdict-init : goal.loop-verdict-init
-loop-verdict-init c =
-    let stands = c.in_ok-summary.ensures in (of_itself c.args.request.now c.in_ok-summary.summary stands, stands)
+loop-verdict-init c = (c.in_ok-summary.ensures.same_request, c.in_ok-summary.ensures.stands)
 
 pub apply-requires : goal.apply-requires
 apply-requires c =

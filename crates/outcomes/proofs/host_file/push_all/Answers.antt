@@ -1,13 +1,8 @@
-use Rattle.std.proofs.Common.{◌≡◌, ℕ, List, [], ◌∷◌, ◌++◌, ◌+◌, ◌<◌, ◌∙◌, length, map, refl, ap, inr, arith, rules, sym, subst}
+use Rattle.std.proofs.Common.{◌≡◌, List, [], ◌∷◌, ◌++◌, ◌+◌, ◌<◌, ◌∙◌, refl, ap, inr, arith, rules, sym, subst}
 use Rattle.std.specs.Prelude.{string_bytes}
-use Rattle.std.specs.List.{AllByRecursion}
-use Rattle.sudo_policy.specs.declared.entry.Entry.TheVariants as entries
-use Rattle.sudo_policy.specs.declared.entry.Rule.{Rule}
-use Rattle.sudo_policy.specs.Printing.{canon}
 use Rattle.messages.specs.declared.request_name.RequestName.{RequestName}
-use Rattle.grants.specs.GrantRules.{IsGrantRule}
 use Rattle.grants.specs.Summaries.{Kept}
-use Rattle.outcomes.specs.private.Behind.{rules_left}
+use Rattle.grants.specs.GrantLines.{rules_left}
 use Rattle.outcomes.specs.private.ByHost.{kept_of}
 use Rattle.outcomes.specs.private.ByName.{at_name}
 use Rattle.outcomes.specs.private.InTurn.{Give}

@@ -9,7 +9,7 @@ use Rattle.messages.specs.Names.{name_cmp}
 use Rattle.messages.specs.declared.message.Message.{Message}
 use Rattle.messages.specs.declared.request_name.RequestName.{RequestName}
 use Rattle.grants.specs.GrantRules.{IsGrantRule}
-use Rattle.outcomes.specs.private.Behind.{rules_left}
+use Rattle.grants.specs.GrantLines.{rules_left}
 use Rattle.outcomes.specs.private.ByHost.{kept_of}
 use Rattle.outcomes.specs.private.ByName.{Gathers}
 use Rattle.outcomes.specs.private.InTurn.{Give}

@@ -1,7 +1,7 @@
 use Rattle.std.proofs.Common.{subst, sym}
-use Rattle.relay_http.specs.Asked.{deliver}
+use Rattle.relay_http.specs.Request.{deliver}
 use Rattle.relay_http.specs.Lasting.{Lasts}
-use Rattle.relay_http.specs.Replies.{Reply}
+use Rattle.relay_http.specs.Responses.{Response}
 use Rattle.relay_http.proofs.AnswerLemmas.{delivery_lasts}
 use Rattle.relay_http.proofs.answering.delivered.Goals as goal
 
@@ -12,6 +12,6 @@ returns-clause-lasts g c =
     let new = c.deliver.new.self.keeper in
     let relay = c.args.relay.now in
     let body = c.args.body.now in
-    let P : Reply → Type 0 = λ reply. Lasts K d.roster.says d.roster.text d.keeper new (deliver relay body) reply in
-    subst P (sym c.to_delivery.ensures.reply)
+    let P : Response → Type 0 = λ response. Lasts K d.roster.says d.roster.text d.keeper new (deliver relay body) response in
+    subst P (sym c.to_delivery.ensures.response)
     (delivery_lasts K d.roster.says d.roster.text d.keeper new relay body c.deliver.result c.deliver.ensures.live c.deliver.ensures.leaves)

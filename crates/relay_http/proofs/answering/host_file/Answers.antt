@@ -1,9 +1,9 @@
 use Rattle.std.proofs.Common.{◌≡◌, ◌⊎◌, ℕ, List, true, sym, subst}
 use Rattle.sudo_words.specs.Word.{is_host_name}
 use Rattle.relay_http.proofs.AnswerLemmas.{file_right, left_whole, text_lasts, text_served}
-use Rattle.relay_http.specs.Asked.{host_file}
+use Rattle.relay_http.specs.Request.{host_file}
 use Rattle.relay_http.specs.Prepared.{to_question}
-use Rattle.relay_http.specs.Replies.{IsReply, IsWanting}
+use Rattle.relay_http.specs.Responses.{IsResponse, IsServerFailure}
 use Rattle.relay_http.proofs.answering.host_file.Goals as goal
 
 pub returns-in-Ok-clause-answered : goal.returns-in-Ok-clause-answered
@@ -17,7 +17,7 @@ returns-in-Ok-clause-answered g c =
     record {
       right =
           λ set up lists. subst
-          (λ (h : List ℕ). IsReply roster base set (host_file h) (to_question c.host_file.result) ⊎ IsWanting (to_question c.host_file.result))
+          (λ (h : List ℕ). IsResponse roster base set (host_file h) (to_question c.host_file.result) ⊎ IsServerFailure (to_question c.host_file.result))
           found.0 (file_right (λ lines. lines) f base set c.in-Ok.host c.host_file.result name (left_whole f base set c.in-Ok.host c.host_file.result
           (done.file set up lists)) (λ ls. done.few set ls up lists) (λ ls. done.many set ls up lists) done.unknown done.err);
       leaves = done.unchanged;

@@ -1,6 +1,6 @@
 use Rattle.std.proofs.Common.{◌≡◌, ◌++◌, drop, map}
 use Rattle.std.specs.Prelude.{string_bytes}
-use Rattle.relay_http.specs.Replies.{each_on_a_line}
+use Rattle.relay_http.specs.Responses.{each_on_a_line}
 use Rattle.relay_http.proofs.bodies.lines_text.Given as goal
 
 -- what was written, and then the lines of what is left, are all

@@ -4,10 +4,10 @@ use Rattle.httparse.specs.Spans.{IsRequestOf, IsWithin, header_bytes, name_and_v
 use Rattle.httparse.specs.declared.spans.Span.{Span}
 use Rattle.relay_http.specs.Fields.{Fields, is_bad_host, values}
 use Rattle.relay_http.specs.Stages.{size_of}
-use Rattle.relay_http.specs.Wanted.{front}
+use Rattle.relay_http.specs.RequestBytes.{front}
 use Rattle.relay_http.proofs.SettleLemmas.{overflow_more}
 use Rattle.relay_http.proofs.StageLemmas.{span_front}
-use Rattle.relay_http.proofs.WantedLemmas.{take_front, complete_at, fields_fit}
+use Rattle.relay_http.proofs.RequestLemmas.{take_front, complete_at, fields_fit}
 use Rattle.relay_http.proofs.head.look.Goals as goal
 
 pub returns-in-Ok-Partial : goal.returns-in-Ok-Partial

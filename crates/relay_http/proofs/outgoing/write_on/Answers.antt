@@ -1,5 +1,5 @@
 use Rattle.std.proofs.Common.{◌≤◌, ◌∙◌, ◌++◌, ap, arith, take, ◌≡◌, ℕ, List}
-use Rattle.relay_http.proofs.OutgoingLemmas.{left_of_body, left_on_page, took}
+use Rattle.relay_http.proofs.OutgoingLemmas.{left_of_body, left_in_buffer, took}
 use Rattle.relay_http.proofs.outgoing.write_on.Goals as goal
 
 pub returns-then-sent-head-clause-taken : goal.returns-then-sent-head-clause-taken
@@ -8,8 +8,8 @@ returns-then-sent-head-clause-taken g c =
 
 pub returns-clause-taken : goal.returns-clause-taken
 returns-clause-taken g c =
-    let both : take c.put-end-2.result c.put-end-2.new.page ≡ c.args.head.now ++ c.args.body.now =
+    let both : take c.put-end-2.result c.put-end-2.new.buffer ≡ c.args.head.now ++ c.args.body.now =
     c.put-end-2.ensures.put ∙ ap (λ (l : List ℕ). l ++ c.args.body.now) c.put-end.ensures.put in
     let within : c.args.sent ≤ c.put-end-2.result = omega (arith, c.put-end-2.ensures.end, c.put-end.ensures.end, c.if-sent-head.false) in
-    took _ _ c.write-2.result _ _ (left_on_page c.put-end-2.new.page (c.args.head.now ++ c.args.body.now) c.args.sent c.put-end-2.result within both)
+    took _ _ c.write-2.result _ _ (left_in_buffer c.put-end-2.new.buffer (c.args.head.now ++ c.args.body.now) c.args.sent c.put-end-2.result within both)
     c.write-2.ensures.bytes

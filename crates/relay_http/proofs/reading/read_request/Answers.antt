@@ -1,7 +1,7 @@
 use Rattle.std.proofs.Common.{List, ℕ, subst, sym, arith}
 use Rattle.std.specs.Io.KnownBytes.{Consumes}
-use Rattle.relay_http.proofs.ReadingLemmas.{asks_all, asks_end, consumes_both}
-use Rattle.relay_http.proofs.StageLemmas.{settled_asks}
+use Rattle.relay_http.proofs.ReadingLemmas.{request_all, request_end, consumes_both}
+use Rattle.relay_http.proofs.StageLemmas.{settled_request}
 use Rattle.relay_http.proofs.reading.read_request.Goals as goal
 
 pub returns-in-Ok-eq0-clause-asks : goal.returns-in-Ok-eq0-clause-asks
@@ -13,10 +13,10 @@ returns-in-Ok-eq0-clause-asks g c =
     let come : Consumes all left c.read_on.new.self.bytes =
     subst (λ (l : List ℕ). Consumes all left l) (sym x.2)
     (consumes_both all before left c.loop-exchange.exchange.bytes x.0 c.loop-exchange.invariant.bytes x.1) in
-    asks_end all left c.read_on.new.self.bytes come (c.in-Ok-eq0.ensures.end (omega arith))
+    request_end all left c.read_on.new.self.bytes come (c.in-Ok-eq0.ensures.end (omega arith))
 
 pub returns-clause-asks : goal.returns-clause-asks
 returns-clause-asks g c =
-    asks_all (g.R.Read.remaining c.args.reader.now.inner) (g.R.Read.remaining c.loop-exchange.reader.inner) c.loop-exchange.exchange.bytes
+    request_all (g.R.Read.remaining c.args.reader.now.inner) (g.R.Read.remaining c.loop-exchange.reader.inner) c.loop-exchange.exchange.bytes
     c.loop-exchange.invariant.bytes
-    (λ request asks more. settled_asks c.loop-exchange.exchange.bytes more request (c.is_settled.ensures.settled c.loop-exchange-test.false) asks)
+    (λ request asks more. settled_request c.loop-exchange.exchange.bytes more request (c.is_settled.ensures.settled c.loop-exchange-test.false) asks)

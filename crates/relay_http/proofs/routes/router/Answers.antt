@@ -3,30 +3,32 @@ use Rattle.matchit.specs.Route.{parse_route}
 use Rattle.matchit.specs.Router.{RouteOf}
 use Rattle.matchit.specs.Rows.{RowsOf}
 use Rattle.relay_http.specs.Routes.{IsFree, with_route, routes}
-use Rattle.relay_http.specs.declared.place.Place.{Place}
-use Rattle.relay_http.specs.declared.place.Place.TheVariants.{Messages, AllMessages, Count, Grants, Parked, HostFile, HostFileAfter, Report}
+use Rattle.relay_http.specs.declared.route.Route.{Route}
+use Rattle.relay_http.specs.declared.route.Route.TheVariants.{Messages, AllMessages, Count, Grants, Parked, HostFile, HostFileAfter, Report}
+use Rattle.relay_http.specs.declared.route.Route.TheVariants.{Requests, RequestsAfter, NamedRequest}
 use Rattle.relay_http.proofs.RouteLemmas.{free_messages, free_grants, free_parked, free_host_file, free_report}
-use Rattle.relay_http.proofs.RouteLemmas.{free_host_file_after, free_all_messages, free_count}
+use Rattle.relay_http.proofs.RouteLemmas.{free_host_file_after, free_all_messages, free_count, free_requests}
+use Rattle.relay_http.proofs.RouteLemmas.{free_requests_after, free_named_request}
 use Rattle.relay_http.proofs.routes.router.Goals as goal
 
 pub add-requires : goal.add-requires
-add-requires c = subst (λ (r : RowsOf (RouteOf Place)). IsFree (parse_route (codes "/v1/relays/{relay}/messages")) r) (sym c.new-router.ensures) free_messages
+add-requires c = subst (λ (r : RowsOf (RouteOf Route)). IsFree (parse_route (codes "/v1/relays/{relay}/messages")) r) (sym c.new-router.ensures) free_messages
 
 pub add-requires-2 : goal.add-requires-2
 add-requires-2 c =
-    subst (λ (r : RowsOf (RouteOf Place)). IsFree (parse_route (codes "/v1/grants/{at}")) r)
+    subst (λ (r : RowsOf (RouteOf Route)). IsFree (parse_route (codes "/v1/grants/{at}")) r)
     (sym (c.in_ok-add.ensures ∙ ap (with_route (codes "/v1/relays/{relay}/messages") Messages) c.new-router.ensures)) free_grants
 
 pub add-requires-3 : goal.add-requires-3
 add-requires-3 c =
-    subst (λ (r : RowsOf (RouteOf Place)). IsFree (parse_route (codes "/v1/parked")) r)
+    subst (λ (r : RowsOf (RouteOf Route)). IsFree (parse_route (codes "/v1/parked")) r)
     (sym (c.in_ok-add-2.ensures
     ∙ ap (with_route (codes "/v1/grants/{at}") Grants) (c.in_ok-add.ensures
     ∙ ap (with_route (codes "/v1/relays/{relay}/messages") Messages) c.new-router.ensures))) free_parked
 
 pub add-requires-4 : goal.add-requires-4
 add-requires-4 c =
-    subst (λ (r : RowsOf (RouteOf Place)). IsFree (parse_route (codes "/v1/hosts/{host}/sudoers")) r)
+    subst (λ (r : RowsOf (RouteOf Route)). IsFree (parse_route (codes "/v1/hosts/{host}/sudoers")) r)
     (sym (c.in_ok-add-3.ensures
     ∙ ap (with_route (codes "/v1/parked") Parked) (c.in_ok-add-2.ensures
     ∙ ap (with_route (codes "/v1/grants/{at}") Grants) (c.in_ok-add.ensures
@@ -34,7 +36,7 @@ add-requires-4 c =
 
 pub add-requires-5 : goal.add-requires-5
 add-requires-5 c =
-    subst (λ (r : RowsOf (RouteOf Place)). IsFree (parse_route (codes "/v1/reviews/{at}")) r)
+    subst (λ (r : RowsOf (RouteOf Route)). IsFree (parse_route (codes "/v1/reviews/{at}")) r)
     (sym (c.in_ok-add-4.ensures
     ∙ ap (with_route (codes "/v1/hosts/{host}/sudoers") HostFile) (c.in_ok-add-3.ensures
     ∙ ap (with_route (codes "/v1/parked") Parked) (c.in_ok-add-2.ensures
@@ -43,7 +45,7 @@ add-requires-5 c =
 
 pub add-requires-6 : goal.add-requires-6
 add-requires-6 c =
-    subst (λ (r : RowsOf (RouteOf Place)). IsFree (parse_route (codes "/v1/hosts/{host}/sudoers/{at}")) r)
+    subst (λ (r : RowsOf (RouteOf Route)). IsFree (parse_route (codes "/v1/hosts/{host}/sudoers/{at}")) r)
     (sym (c.in_ok-add-5.ensures
     ∙ ap (with_route (codes "/v1/reviews/{at}") Report) (c.in_ok-add-4.ensures
     ∙ ap (with_route (codes "/v1/hosts/{host}/sudoers") HostFile) (c.in_ok-add-3.ensures
@@ -53,7 +55,7 @@ add-requires-6 c =
 
 pub add-requires-7 : goal.add-requires-7
 add-requires-7 c =
-    subst (λ (r : RowsOf (RouteOf Place)). IsFree (parse_route (codes "/v1/messages")) r)
+    subst (λ (r : RowsOf (RouteOf Route)). IsFree (parse_route (codes "/v1/messages")) r)
     (sym (c.in_ok-add-6.ensures
     ∙ ap (with_route (codes "/v1/hosts/{host}/sudoers/{at}") HostFileAfter) (c.in_ok-add-5.ensures
     ∙ ap (with_route (codes "/v1/reviews/{at}") Report) (c.in_ok-add-4.ensures
@@ -64,7 +66,7 @@ add-requires-7 c =
 
 pub add-requires-8 : goal.add-requires-8
 add-requires-8 c =
-    subst (λ (r : RowsOf (RouteOf Place)). IsFree (parse_route (codes "/v1/count")) r)
+    subst (λ (r : RowsOf (RouteOf Route)). IsFree (parse_route (codes "/v1/count")) r)
     (sym (c.in_ok-add-7.ensures
     ∙ ap (with_route (codes "/v1/messages") AllMessages) (c.in_ok-add-6.ensures
     ∙ ap (with_route (codes "/v1/hosts/{host}/sudoers/{at}") HostFileAfter) (c.in_ok-add-5.ensures
@@ -74,10 +76,10 @@ add-requires-8 c =
     ∙ ap (with_route (codes "/v1/grants/{at}") Grants) (c.in_ok-add.ensures
     ∙ ap (with_route (codes "/v1/relays/{relay}/messages") Messages) c.new-router.ensures)))))))) free_count
 
-pub returns : goal.returns
-unfolding routes
-returns c =
-    c.in_ok-add-8.ensures
+pub add-requires-9 : goal.add-requires-9
+add-requires-9 c =
+    subst (λ (r : RowsOf (RouteOf Route)). IsFree (parse_route (codes "/v1/requests")) r)
+    (sym (c.in_ok-add-8.ensures
     ∙ ap (with_route (codes "/v1/count") Count) (c.in_ok-add-7.ensures
     ∙ ap (with_route (codes "/v1/messages") AllMessages) (c.in_ok-add-6.ensures
     ∙ ap (with_route (codes "/v1/hosts/{host}/sudoers/{at}") HostFileAfter) (c.in_ok-add-5.ensures
@@ -85,4 +87,49 @@ returns c =
     ∙ ap (with_route (codes "/v1/hosts/{host}/sudoers") HostFile) (c.in_ok-add-3.ensures
     ∙ ap (with_route (codes "/v1/parked") Parked) (c.in_ok-add-2.ensures
     ∙ ap (with_route (codes "/v1/grants/{at}") Grants) (c.in_ok-add.ensures
-    ∙ ap (with_route (codes "/v1/relays/{relay}/messages") Messages) c.new-router.ensures)))))))
+    ∙ ap (with_route (codes "/v1/relays/{relay}/messages") Messages) c.new-router.ensures))))))))) free_requests
+
+pub add-requires-10 : goal.add-requires-10
+add-requires-10 c =
+    subst (λ (r : RowsOf (RouteOf Route)). IsFree (parse_route (codes "/v1/requests/after/{at}")) r)
+    (sym (c.in_ok-add-9.ensures
+    ∙ ap (with_route (codes "/v1/requests") Requests) (c.in_ok-add-8.ensures
+    ∙ ap (with_route (codes "/v1/count") Count) (c.in_ok-add-7.ensures
+    ∙ ap (with_route (codes "/v1/messages") AllMessages) (c.in_ok-add-6.ensures
+    ∙ ap (with_route (codes "/v1/hosts/{host}/sudoers/{at}") HostFileAfter) (c.in_ok-add-5.ensures
+    ∙ ap (with_route (codes "/v1/reviews/{at}") Report) (c.in_ok-add-4.ensures
+    ∙ ap (with_route (codes "/v1/hosts/{host}/sudoers") HostFile) (c.in_ok-add-3.ensures
+    ∙ ap (with_route (codes "/v1/parked") Parked) (c.in_ok-add-2.ensures
+    ∙ ap (with_route (codes "/v1/grants/{at}") Grants) (c.in_ok-add.ensures
+    ∙ ap (with_route (codes "/v1/relays/{relay}/messages") Messages) c.new-router.ensures)))))))))) free_requests_after
+
+pub add-requires-11 : goal.add-requires-11
+add-requires-11 c =
+    subst (λ (r : RowsOf (RouteOf Route)). IsFree (parse_route (codes "/v1/requests/{asker}/{no}")) r)
+    (sym (c.in_ok-add-10.ensures
+    ∙ ap (with_route (codes "/v1/requests/after/{at}") RequestsAfter) (c.in_ok-add-9.ensures
+    ∙ ap (with_route (codes "/v1/requests") Requests) (c.in_ok-add-8.ensures
+    ∙ ap (with_route (codes "/v1/count") Count) (c.in_ok-add-7.ensures
+    ∙ ap (with_route (codes "/v1/messages") AllMessages) (c.in_ok-add-6.ensures
+    ∙ ap (with_route (codes "/v1/hosts/{host}/sudoers/{at}") HostFileAfter) (c.in_ok-add-5.ensures
+    ∙ ap (with_route (codes "/v1/reviews/{at}") Report) (c.in_ok-add-4.ensures
+    ∙ ap (with_route (codes "/v1/hosts/{host}/sudoers") HostFile) (c.in_ok-add-3.ensures
+    ∙ ap (with_route (codes "/v1/parked") Parked) (c.in_ok-add-2.ensures
+    ∙ ap (with_route (codes "/v1/grants/{at}") Grants) (c.in_ok-add.ensures
+    ∙ ap (with_route (codes "/v1/relays/{relay}/messages") Messages) c.new-router.ensures))))))))))) free_named_request
+
+pub returns : goal.returns
+unfolding routes
+returns c =
+    c.in_ok-add-11.ensures
+    ∙ ap (with_route (codes "/v1/requests/{asker}/{no}") NamedRequest) (c.in_ok-add-10.ensures
+    ∙ ap (with_route (codes "/v1/requests/after/{at}") RequestsAfter) (c.in_ok-add-9.ensures
+    ∙ ap (with_route (codes "/v1/requests") Requests) (c.in_ok-add-8.ensures
+    ∙ ap (with_route (codes "/v1/count") Count) (c.in_ok-add-7.ensures
+    ∙ ap (with_route (codes "/v1/messages") AllMessages) (c.in_ok-add-6.ensures
+    ∙ ap (with_route (codes "/v1/hosts/{host}/sudoers/{at}") HostFileAfter) (c.in_ok-add-5.ensures
+    ∙ ap (with_route (codes "/v1/reviews/{at}") Report) (c.in_ok-add-4.ensures
+    ∙ ap (with_route (codes "/v1/hosts/{host}/sudoers") HostFile) (c.in_ok-add-3.ensures
+    ∙ ap (with_route (codes "/v1/parked") Parked) (c.in_ok-add-2.ensures
+    ∙ ap (with_route (codes "/v1/grants/{at}") Grants) (c.in_ok-add.ensures
+    ∙ ap (with_route (codes "/v1/relays/{relay}/messages") Messages) c.new-router.ensures))))))))))

@@ -1,10 +1,12 @@
-use Rattle.std.proofs.Common.{◌≡◌, ℕ, [], ◌∷◌, codes, inr, length, refl, lit<, arith}
+use Rattle.std.proofs.Common.{◌≡◌, ℕ, [], ◌∷◌, codes, inr, length, refl, lit<, arith, true, false}
 use Rattle.sudo_words.specs.Moment.{IsStamp}
+use Rattle.sudo_words.specs.Word.{is_name}
 use Rattle.httparse.specs.Grammar.{is_token_byte, print_request, trim_ows}
 use Rattle.matchit.specs.Route.{scan}
 use Rattle.matchit.specs.Seek.{param_step, seek}
 use Rattle.relay_http.specs.Routes.{part, routes}
 use Rattle.relay_http.specs.Worked.{approval}
+use Rattle.relay_http.proofs.NumberLemmas.{no_zero_before}
 use Rattle.relay_http.proofs.Stamps.{length_stamped, offset_not_stamped}
 use Rattle.relay_http.proofs.WorkedLemmas.{spelled, worked}
 use Rattle.relay_http.proofs.worked.worked_refusals.Goals as goal
@@ -14,6 +16,12 @@ no_moment t h = let size : length (codes "2026010509Z") ≡ 15 = length_stamped 
 
 no_day : (t : ℕ) → IsStamp (codes "20260105") t → ⊥
 no_day t h = let size : length (codes "20260105") ≡ 15 = length_stamped _ t h in grind (arith, size)
+
+no_number : (t : ℕ) → IsStamp (codes "7") t → ⊥
+no_number t h = let size : length (codes "7") ≡ 15 = length_stamped _ t h in grind (arith, size)
+
+no_capital : is_name (codes "Ann") ≡ true → ⊥
+no_capital is = let wrong : false ≡ true = is in absurd cc
 
 no_offset : (t : ℕ) → IsStamp (codes "2026010504-0500") t → ⊥
 no_offset t h = offset_not_stamped (codes "2026010504-0500") t (lit< tt) h
@@ -53,6 +61,24 @@ pub returns-clause-posts_count : goal.returns-clause-posts_count
 unfolding is_token_byte print_request trim_ows scan param_step seek part routes
 returns-clause-posts_count c =
     worked (spelled (codes "POST") (codes "/v1/count") 1 ((codes "Host", codes "desk") ∷ [])) [] _ _ refl refl refl refl (refl, refl)
+
+pub returns-clause-zero_before : goal.returns-clause-zero_before
+unfolding is_token_byte print_request trim_ows scan param_step seek part routes
+returns-clause-zero_before c =
+    worked (spelled (codes "GET") (codes "/v1/requests/ann/07") 1 ((codes "Host", codes "desk") ∷ [])) [] _ _ refl refl refl refl
+    (refl, inr (λ n name. no_zero_before n, refl))
+
+pub returns-clause-no_name : goal.returns-clause-no_name
+unfolding is_token_byte print_request trim_ows scan param_step seek part routes
+returns-clause-no_name c =
+    worked (spelled (codes "GET") (codes "/v1/requests/Ann/7") 1 ((codes "Host", codes "desk") ∷ [])) [] _ _ refl refl refl refl
+    (refl, inr (λ n name number. no_capital name, refl))
+
+pub returns-clause-after_number : goal.returns-clause-after_number
+unfolding is_token_byte print_request trim_ows scan param_step seek part routes
+returns-clause-after_number c =
+    worked (spelled (codes "GET") (codes "/v1/requests/after/7") 1 ((codes "Host", codes "desk") ∷ [])) [] _ _ refl refl refl refl
+    (refl, inr (no_number, refl))
 
 pub returns-clause-gets : goal.returns-clause-gets
 unfolding is_token_byte print_request trim_ows scan param_step seek part routes

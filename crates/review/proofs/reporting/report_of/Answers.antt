@@ -5,6 +5,7 @@ use Rattle.sudo_words.specs.Moment.{stamp}
 use Rattle.review.specs.Columns.{lines_text}
 use Rattle.review.specs.Report.{AreBarred, AreBroadLines, AreInForce, IsLiveLine, conflicts_of}
 use Rattle.review.specs.private.Reporting.{kept_name}
+use Rattle.review.proofs.OfSummaries.{each_stands, names_of_summaries}
 use Rattle.review.proofs.ReportLists.{first_section, next_section, parts_mapped}
 use Rattle.review.proofs.reporting.report_of.Goals as goal
 
@@ -15,7 +16,7 @@ returns c = λ set s waiting.
     let at = c.args.at in
     let kept = c.args.summaries.now in
     let parked = map string_bytes c.args.parked.now in
-    let parts = c.in_ok-parts.ensures set s.stand in
+    let parts = c.in_ok-parts.ensures set (each_stands set kept s.each) in
     let live = parts.live in
     let barred = parts.barred in
     let broad = parts.broad in
@@ -46,7 +47,7 @@ returns c = λ set s waiting.
       barred = barred.0;
       broad = broad.0;
       parked = parked;
-      names_are = s.names;
+      names_are = names_of_summaries set kept s;
       pairs_are = conflicts.1;
       live_are = parts_mapped (AreInForce f set at (IsLiveLine base)) kept_name kept live.0 live.2;
       barred_are = parts_mapped (AreBarred f set) kept_name kept barred.0 barred.2;

@@ -1,14 +1,14 @@
-use Rattle.relay_http.specs.Asked.{request_of}
-use Rattle.relay_http.specs.Prepared.{reply_of}
+use Rattle.relay_http.specs.Request.{request_of}
+use Rattle.relay_http.specs.Prepared.{response_of}
 use Rattle.relay_http.proofs.exchange.Exchange.answer.Goals as goal
 
 pub returns-clause-exchange : goal.returns-clause-exchange
 returns-clause-exchange g c = (
-  request_of c.wanted-wanted.result,
-  c.wanted-wanted.ensures,
+  request_of c.request-request.result,
+  c.request-request.ensures,
   (
     record {
-      reply = reply_of c.answered-answer.result;
+      response = response_of c.answered-answer.result;
       answered = c.answered-answer.ensures.answered;
       wrote = c.new.ensures;
     },
@@ -19,7 +19,7 @@ returns-clause-exchange g c = (
 
 pub returns-clause-lasts : goal.returns-clause-lasts
 returns-clause-lasts g c = (
-  request_of c.wanted-wanted.result,
-  c.wanted-wanted.ensures,
-  (reply_of c.answered-answer.result, c.answered-answer.ensures.lasts, c.new.ensures),
+  request_of c.request-request.result,
+  c.request-request.ensures,
+  (response_of c.answered-answer.result, c.answered-answer.ensures.lasts, c.new.ensures),
 )

@@ -3,21 +3,21 @@ use Rattle.matchit.specs.Params.{walk, named, AllText}
 use Rattle.matchit.specs.Rows.{RowsOf}
 use Rattle.matchit.specs.Router.{RouteOf}
 use Rattle.matchit.specs.Seek.{first}
-use Rattle.relay_http.specs.Routes.{part, Takes, moment_parameter, parameter}
-use Rattle.relay_http.specs.declared.place.Place.{Place}
+use Rattle.relay_http.specs.Routes.{part, Takes, second_parameter, parameter}
+use Rattle.relay_http.specs.declared.route.Route.{Route}
 use Rattle.relay_http.proofs.RouteLemmas.{texts}
 use Rattle.relay_http.proofs.routes.Routes.find.Goals as goal
 
 pub taken-requires : goal.taken-requires
 taken-requires c =
-    let found = sym (ap (λ (r : RowsOf (RouteOf Place)). first r c.args.target.now) c.self.invariant) ∙ c.in-Ok.ensures.found in
+    let found = sym (ap (λ (r : RowsOf (RouteOf Route)). first r c.args.target.now) c.self.invariant) ∙ c.in-Ok.ensures.found in
     let p = c.in-Ok.found.params in
     subst (λ (path : List ℕ). AllText (walk p.pattern.now p.text.now path p.names.now 0 0))
     (sym c.in-Ok.ensures.path) (texts c.args.target.now _ found c.requires)
 
-pub moment_taken-requires : goal.moment_taken-requires
-moment_taken-requires c =
-    let found = sym (ap (λ (r : RowsOf (RouteOf Place)). first r c.args.target.now) c.self.invariant) ∙ c.in-Ok.ensures.found in
+pub second_taken-requires : goal.second_taken-requires
+second_taken-requires c =
+    let found = sym (ap (λ (r : RowsOf (RouteOf Route)). first r c.args.target.now) c.self.invariant) ∙ c.in-Ok.ensures.found in
     let p = c.in-Ok.found.params in
     subst (λ (path : List ℕ). AllText (walk p.pattern.now p.text.now path p.names.now 0 0))
     (sym c.in-Ok.ensures.path) (texts c.args.target.now _ found c.requires)
@@ -25,14 +25,14 @@ moment_taken-requires c =
 pub returns-in-Ok : goal.returns-in-Ok
 unfolding part
 returns-in-Ok c =
-    let found = sym (ap (λ (r : RowsOf (RouteOf Place)). first r c.args.target.now) c.self.invariant) ∙ c.in-Ok.ensures.found in
+    let found = sym (ap (λ (r : RowsOf (RouteOf Route)). first r c.args.target.now) c.self.invariant) ∙ c.in-Ok.ensures.found in
     let p = c.in-Ok.found.params in
-    subst (λ (o : Option (RouteOf Place)). Takes o c.args.target.now (Some (c.in-Ok.found.value.now, c.taken.result.now, c.moment_taken.result.now)))
+    subst (λ (o : Option (RouteOf Route)). Takes o c.args.target.now (Some (c.in-Ok.found.value.now, c.taken.result.now, c.second_taken.result.now)))
     (sym found) (
       refl,
       sym (c.taken.ensures ∙ ap
           (λ (path : List ℕ). unwrap_or (named (parameter c.in-Ok.found.value.now) (walk p.pattern.now p.text.now path p.names.now 0 0)) [])
           c.in-Ok.ensures.path),
-      sym (c.moment_taken.ensures ∙ ap (λ (path : List ℕ).
-          unwrap_or (named (moment_parameter c.in-Ok.found.value.now) (walk p.pattern.now p.text.now path p.names.now 0 0)) []) c.in-Ok.ensures.path),
+      sym (c.second_taken.ensures ∙ ap (λ (path : List ℕ).
+          unwrap_or (named (second_parameter c.in-Ok.found.value.now) (walk p.pattern.now p.text.now path p.names.now 0 0)) []) c.in-Ok.ensures.path),
     )

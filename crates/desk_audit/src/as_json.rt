@@ -1,0 +1,69 @@
+//! What an audit tells of a desk, as one JSON document.
+
+ghost use Rattle.std.specs.Prelude.{◌≡◌, List, IfOk, IfErr, filter, string_bytes};
+ghost use Rattle.messages.specs.declared.message.Message.{Message as AnyMessage};
+ghost use Rattle.desk_store.specs.Sets.{Lists};
+ghost use Rattle.desk.specs.Refusals.{IsWant};
+ghost use Rattle.desk.specs.Serving.{OnlyAsks, ServesAnswer};
+ghost use Rattle.desk_audit.specs.Documents.{IsAuditText, IsNameText, is_named};
+
+use crate::entry::audit;
+use desk::{Desk, Keeper, Refusal};
+use findings::{Entry, Pick, json};
+
+/// What is told of the names that are asked about, as one JSON document and a newline: what
+/// `desk-audit` prints.
+///
+/// Errors: `Storage` and `NoMemory`, as for every question to a desk.
+pub fn document<K: Keeper>(desk: &mut Desk<K>, pick: &Pick) -> Result<String, Refusal>
+    ensures document { (set : List AnyMessage) → K.is_up desk.new.keeper
+        → Lists (K.holds desk.old.keeper) set → IfOk result
+        (λ s. IsAuditText desk.old.roster.says set pick.now (string_bytes s)) }
+    ensures err { IfErr result IsWant }
+    ensures unchanged { K.is_up desk.new.keeper → K.is_same desk.old.keeper desk.new.keeper }
+    ensures roster { desk.new.roster ≡ desk.old.roster }
+    ensures base { desk.new.base ≡ desk.old.base }
+    ensures served { ServesAnswer K.Keeper desk.old.keeper desk.new.keeper result }
+    ensures asks { OnlyAsks K.Keeper desk.old.keeper desk.new.keeper result }
+{
+    let entries = pick.among(audit(desk)?);
+    let alloc = *entries.allocator();
+    Ok(json(alloc, desk.roster(), pick, &entries)?)
+}
+
+/// Whether the entry is that of the asker's request under the number.
+fn is_named(entry: &Entry, asker: &str, no: u32) -> bool
+    ensures { result ≡ is_named asker.now no entry.now }
+{
+    entry.name.by.as_str() == asker && entry.name.no == no
+}
+
+/// The entries that are those of the asker's request under the number.
+fn named_among(entries: Vec<Entry>, asker: &str, no: u32) -> Vec<Entry>
+    ensures { result.items ≡ filter (is_named asker.now no) entries.items }
+{
+    let mut entries = entries;
+    entries.retain(|entry| is_named(entry, asker, no));
+    entries
+}
+
+/// What is told of the asker's request under the number, as one JSON document and a newline. Where
+/// no message is about it, the document tells of no name.
+///
+/// Errors: `Storage` and `NoMemory`, as for every question to a desk.
+pub fn document_of<K: Keeper>(desk: &mut Desk<K>, asker: &str, no: u32) -> Result<String, Refusal>
+    ensures document { (set : List AnyMessage) → K.is_up desk.new.keeper
+        → Lists (K.holds desk.old.keeper) set → IfOk result
+        (λ s. IsNameText desk.old.roster.says set
+        (record { by = asker.now; no = no }) (string_bytes s)) }
+    ensures err { IfErr result IsWant }
+    ensures unchanged { K.is_up desk.new.keeper → K.is_same desk.old.keeper desk.new.keeper }
+    ensures roster { desk.new.roster ≡ desk.old.roster }
+    ensures base { desk.new.base ≡ desk.old.base }
+    ensures served { ServesAnswer K.Keeper desk.old.keeper desk.new.keeper result }
+    ensures asks { OnlyAsks K.Keeper desk.old.keeper desk.new.keeper result }
+{
+    let entries = named_among(audit(desk)?, asker, no);
+    let alloc = *entries.allocator();
+    Ok(json(alloc, desk.roster(), &Pick::all(), &entries)?)
+}

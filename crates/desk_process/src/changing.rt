@@ -1,0 +1,70 @@
+//! What a `rebuild` says before it changes anything.
+
+use crate::changes::{Change, changes_of};
+use crate::trouble::Trouble;
+use desk::{Keeper, MemoryKeeper};
+use desk_commands::{Refusal, open_over};
+use desk_store::KeeperError;
+use std::alloc::Global;
+use std::io;
+use std::time::{SystemTime, UNIX_EPOCH};
+use sudo_words::Moment;
+
+/// This moment.
+fn now(rt: &HostRuntime) -> io::Result<Option<Moment>> {
+    match SystemTime::now(rt)?.duration_since(UNIX_EPOCH) {
+        Ok(since) => Ok(Moment::from_secs(since.as_secs())),
+        Err(_) => Ok(None),
+    }
+}
+
+/// Whether the files are refused as a roster and a base, whatever desk is rebuilt with them. The
+/// job names the fault.
+fn are_refused(alloc: Global, roster: &[u8], base: &[u8]) -> bool {
+    match open_over(alloc, roster, base, MemoryKeeper::new(alloc)) {
+        Ok(desk) => {
+            drop(desk);
+            false
+        }
+        Err(refused) => {
+            drop(refused);
+            true
+        }
+    }
+}
+
+/// Says which grants become others from this moment on.
+fn tell(rt: &HostRuntime, changes: &[Change], now: Moment) {
+    if !changes.is_empty() {
+        let _ = eprintln!(rt; "from {now} on:");
+    }
+    for change in changes {
+        let _ = eprintln!(rt; "{change}");
+    }
+}
+
+/// Says on the standard error which grants become others from now on, once the desk that the keeper
+/// keeps has the roster of the file.
+///
+/// Nothing is said where none does, of a desk of an older form, and where a file or what is kept is
+/// refused: the job itself says so.
+pub(crate) fn tell_changes<K: Keeper>(
+    rt: &HostRuntime,
+    roster: &[u8],
+    base: &[u8],
+    keeper: &mut K,
+) -> Result<(), Trouble> {
+    if are_refused(rt.alloc(), roster, base) {
+        return Ok(());
+    }
+    let Ok(Some(now)) = now(rt) else {
+        let _ = eprintln!(rt; "what changes is not known: the clock cannot be read");
+        return Ok(());
+    };
+    match changes_of(rt.alloc(), roster, keeper, now) {
+        Ok(changes) => tell(rt, changes.as_slice(), now),
+        Err(KeeperError::NoMemory) => return Err(Trouble::from(Refusal::NoMemory)),
+        Err(KeeperError::Storage) => {}
+    }
+    Ok(())
+}

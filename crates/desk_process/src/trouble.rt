@@ -1,0 +1,68 @@
+//! Why a job is refused, and what failed where a file, a stream or an address did.
+
+use desk_commands::{Refusal, Status, refuse};
+use std::alloc::{AllocFailed, Global};
+use std::fmt::Display;
+use std::io;
+
+/// Why a job is refused.
+#[derive(Drop)]
+pub(crate) struct Trouble {
+    refusal: Refusal,
+    /// What failed, and why; none where nothing of the kind did, or memory ran out.
+    cause: Option<String>,
+}
+
+impl Trouble {
+    /// A refusal, since this failed for that reason.
+    pub(crate) fn at<T: Display>(alloc: Global, refusal: Refusal, what: &str, why: &T) -> Trouble {
+        Trouble {
+            refusal,
+            cause: format!(in alloc; "{what}: {why}").ok(),
+        }
+    }
+
+    /// What the system says of a file, a stream or an address.
+    pub(crate) fn of_system(alloc: Global, what: &str, error: io::Error) -> Trouble {
+        if error.kind() == io::ErrorKind::OutOfMemory {
+            return Trouble::from(Refusal::NoMemory);
+        }
+        Trouble::at(alloc, Refusal::FileFailed, what, &error)
+    }
+
+    /// Says the refusal on the standard error, and on a further line what failed.
+    pub(crate) fn tell(&self, rt: &HostRuntime) -> Status {
+        let (status, _) = refuse(self.refusal, &mut rt.stderr());
+        self.tell_cause(rt);
+        status
+    }
+
+    /// Says what failed.
+    fn tell_cause(&self, rt: &HostRuntime) {
+        if let Some(cause) = &self.cause {
+            let _ = eprintln!(rt; "cause: {cause}");
+        }
+    }
+}
+
+/// Says why a stream failed, if it did, once its refusal is said.
+pub(crate) fn tell_failed(rt: &HostRuntime, what: &str, failed: Option<io::Error>) {
+    if let Some(error) = failed {
+        let _ = eprintln!(rt; "cause: {what}: {error}");
+    }
+}
+
+impl From<Refusal> for Trouble {
+    fn from(refusal: Refusal) -> Trouble {
+        Trouble {
+            refusal,
+            cause: None,
+        }
+    }
+}
+
+impl<T: Drop> From<AllocFailed<T>> for Trouble {
+    fn from(_e: AllocFailed<T>) -> Trouble {
+        Trouble::from(Refusal::NoMemory)
+    }
+}

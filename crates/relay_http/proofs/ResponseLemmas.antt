@@ -1,0 +1,59 @@
+-- What is asked has at most one response.
+use Rattle.std.proofs.Common.{◌≡◌, ◌∙◌, ℕ, true, false, List, [], ◌∷◌, ◌++◌, map, sym, ap, inl, inr, arith}
+use Rattle.sudo_words.specs.declared.cmnd.Cmnd.{Cmnd}
+use Rattle.sudo_policy.specs.Printing.{canon}
+use Rattle.sudo_policy.specs.declared.entry.Entry.{Entry}
+use Rattle.messages.specs.declared.message.Message.{Message}
+use Rattle.roster.specs.Fields.{Reading, RosterFields}
+use Rattle.outcomes.specs.HostFile.{Line, lines_after, with_lines}
+use Rattle.outcomes.specs.Outcomes.{LiveGrant}
+use Rattle.desk.proofs.CountLemmas.{one_count}
+use Rattle.desk.proofs.DeliveryLemmas.{one_answer}
+use Rattle.desk.proofs.TextLemmas.{one_texts}
+use Rattle.outcomes.proofs.FileLemmas.{one_lines}
+use Rattle.outcomes.proofs.SetLemmas.{one_live, one_parked}
+use Rattle.review.proofs.ReportOne.{one_report}
+use Rattle.findings.specs.Picks.{after, all}
+use Rattle.desk_audit.proofs.OneText.{one_audit_text, one_name_text}
+use Rattle.relay_http.specs.Request.{Action, deliver, all_messages, count, grants, parked, host_file, host_file_after, report, refused}
+use Rattle.relay_http.specs.Request.{requests, requests_after, named_request}
+use Rattle.relay_http.specs.Responses.{IsFileResponse, IsResponse, Response, count_line, delivery, done, is_known_host, each_on_a_line}
+use Rattle.relay_http.specs.Responses.{live_line, newline, to_delivery}
+
+-- a host is known, or it is not
+one_known : (f : RosterFields Cmnd) (host : List ℕ) → is_known_host f host ≡ false → is_known_host f host ≡ true → ⊥
+one_known f host lacking known = let wrong : false ≡ true = sym lacking ∙ known in absurd cc
+
+one_file_response : (left : List Line → List Line) (f : RosterFields Cmnd) (base : List Entry) (set : List Message) (host : List ℕ) (a b : Response)
+    → IsFileResponse left f base set host a → IsFileResponse left f base set host b → a ≡ b
+one_file_response left f base set host a b (inl x) (inl y) = x.1 ∙ sym y.1
+one_file_response left f base set host a b (inl x) (inr (inl y)) = absurd (one_known f host x.0 y.0)
+one_file_response left f base set host a b (inl x) (inr (inr y)) = absurd (one_known f host x.0 y.0)
+one_file_response left f base set host a b (inr (inl x)) (inl y) = absurd (one_known f host y.0 x.0)
+one_file_response left f base set host a b (inr (inr x)) (inl y) = absurd (one_known f host y.0 x.0)
+one_file_response left f base set host a b (inr (inl x)) (inr (inl y)) =
+    x.1.3 ∙ ap (λ (ls : List Line). done (canon (with_lines base (left ls)))) (one_lines f set host x.1.0 y.1.0 x.1.1 y.1.1) ∙ sym y.1.3
+one_file_response left f base set host a b (inr (inl x)) (inr (inr y)) = absurd (omega (arith, x.1.2, y.1 x.1.0 x.1.1))
+one_file_response left f base set host a b (inr (inr x)) (inr (inl y)) = absurd (omega (arith, y.1.2, x.1 y.1.0 y.1.1))
+one_file_response left f base set host a b (inr (inr x)) (inr (inr y)) = x.2 ∙ sym y.2
+
+pub one_response : (r : Reading) (base : List Entry) (set : List Message) (action : Action ℕ) (a b : Response)
+    → IsResponse r base set action a → IsResponse r base set action b → a ≡ b
+one_response r base set (deliver relay body) a b x y = x.2 ∙ ap to_delivery (one_answer r.says (delivery relay body) x.0 y.0 x.1 y.1) ∙ sym y.2
+one_response r base set all_messages a b x y =
+    x.2 ∙ ap (λ (texts : List (List ℕ)). done (each_on_a_line texts)) (one_texts set set x.0 y.0 (λ m. (λ held. held, λ held. held)) x.1 y.1) ∙ sym y.2
+one_response r base set count a b x y =
+    x.2
+    ∙ ap (λ (n : ℕ). done (count_line n r.text base ++ newline ∷ [])) (one_count set set x.0 y.0 (λ m. (λ held. held, λ held. held)) x.1 y.1)
+    ∙ sym y.2
+one_response r base set requests a b x y = x.2 ∙ ap done (one_audit_text r.says set all x.0 y.0 x.1 y.1) ∙ sym y.2
+one_response r base set (requests_after at) a b x y = x.2 ∙ ap done (one_audit_text r.says set (after at) x.0 y.0 x.1 y.1) ∙ sym y.2
+one_response r base set (named_request asker number) a b x y =
+    x.2 ∙ ap done (one_name_text r.says set (record { by = asker; no = number }) x.0 y.0 x.1 y.1) ∙ sym y.2
+one_response r base set (grants at) a b x y =
+    x.2 ∙ ap (λ (list : List LiveGrant). done (each_on_a_line (map live_line list))) (one_live r.says set at x.0 y.0 x.1 y.1) ∙ sym y.2
+one_response r base set parked a b x y = x.2 ∙ ap (λ (texts : List (List ℕ)). done (each_on_a_line texts)) (one_parked set x.0 y.0 x.1 y.1) ∙ sym y.2
+one_response r base set (host_file host) a b x y = one_file_response (λ lines. lines) r.says base set host a b x y
+one_response r base set (host_file_after host at) a b x y = one_file_response (lines_after at) r.says base set host a b x y
+one_response r base set (report at) a b x y = x.2 ∙ ap done (one_report r.says base set set at x.0 y.0 (λ m. (λ held. held, λ held. held)) x.1 y.1) ∙ sym y.2
+one_response r base set (refused fault) a b x y = x ∙ sym y

@@ -1,5 +1,0 @@
-use Rattle.relay_http.proofs.ReplyLemmas.{one_reply}
-use Rattle.relay_http.proofs.laws.one_reply.Goals as goal
-
-pub returns : goal.returns
-returns c = one_reply

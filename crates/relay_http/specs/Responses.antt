@@ -1,0 +1,201 @@
+-- The response of a desk to what is asked of it, by the set of messages that it holds, and what it
+-- holds then.
+use Rattle.std.specs.Prelude.{◌≡◌, ◌≢◌, ◌⊎◌, ◌≤◌, ◌<◌, ◌&&◌, ℕ, true, false, Bool, List}
+use Rattle.std.specs.Prelude.{[], ◌∷◌, ◌++◌, Option, Some, None, Result, Ok, Err, codes, decimal}
+use Rattle.std.specs.Prelude.{length, map}
+use Rattle.hex.specs.Hex.{encode_lower}
+use Rattle.sha2.specs.Sha256.{sha256}
+use Rattle.sudo_words.specs.Word.{is_host_name}
+use Rattle.sudo_words.specs.Moment.{stamp}
+use Rattle.sudo_words.specs.declared.cmnd.Cmnd.{Cmnd}
+use Rattle.sudo_policy.specs.Printing.{canon}
+use Rattle.sudo_policy.specs.declared.entry.Entry.{Entry}
+use Rattle.messages.specs.declared.request_name.RequestName.{RequestName}
+use Rattle.messages.specs.Wire.{IsMessage, wire}
+use Rattle.messages.specs.declared.message.Message.{Message}
+use Rattle.roster.specs.Fields.{Reading, RosterFields}
+use Rattle.roster.specs.Rules.{is_among}
+use Rattle.grants.specs.declared.outcome.Window.{Window}
+use Rattle.desk_store.specs.Sets.{SameSet}
+use Rattle.desk.specs.Delivery.{Answers, Delivery}
+use Rattle.outcomes.specs.HostFile.{Line, AreLines, lines_after, with_lines}
+use Rattle.outcomes.specs.Outcomes.{AreLive, LiveGrant}
+use Rattle.outcomes.specs.Parked.{AreParked}
+use Rattle.desk.specs.Count.{IsCount}
+use Rattle.desk.specs.Refusals.{refusal_text}
+use Rattle.desk.specs.Texts.{AreTexts}
+use Rattle.desk.specs.declared.ack.Ack.{Ack}
+use Rattle.desk.specs.declared.refusal.Refusal.{Refusal}
+use Rattle.desk.specs.declared.refusal.Refusal.TheVariants.{UnknownRelay, UnknownHost, TooLong}
+use Rattle.desk.specs.declared.refusal.Refusal.TheVariants.{NotCanonical, BadField, Denied}
+use Rattle.desk.specs.declared.refusal.Refusal.TheVariants.{TooManyRules, RosterChanged}
+use Rattle.desk.specs.declared.refusal.Refusal.TheVariants.{NotADesk, OldSchema, Storage}
+use Rattle.desk.specs.declared.refusal.Refusal.TheVariants.{NoMemory, BaseTooLarge}
+use Rattle.review.specs.Report.{IsReport}
+use Rattle.findings.specs.Picks.{all, after}
+use Rattle.desk_audit.specs.Documents.{IsAuditText, IsNameText}
+use Rattle.relay_http.specs.Request.{Action, deliver, all_messages, count, grants, parked}
+use Rattle.relay_http.specs.Request.{host_file, host_file_after, report, refused}
+use Rattle.relay_http.specs.Request.{requests, requests_after, named_request}
+use Rattle.relay_http.specs.Response.{fault_line, status_of}
+use Rattle.relay_http.specs.declared.status.Status.{Status}
+use Rattle.relay_http.specs.declared.status.Status.TheVariants as status
+
+-- a response without its fields: its status, and its body
+pub record Response : Type 0 where
+  pub status : Status
+  pub body : List ℕ
+
+-- ---- bodies
+
+abbrev pub newline : ℕ
+newline = 10
+
+abbrev pub space : ℕ
+space = 32
+
+-- each text on a line of its own
+abbrev pub each_on_a_line : List (List ℕ) → List ℕ
+each_on_a_line [] = []
+each_on_a_line (text ∷ more) = text ++ newline ∷ [] ++ each_on_a_line more
+
+-- a moment's canonical text
+unfoldable pub moment_text : ℕ → List ℕ
+moment_text t = stamp t
+
+-- who asked, and the number
+unfoldable pub name_text : RequestName → List ℕ
+name_text name = name.by ++ space ∷ [] ++ decimal name.no
+
+-- the first and the last moment, each after a space
+unfoldable pub window_text : Window → List ℕ
+window_text w = space ∷ [] ++ moment_text w.start ++ space ∷ [] ++ moment_text w.end
+
+-- a grant in force: its request's name, its ceiling, and its window
+unfoldable pub live_line : LiveGrant → List ℕ
+live_line l = name_text l.name ++ space ∷ [] ++ l.ceiling ++ window_text l.window
+
+-- the SHA-256 digest of a text (FIPS 180-4), as 64 hex digits in lower case
+unfoldable pub digest_text : List ℕ → List ℕ
+digest_text text = encode_lower (sha256 text)
+
+-- how many messages there are, the digest of the roster's text, and that of the base's canonical
+-- text
+unfoldable pub count_line : (messages : ℕ) → (roster : List ℕ) → (base : List Entry) → List ℕ
+count_line messages roster base =
+    decimal messages ++ space ∷ [] ++ digest_text roster ++ space ∷ [] ++ digest_text (canon base)
+
+-- ---- responses
+
+abbrev pub done : List ℕ → Response
+done body = record { status = status.Done; body = body }
+
+-- The status of a refusal of the desk (RFC 9110, section 15): 400 or 413 for the message's form,
+-- 403 for an unknown relay or a message that is not admitted, 404 for an unknown host, else 503,
+-- which is for now.
+abbrev pub refusal_status : Refusal → Status
+refusal_status UnknownRelay = status.Forbidden
+refusal_status UnknownHost = status.NotFound
+refusal_status TooLong = status.ContentTooLarge
+refusal_status NotCanonical = status.BadRequest
+refusal_status BadField = status.BadRequest
+refusal_status (Denied denial) = status.Forbidden
+refusal_status TooManyRules = status.ServiceUnavailable
+refusal_status RosterChanged = status.ServiceUnavailable
+refusal_status NotADesk = status.ServiceUnavailable
+refusal_status OldSchema = status.ServiceUnavailable
+refusal_status Storage = status.ServiceUnavailable
+refusal_status NoMemory = status.ServiceUnavailable
+refusal_status BaseTooLarge = status.ServiceUnavailable
+
+-- its body is its code and name
+abbrev pub refusal : Refusal → Response
+refusal e = record { status = refusal_status e; body = refusal_text e ++ newline ∷ [] }
+
+abbrev pub to_delivery : Result Ack Refusal → Response
+to_delivery (Ok ack) = done (codes "ack" ++ newline ∷ [])
+to_delivery (Err e) = refusal e
+
+-- ---- the response to an action
+
+abbrev pub delivery : (relay body : List ℕ) → Delivery
+delivery relay body = record { relay = relay; body = body }
+
+-- the text is a host's name, and the roster lists it
+abbrev pub is_known_host : RosterFields Cmnd → List ℕ → Bool
+is_known_host f host = is_host_name host && is_among f.hosts host
+
+-- The response to who asks for a host's file with the lines that `left` leaves: the roster lacks
+-- the host; or few enough lines are left, and it is the base with these; or too many are.
+abbrev pub IsFileResponse : (left : List Line → List Line) → RosterFields Cmnd
+    → (base : List Entry) → List Message → (host : List ℕ) → Response → Type 0
+IsFileResponse left f base set host response =
+    ((is_known_host f host ≡ false) × (response ≡ refusal UnknownHost))
+    ⊎ ((is_known_host f host ≡ true) × ((lines : List Line) × AreLines f set host lines
+    × (length (left lines) ≤ 8192) × (response ≡ done (canon (with_lines base (left lines))))))
+    ⊎ ((is_known_host f host ≡ true) × ((lines : List Line) → AreLines f set host lines
+    → 8192 < length (left lines)) × (response ≡ refusal TooManyRules))
+
+-- The response to an action, by a roster, a base and the messages of a set, where memory lasts and
+-- the storage holds: at most one, by a law.
+abbrev pub IsResponse : Reading → (base : List Entry)
+    → List Message → Action ℕ → Response → Type 0
+IsResponse r base set (deliver relay body) response = (answer : Result Ack Refusal)
+    × Answers r.says (delivery relay body) answer × (response ≡ to_delivery answer)
+IsResponse r base set all_messages response =
+    (texts : List (List ℕ)) × AreTexts set texts × (response ≡ done (each_on_a_line texts))
+IsResponse r base set count response = (messages : ℕ) × IsCount set messages
+    × (response ≡ done (count_line messages r.text base ++ newline ∷ []))
+IsResponse r base set requests response =
+    (text : List ℕ) × IsAuditText r.says set all text × (response ≡ done text)
+IsResponse r base set (requests_after at) response =
+    (text : List ℕ) × IsAuditText r.says set (after at) text × (response ≡ done text)
+IsResponse r base set (named_request asker number) response = (text : List ℕ)
+    × IsNameText r.says set (record { by = asker; no = number }) text × (response ≡ done text)
+IsResponse r base set (grants at) response = (list : List LiveGrant)
+    × AreLive r.says set at list × (response ≡ done (each_on_a_line (map live_line list)))
+IsResponse r base set parked response =
+    (texts : List (List ℕ)) × AreParked set texts × (response ≡ done (each_on_a_line texts))
+IsResponse r base set (host_file host) response =
+    IsFileResponse (λ lines. lines) r.says base set host response
+IsResponse r base set (host_file_after host at) response =
+    IsFileResponse (lines_after at) r.says base set host response
+IsResponse r base set (report at) response =
+    (text : List ℕ) × IsReport r.says base set at text × (response ≡ done text)
+IsResponse r base set (refused fault) response = response ≡ record {
+  status = status_of fault;
+  body = fault_line fault;
+}
+
+-- memory or the storage failed: never a right response
+abbrev pub IsServerFailure : Response → Type 0
+IsServerFailure response = (response ≡ refusal NoMemory) ⊎ (response ≡ refusal Storage)
+
+-- What the program knows of a refusal beside the bytes: which one the response tells. A response
+-- that tells none has another status than 503.
+abbrev pub TellsRefusal : Option Refusal → Response → Type 0
+TellsRefusal None response = response.status ≢ status.ServiceUnavailable
+TellsRefusal (Some e) response = response ≡ refusal e
+
+-- ---- what is held then
+
+-- the body is the message's, and the response acknowledges it
+abbrev pub Stores : (body : List ℕ) → Response → Message → Type 0
+Stores body response m = IsMessage m × (body ≡ wire m) × (response.status ≡ status.Done)
+
+-- What is held then: after a delivery exactly what was held, and the message that is acknowledged.
+-- All is kept the same, except after a delivery with the response 200.
+abbrev pub Leaves : (Same : Type 0) → (old new : Message → Type 0) → Action ℕ → Response → Type 0
+Leaves Same old new (deliver relay body) response =
+    SameSet (λ m. old m ⊎ Stores body response m) new × (response.status ≢ status.Done → Same)
+Leaves Same old new all_messages response = Same
+Leaves Same old new count response = Same
+Leaves Same old new requests response = Same
+Leaves Same old new (requests_after at) response = Same
+Leaves Same old new (named_request asker number) response = Same
+Leaves Same old new (grants at) response = Same
+Leaves Same old new parked response = Same
+Leaves Same old new (host_file host) response = Same
+Leaves Same old new (host_file_after host at) response = Same
+Leaves Same old new (report at) response = Same
+Leaves Same old new (refused fault) response = Same

@@ -1,0 +1,40 @@
+//! What a request asks the desk to do.
+
+use crate::fault::RequestFault;
+use sudo_words::Moment;
+
+/// The action that a request asks of the desk, by its bytes alone.
+#[derive(Clone, Copy, Debug)]
+pub enum Action<'b> {
+    /// The delivery of a message by a relay. The relay may have any name and the message any form.
+    Deliver { relay: &'b str, body: &'b [u8] },
+    /// Every message.
+    AllMessages,
+    /// How many messages there are, under which roster and which base.
+    Count,
+    /// What became of every request.
+    Requests,
+    /// The same of what does not end before the moment.
+    RequestsAfter(Moment),
+    /// What became of the request that the asker made under the number.
+    NamedRequest { asker: &'b str, no: u32 },
+    /// The grants that are live at the moment.
+    Grants(Moment),
+    /// The verdicts whose request has not come.
+    Parked,
+    /// The sudoers file of a host, whose name may have any form.
+    HostFile(&'b str),
+    /// The same without the lines that end before the moment.
+    HostFileAfter(&'b str, Moment),
+    /// The report at the moment.
+    Report(Moment),
+    /// None: the first fault that applies.
+    Refused(RequestFault),
+}
+
+/// A request: its action, and whether the response has its body: the response to HEAD has none.
+#[derive(Clone, Copy, Debug)]
+pub struct HttpRequest<'b> {
+    pub with_body: bool,
+    pub action: Action<'b>,
+}

@@ -1,0 +1,135 @@
+//! Policies that are read, and what both functions say of them.
+
+use crate::trouble::Trouble;
+use std::alloc::Global;
+use std::fmt::Write as _;
+use sudo_compiled::{Compiled, compile};
+use sudo_decide::{Decision, Invocation, decide};
+use sudo_policy::Policy;
+use sudo_syntax::read_policy;
+use sudo_words::{Arg, FilePath, HostName, Items, Moment, Name};
+
+/// A policy, and the same compiled.
+#[derive(Drop)]
+struct Both {
+    policy: Policy,
+    compiled: Compiled,
+}
+
+/// The text of a policy as far as it was read, the policy once something is asked of it, and how
+/// many questions were asked and were answered in two ways.
+#[derive(Drop)]
+pub struct Asking {
+    text: String,
+    both: Option<Both>,
+    pub asked: u64,
+    pub otherwise: u64,
+}
+
+/// The policy that the text spells, and the same compiled.
+fn both_of(alloc: Global, text: &str) -> Result<Both, Trouble> {
+    let Ok(policy) = read_policy(alloc, text.as_bytes()) else {
+        return Err(Trouble::BadInput);
+    };
+    let compiled = compile(alloc, &policy)?;
+    Ok(Both { policy, compiled })
+}
+
+/// The arguments of an invocation.
+fn args_of(alloc: Global, words: &[&str]) -> Result<Items<Arg>, Trouble> {
+    let mut args = Vec::new(alloc);
+    for word in words {
+        let Ok(arg) = Arg::read(alloc, word) else {
+            return Err(Trouble::BadInput);
+        };
+        args.push(arg)?;
+    }
+    Ok(Items::new(args))
+}
+
+/// The invocation of a question's words.
+fn invocation_of(alloc: Global, words: &[&str]) -> Result<Invocation, Trouble> {
+    let [user, host, runas, at, path, rest @ ..] = words else {
+        return Err(Trouble::BadInput);
+    };
+    let Some(at) = Moment::read_stamp(at) else {
+        return Err(Trouble::BadInput);
+    };
+    let Ok(user) = Name::read(alloc, user) else {
+        return Err(Trouble::BadInput);
+    };
+    let Ok(host) = HostName::read(alloc, host) else {
+        return Err(Trouble::BadInput);
+    };
+    let Ok(runas) = Name::read(alloc, runas) else {
+        return Err(Trouble::BadInput);
+    };
+    let Ok(path) = FilePath::read(alloc, path) else {
+        return Err(Trouble::BadInput);
+    };
+    let args = args_of(alloc, rest)?;
+    Ok(Invocation {
+        user,
+        host,
+        runas,
+        path,
+        args,
+        at,
+    })
+}
+
+/// Adds what both say, as one line.
+fn say(said: &mut String, followed: Decision, compiled: Decision) -> Result<(), Trouble> {
+    if followed == compiled {
+        write!(said, "{followed}\n")?;
+    } else {
+        write!(said, "OTHERWISE {followed}, and compiled {compiled}\n")?;
+    }
+    Ok(())
+}
+
+impl Asking {
+    /// Before any line.
+    pub fn new(alloc: Global) -> Asking {
+        Asking {
+            text: String::new(alloc),
+            both: None,
+            asked: 0,
+            otherwise: 0,
+        }
+    }
+
+    /// Asks both.
+    fn ask(&mut self, alloc: Global, said: &mut String, words: &str) -> Result<(), Trouble> {
+        if self.both.is_none() {
+            self.both = Some(both_of(alloc, self.text.as_str())?);
+        }
+        let Some(both) = &self.both else {
+            return Err(Trouble::BadInput);
+        };
+        let words: Vec<&str> = words.split(' ').collect(alloc)?;
+        let invocation = invocation_of(alloc, &words)?;
+        let followed = decide(&both.policy, &invocation);
+        let compiled = both.compiled.decide(&invocation);
+        self.asked = self.asked.saturating_add(1);
+        if followed != compiled {
+            self.otherwise = self.otherwise.saturating_add(1);
+        }
+        say(said, followed, compiled)
+    }
+
+    /// Takes a line of the input, and adds what both say if it is a question.
+    pub fn take(&mut self, alloc: Global, said: &mut String, line: &str) -> Result<(), Trouble> {
+        if line == "%%" {
+            self.text = String::new(alloc);
+            self.both = None;
+            return Ok(());
+        }
+        if let Some(words) = line.strip_prefix("? ") {
+            return self.ask(alloc, said, words);
+        }
+        self.text.push_str(line)?;
+        self.text.push_str("\n")?;
+        Ok(())
+    }
+}

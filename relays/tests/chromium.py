@@ -1,0 +1,49 @@
+"""A browser for tests: Debian's chromium, driven by selenium. It needs nothing else of this folder:
+scripts/check_team.py puts it on a machine that has the packages alone."""
+
+from pathlib import Path
+
+from selenium import webdriver
+from selenium.common.exceptions import NoSuchElementException, StaleElementReferenceException
+from selenium.webdriver.chrome.service import Service
+from selenium.webdriver.common.by import By
+from selenium.webdriver.support.wait import WebDriverWait
+
+
+def browser(folder: Path, *words: str, with_scripts: bool = False) -> webdriver.Chrome:
+    """A browser with a profile of its own, started with these words too. Nobody needs a script."""
+    options = webdriver.ChromeOptions()
+    options.binary_location = "/usr/bin/chromium"
+    for word in (
+        "--headless=new",
+        "--no-sandbox",
+        "--disable-gpu",
+        "--disable-dev-shm-usage",
+        "--window-size=1100,1400",
+        "--no-first-run",
+        "--disable-background-networking",
+        f"--user-data-dir={folder}",
+        *words,
+    ):
+        options.add_argument(word)
+    if not with_scripts:
+        blocked = {"profile.managed_default_content_settings.javascript": 2}
+        options.add_experimental_option("prefs", blocked)
+    found = webdriver.Chrome(service=Service("/usr/bin/chromedriver"), options=options)
+    found.set_page_load_timeout(180)
+    return found
+
+
+def see(driver: webdriver.Chrome, *pieces: str) -> None:
+    """Waits until the page has these texts."""
+
+    def is_there(each: webdriver.Chrome) -> bool:
+        text = each.find_element(By.TAG_NAME, "body").text
+        return all(piece in text for piece in pieces)
+
+    faults = [NoSuchElementException, StaleElementReferenceException]
+    WebDriverWait(driver, 90, ignored_exceptions=faults).until(is_there, str(pieces))
+
+
+def press(driver: webdriver.Chrome, selector: str) -> None:
+    driver.find_element(By.CSS_SELECTOR, selector).click()
