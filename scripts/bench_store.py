@@ -270,7 +270,7 @@ def opening(folder: str) -> int:
     counts = [
         desk.instructions(opens),
         desk.instructions(reading, given),
-        desk.instructions(opens, inside="*desk_opening*look_within*"),
+        desk.instructions(opens, inside="*store_opening*look_within*"),
     ]
     if 0 in counts:
         ratio = opened.busy / read.busy

@@ -1,7 +1,7 @@
 -- What a crash leaves of a desk.
 use Rattle.std.proofs.Common.{◌≡◌, ◌⊎◌, inl, inr, ℕ, List, refl}
 use Rattle.messages.specs.declared.message.Message.{Message}
-use Rattle.desk_tables.specs.Sets.{SameSet}
+use Rattle.store_tables.specs.Sets.{SameSet}
 use Rattle.desk_store.specs.Left.{Left, IsAsKept, IsDeskOf, IsNothingOrFresh, IsOldDeskOf, IsReplacedOrNot, LeavesOnly}
 use Rattle.desk_store.proofs.SameLeft.{same_left, same_old_left}
 use Rattle.desk.specs.Crash.{IsLeftByOpening, IsLeftByRebuilding}

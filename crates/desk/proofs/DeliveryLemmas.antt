@@ -13,7 +13,7 @@ use Rattle.roster.specs.Rules.{is_among}
 use Rattle.grants.specs.Admission.{Admits, IsDenial}
 use Rattle.grants.specs.declared.denial.Denial.{Denial}
 use Rattle.grants.proofs.Answering.{no_denial, one_denial}
-use Rattle.desk_tables.specs.Sets.{IsWith}
+use Rattle.store_tables.specs.Sets.{IsWith}
 use Rattle.desk.specs.declared.ack.Ack.{Ack}
 use Rattle.desk.specs.declared.refusal.Refusal.{Refusal}
 use Rattle.desk.specs.declared.refusal.Refusal.TheVariants.{UnknownRelay, UnknownHost, TooLong, NotCanonical, BadField, Denied, TooManyRules}

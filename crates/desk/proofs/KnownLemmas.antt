@@ -4,7 +4,7 @@ use Rattle.std.specs.List.{Contains}
 use Rattle.std.specs.Option.{IfSome}
 use Rattle.std.proofs.lemmas.List.Elements.{Contains-append_left, Contains-push, Contains-push_cases}
 use Rattle.messages.specs.declared.message.Message.{Message}
-use Rattle.desk_tables.specs.Sets.{IsWith, Lists, SameSet}
+use Rattle.store_tables.specs.Sets.{IsWith, Lists, SameSet}
 use Rattle.outcomes.specs.Gathered.{Known as Gathered}
 use Rattle.desk_store.specs.Keeping.{IsKnownOf}
 use Rattle.outcomes.proofs.Membership.{no_member}

@@ -5,7 +5,7 @@ use Rattle.std.proofs.lemmas.List.Elements.{Contains-append_left, Contains-push}
 use Rattle.sudo_words.specs.declared.cmnd.Cmnd.{Cmnd}
 use Rattle.messages.specs.declared.message.Message.{Message}
 use Rattle.roster.specs.Fields.{RosterFields}
-use Rattle.desk_tables.specs.Sets.{SameSet, With}
+use Rattle.store_tables.specs.Sets.{SameSet, With}
 use Rattle.desk_store.specs.Keeping.{IsSomeDesk}
 use Rattle.desk_store.specs.Left.{Left, AddsOnly, IsDeskOf, LeavesOnly}
 use Rattle.desk_store.specs.declared.keeper.Keeper.{Ghosts}

@@ -3,7 +3,7 @@ use Rattle.std.proofs.Common.{◌≡◌, ◌≢◌, ◌⊎◌, ◌∙◌, ℕ, L
 use Rattle.std.specs.Prelude.{⊤, IfSome, string_bytes}
 use Rattle.messages.specs.declared.message.Message.{Message}
 use Rattle.outcomes.specs.Gathered.{Known}
-use Rattle.desk_tables.specs.Sets.{SameSet}
+use Rattle.store_tables.specs.Sets.{SameSet}
 use Rattle.desk_store.specs.Keeping.{IsKnownOf, Tells, TellsKnown}
 use Rattle.desk_store.specs.declared.found.Found.{Found}
 use Rattle.desk_store.specs.declared.found.FoundDesk.{FoundDesk}

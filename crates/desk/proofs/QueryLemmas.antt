@@ -2,7 +2,7 @@
 use Rattle.std.proofs.Common.{List}
 use Rattle.messages.specs.Names.{SameMessages}
 use Rattle.messages.specs.declared.message.Message.{Message}
-use Rattle.desk_tables.specs.Sets.{Lists}
+use Rattle.store_tables.specs.Sets.{Lists}
 
 -- Two lists of what is held have the same messages.
 pub same_listed : (S : Message → Type 0) (known set : List Message) → Lists S known → Lists S set → SameMessages known set

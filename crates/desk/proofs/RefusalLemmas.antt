@@ -3,7 +3,7 @@ use Rattle.std.proofs.Common.{◌≡◌, ◌≢◌, ◌⊎◌, ℕ, inl, inr, Re
 use Rattle.std.specs.Prelude.{IfErr, IsErr, IsErrAnd}
 use Rattle.messages.specs.declared.fault.MessageFault.{MessageFault}
 use Rattle.messages.specs.declared.fault.MessageFault.TheVariants as faults
-use Rattle.desk_schema.specs.Beside.{TableWithRows}
+use Rattle.store_schema.specs.Beside.{TableWithRows}
 use Rattle.desk_store.specs.declared.error.KeeperError.{KeeperError}
 use Rattle.desk_store.specs.declared.error.KeeperError.TheVariants as errors
 use Rattle.desk_store.specs.Serving.{IsServed}

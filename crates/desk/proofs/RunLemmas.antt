@@ -6,7 +6,7 @@ use Rattle.sudo_words.specs.declared.cmnd.Cmnd.{Cmnd}
 use Rattle.messages.specs.Names.{SameMessages}
 use Rattle.messages.specs.declared.message.Message.{Message}
 use Rattle.roster.specs.Fields.{RosterFields}
-use Rattle.desk_tables.specs.Sets.{SameSet, IsWith}
+use Rattle.store_tables.specs.Sets.{SameSet, IsWith}
 use Rattle.desk.specs.declared.ack.Ack.{Ack}
 use Rattle.desk.specs.declared.refusal.Refusal.{Refusal}
 use Rattle.desk.specs.Delivery.{AcknowledgesAmong, AreAnswers, Delivery, HeldAfter, HeldAfterAll, IsDeliveryAnswer}

@@ -4,7 +4,7 @@ use Rattle.std.specs.Prelude.{Contains}
 use Rattle.sudo_words.specs.declared.cmnd.Cmnd.{Cmnd}
 use Rattle.messages.specs.declared.message.Message.{Message}
 use Rattle.roster.specs.Fields.{RosterFields}
-use Rattle.desk_tables.specs.Sets.{IsNothing, SameSet, With}
+use Rattle.store_tables.specs.Sets.{IsNothing, SameSet, With}
 use Rattle.desk_store.specs.Left.{Left, Nothing, ADesk, AnOldDesk, NoDesk, HoldsIn, IsDeskOf, IsFoundAs, IsNothingOrFresh}
 use Rattle.desk.specs.Crash.{IsAcceptable, IsLeftByDeliveries, IsLeftByDelivery}
 use Rattle.desk.specs.Delivery.{AcknowledgesAmong, Delivery}

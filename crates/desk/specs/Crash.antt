@@ -5,7 +5,7 @@ use Rattle.messages.specs.declared.message.Message.{Message}
 use Rattle.roster.specs.Fields.{RosterFields}
 use Rattle.roster.specs.Rules.{is_among}
 use Rattle.grants.specs.Admission.{Admits}
-use Rattle.desk_tables.specs.Sets.{With}
+use Rattle.store_tables.specs.Sets.{With}
 use Rattle.desk_store.specs.Left.{Left, IsCommitted, IsDeskOf, IsNothingOrFresh, IsOldDeskOf}
 use Rattle.desk.specs.Delivery.{AcknowledgesAmong, Delivery, IsBodyOf}
 use Rattle.desk.specs.declared.ack.Ack.{Ack}

@@ -1,6 +1,6 @@
 -- Which desk is opened over what a keeper keeps, and why none is.
 use Rattle.std.specs.Prelude.{◌≡◌, ◌≢◌, ◌⊎◌, ℕ, List}
-use Rattle.desk_tables.specs.Sets.{IsNothing, SameSet}
+use Rattle.store_tables.specs.Sets.{IsNothing, SameSet}
 use Rattle.messages.specs.declared.message.Message.{Message}
 use Rattle.desk.specs.declared.refusal.Refusal.{Refusal}
 use Rattle.desk.specs.declared.refusal.Refusal.TheVariants.{RosterChanged, NotADesk}

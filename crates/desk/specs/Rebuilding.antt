@@ -1,7 +1,7 @@
 -- Which desk a keeper keeps once it is rebuilt with a roster, and why it is not.
 use Rattle.std.specs.Prelude.{◌⊎◌}
 use Rattle.messages.specs.declared.message.Message.{Message}
-use Rattle.desk_tables.specs.Sets.{IsNothing, SameSet}
+use Rattle.store_tables.specs.Sets.{IsNothing, SameSet}
 use Rattle.desk.specs.declared.refusal.Refusal.{Refusal}
 use Rattle.desk.specs.declared.refusal.Refusal.TheVariants.{NotADesk, BaseTooLarge}
 

@@ -5,7 +5,7 @@ ghost use Rattle.std.specs.Prelude.{length, Contains, IfOk, IfErr};
 ghost use Rattle.messages.specs.Names.{SameMessages};
 ghost use Rattle.messages.specs.Wire.{IsMessage};
 ghost use Rattle.messages.specs.declared.message.Message.{Message as AnyMessage};
-ghost use Rattle.desk_tables.specs.Sets.{Lists};
+ghost use Rattle.store_tables.specs.Sets.{Lists};
 ghost use Rattle.desk.specs.Count.{IsCount};
 ghost use Rattle.desk.specs.Refusals.{IsWant};
 ghost use Rattle.desk.specs.Serving.{OnlyAsks, ServesAnswer};

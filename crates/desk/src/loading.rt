@@ -9,7 +9,7 @@ ghost use Rattle.desk.specs.Refusals.{IsWant};
 ghost use Rattle.desk.specs.declared.refusal.Refusal.TheVariants as refusal;
 ghost use Rattle.desk_store.specs.Left.{AddsOnly, IsDeskOf, LeavesOnly};
 ghost use Rattle.desk_store.specs.Serves.{Serves};
-ghost use Rattle.desk_tables.specs.Sets.{Lists, SameSet};
+ghost use Rattle.store_tables.specs.Sets.{Lists, SameSet};
 
 use crate::refusal::Refusal;
 use desk_store::{Keeper, KeeperError};

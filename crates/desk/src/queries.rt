@@ -5,7 +5,7 @@ ghost use Rattle.std.specs.Prelude.{◌≡◌, ◌⊎◌, ◌↔◌, ◌<◌, �
 ghost use Rattle.std.specs.Prelude.{IfOk, IfErr, MatchResult, Err, string_bytes};
 ghost use Rattle.messages.specs.declared.message.Message.{Message as AnyMessage};
 ghost use Rattle.roster.specs.Rules.{is_among};
-ghost use Rattle.desk_tables.specs.Sets.{Lists, SameSet};
+ghost use Rattle.store_tables.specs.Sets.{Lists, SameSet};
 ghost use Rattle.outcomes.specs.HostFile.{Line, AreLines, IsHostFile, IsHostFileAfter, lines_after};
 ghost use Rattle.outcomes.specs.LinesLeft as left;
 ghost use Rattle.outcomes.specs.Outcomes.{AreLive, ComesTo};

@@ -3,7 +3,7 @@
 ghost use Rattle.std.specs.Prelude.{◌≡◌, ◌⊎◌, IfOk, IfErr};
 ghost use Rattle.grants.specs.Bases.{FitsBase};
 ghost use Rattle.desk_store.specs.Left.{IsDeskOf, LeavesOnly};
-ghost use Rattle.desk_tables.specs.Sets.{SameSet};
+ghost use Rattle.store_tables.specs.Sets.{SameSet};
 ghost use Rattle.desk.specs.Rebuilding.{Rebuilds, RefusesToRebuild};
 ghost use Rattle.desk.specs.Refusals.{IsWant};
 ghost use Rattle.desk.specs.Same.{AnswerAlike};

@@ -3,9 +3,9 @@
 ghost use Rattle.std.specs.Prelude.{◌≡◌, ◌≢◌, ◌⊎◌, IfOk, IfErr};
 ghost use Rattle.sqlite.specs.Held.{state};
 ghost use Rattle.grants.specs.Bases.{FitsBase};
-ghost use Rattle.desk_tables.specs.Sets.{SameSet};
-ghost use Rattle.desk_tables.specs.SqliteStates.{IsUp};
-ghost use Rattle.desk_tables.specs.Kept.{HoldsText};
+ghost use Rattle.store_tables.specs.Sets.{SameSet};
+ghost use Rattle.store_tables.specs.SqliteStates.{IsUp};
+ghost use Rattle.store_tables.specs.Kept.{HoldsText};
 ghost use Rattle.desk.specs.Refusals.{IsWant};
 ghost use Rattle.desk.specs.Same.{AnswerAlike};
 ghost use Rattle.desk.specs.declared.refusal.Refusal.TheVariants as refusal;

@@ -5,7 +5,7 @@ ghost use Rattle.sudo_words.specs.declared.cmnd.Cmnd.{Cmnd as AnyCmnd};
 ghost use Rattle.messages.specs.Names.{SameMessages};
 ghost use Rattle.messages.specs.declared.message.Message.{Message as AnyMessage};
 ghost use Rattle.roster.specs.Fields.{RosterFields};
-ghost use Rattle.desk_tables.specs.Sets.{SameSet};
+ghost use Rattle.store_tables.specs.Sets.{SameSet};
 ghost use Rattle.desk.specs.declared.ack.Ack.{Ack as AnyAck};
 ghost use Rattle.desk.specs.declared.refusal.Refusal.{Refusal as AnyRefusal};
 ghost use Rattle.desk.specs.Delivery.{Answers, AreAnswers, Delivery, HeldAfterAll};

@@ -3,7 +3,7 @@
 ghost use Rattle.std.specs.Prelude.{◌≡◌, ◌⊎◌, List, ℕ, Contains, IfOk, IfErr, Result};
 ghost use Rattle.messages.specs.declared.message.Message.{Message as AnyMessage};
 ghost use Rattle.grants.specs.Bases.{FitsBase};
-ghost use Rattle.desk_tables.specs.Sets.{IsNothing, SameSet, With};
+ghost use Rattle.store_tables.specs.Sets.{IsNothing, SameSet, With};
 ghost use Rattle.desk_store.specs.Left.{IsDeskOf, IsFoundAs, IsNothingOrFresh, LeavesOnly, MayBe};
 ghost use Rattle.desk.specs.Crash.{IsAcceptable, IsLeftByDeliveries, IsLeftByDelivery};
 ghost use Rattle.desk.specs.Delivery.{AcknowledgesAmong, Delivery};

@@ -2,13 +2,13 @@
 
 use crate::trouble::Trouble;
 use desk_commands::{Job, Refusal, Store};
-use desk_schema::{Shape, shape_of};
 use desk_store::SqliteKeeper;
 use sqlite::{Connection, Error, ErrorCode};
 use sqlite_disk::Unknown;
 use sqlite_std_file::FileFrom;
 use sqlite_store::FileStore;
 use std::fs::OpenOptions;
+use store_schema::{Shape, shape_of};
 
 /// A keeper over a database in a file.
 pub(crate) type Stored = SqliteKeeper<FileStore<FileFrom<Unknown>>>;

@@ -5,11 +5,11 @@ use Rattle.sqlite.specs.Effect.{Database}
 use Rattle.sqlite.specs.State.{State}
 use Rattle.messages.specs.Wire.{wire}
 use Rattle.messages.specs.declared.message.Message.{Message}
-use Rattle.desk_tables.specs.Kept.{HoldsText, IsDeskDatabase, Spares}
-use Rattle.desk_tables.specs.SqliteStates.{IsUp}
-use Rattle.desk_tables.specs.Stored.{content_of, has, with_text}
-use Rattle.desk_schema.proofs.MarksLemmas.{unmarked_still}
-use Rattle.desk_opening.specs.Opened.{IsKept}
+use Rattle.store_tables.specs.Kept.{HoldsText, IsDeskDatabase, Spares}
+use Rattle.store_tables.specs.SqliteStates.{IsUp}
+use Rattle.store_tables.specs.Stored.{content_of, has, with_text}
+use Rattle.store_schema.proofs.MarksLemmas.{unmarked_still}
+use Rattle.store_opening.specs.Opened.{IsKept}
 
 -- by the text that was given, where this is the message's
 pub content_wired : (old new : Database) (m : Message) (text : List ℕ) → text ≡ wire m

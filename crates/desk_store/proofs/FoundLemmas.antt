@@ -8,16 +8,16 @@ use Rattle.sqlite.specs.Effect.{Database}
 use Rattle.sqlite.specs.State.{State, HasCleanDisk, Survives}
 use Rattle.messages.specs.Wire.{wire, IsMessage}
 use Rattle.messages.specs.declared.message.Message.{Message}
-use Rattle.desk_tables.specs.Kept.{HoldsText}
-use Rattle.desk_tables.specs.Sets.{IsNothing, SameSet, With}
-use Rattle.desk_tables.specs.SqliteStates.{IsUp}
-use Rattle.desk_tables.specs.Stored.{Content, content_of, with_text}
-use Rattle.desk_tables.specs.Committed.{Arrives, ArrivesAt}
-use Rattle.desk_tables.proofs.TurnLemmas.{with_one}
-use Rattle.desk_schema.specs.Shapes.{IsVacant}
-use Rattle.desk_schema.specs.Founding.{FoundsAt, Makes, fresh}
-use Rattle.desk_schema.proofs.MarksLemmas.{unmarked_spared}
-use Rattle.desk_opening.specs.Opened.{IsKept, IsOldDesk}
+use Rattle.store_tables.specs.Kept.{HoldsText}
+use Rattle.store_tables.specs.Sets.{IsNothing, SameSet, With}
+use Rattle.store_tables.specs.SqliteStates.{IsUp}
+use Rattle.store_tables.specs.Stored.{Content, content_of, with_text}
+use Rattle.store_tables.specs.Committed.{Arrives, ArrivesAt}
+use Rattle.store_tables.proofs.TurnLemmas.{with_one}
+use Rattle.store_schema.specs.Shapes.{IsVacant}
+use Rattle.store_schema.specs.Founding.{FoundsAt, Makes, fresh}
+use Rattle.store_schema.proofs.MarksLemmas.{unmarked_spared}
+use Rattle.store_opening.specs.Opened.{IsKept, IsOldDesk}
 use Rattle.desk_store.specs.Left.{Left, Nothing, ADesk, AnOldDesk, NoDesk, HoldsIn, IsAsKept, IsDeskOf}
 use Rattle.desk_store.specs.Left.{IsCommitted, IsFoundAs, IsNothingOrFresh, IsOldDeskOf, IsReplacedOrNot, IsWithOrWithout}
 use Rattle.desk_store.specs.Crash.{IsFound, MayLeave}

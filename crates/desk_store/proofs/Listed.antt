@@ -8,13 +8,13 @@ use Rattle.sqlite_rules.proofs.ListLemmas.{contains_had, has_contained}
 use Rattle.messages.specs.Wire.{wire, IsMessage}
 use Rattle.messages.specs.declared.message.Message.{Message}
 use Rattle.messages.proofs.Uniqueness.{one_message}
-use Rattle.desk_tables.specs.Kept.{HoldsText}
-use Rattle.desk_tables.specs.Sets.{Lists, SameSet}
-use Rattle.desk_tables.specs.Steps.{texts_in}
-use Rattle.desk_tables.proofs.RefillLemmas.{found_among, in_texts}
-use Rattle.desk_tables.proofs.TextSets.{same_text}
-use Rattle.desk_tables.proofs.TurnLemmas.{itself, or_true_left, or_true_right}
-use Rattle.desk_opening.specs.Opened.{IsKept, IsOldDesk}
+use Rattle.store_tables.specs.Kept.{HoldsText}
+use Rattle.store_tables.specs.Sets.{Lists, SameSet}
+use Rattle.store_tables.specs.Steps.{texts_in}
+use Rattle.store_tables.proofs.RefillLemmas.{found_among, in_texts}
+use Rattle.store_tables.proofs.TextSets.{same_text}
+use Rattle.store_tables.proofs.TurnLemmas.{itself, or_true_left, or_true_right}
+use Rattle.store_opening.specs.Opened.{IsKept, IsOldDesk}
 use Rattle.desk_store.proofs.SetListed.{set_listed}
 
 -- a desk of either form holds the messages of some list

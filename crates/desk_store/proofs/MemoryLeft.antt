@@ -3,7 +3,7 @@ use Rattle.std.proofs.Common.{◌≡◌, ◌⊎◌, inl, inr, ℕ, List, [], Res
 use Rattle.std.specs.Prelude.{⊤, IsSome, OnErr, OnOk, Option, Some, unwrap_or}
 use Rattle.messages.specs.Wire.{IsMessage}
 use Rattle.messages.specs.declared.message.Message.{Message}
-use Rattle.desk_tables.specs.Sets.{With}
+use Rattle.store_tables.specs.Sets.{With}
 use Rattle.desk_store.specs.private.Collected.{IsPut}
 use Rattle.desk_store.specs.Memory.{MemoryContent, Holds}
 use Rattle.desk_store.specs.Left.{Left, Nothing, ADesk, AnOldDesk, NoDesk, IsCommitted, IsDeskOf, IsReplacedOrNot, IsWithOrWithout, LeavesOnly}

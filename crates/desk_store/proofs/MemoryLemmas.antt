@@ -6,7 +6,7 @@ use Rattle.messages.specs.Wire.{IsMessage}
 use Rattle.messages.specs.declared.message.Message.{Message}
 use Rattle.desk_store.specs.private.Collected.{IsPut}
 use Rattle.desk_store.specs.Memory.{Holds}
-use Rattle.desk_tables.specs.Sets.{IsWith}
+use Rattle.store_tables.specs.Sets.{IsWith}
 
 turned : (m n : Message) → m ≡ n → n ≡ m
 turned m n is = sym is

@@ -3,12 +3,12 @@ use Rattle.std.proofs.Common.{◌≡◌, ◌∙◌, ℕ, List, codes, ap, sym}
 use Rattle.std.specs.List.{list_any}
 use Rattle.sqlite.specs.Effect.{Database, IsDatabase}
 use Rattle.sqlite.specs.Tree.{Trees}
-use Rattle.desk_tables.specs.Kept.{table_in}
-use Rattle.desk_tables.specs.Stored.{Content, IsListedAs, has, is_stray, tree_of}
-use Rattle.desk_tables.proofs.OneSchema as tables
-use Rattle.desk_schema.proofs.ListedLemmas.{old_as, tree_as, vacant_as}
-use Rattle.desk_schema.proofs.MarksLemmas.{unmarked_again}
-use Rattle.desk_opening.specs.Opened.{HasContents, recorded_as}
+use Rattle.store_tables.specs.Kept.{table_in}
+use Rattle.store_tables.specs.Stored.{Content, IsListedAs, has, is_stray, tree_of}
+use Rattle.store_tables.proofs.OneSchema as tables
+use Rattle.store_schema.proofs.ListedLemmas.{old_as, tree_as, vacant_as}
+use Rattle.store_schema.proofs.MarksLemmas.{unmarked_again}
+use Rattle.store_opening.specs.Opened.{HasContents, recorded_as}
 use Rattle.desk_store.specs.private.Survival.{IsAgain}
 
 module _ (a b : Database) (first : IsDatabase a) (second : IsDatabase b) (same : b.trees ≡ a.trees) where

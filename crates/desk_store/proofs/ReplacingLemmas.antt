@@ -7,21 +7,21 @@ use Rattle.sqlite.specs.Effect.{Database}
 use Rattle.sqlite.specs.State.{State, HasCleanDisk, Survives}
 use Rattle.sqlite.proofs.StateLemmas.{survives_then, survives_weaker}
 use Rattle.sqlite_rules.specs.Lists.{Has}
-use Rattle.desk_tables.specs.DeskTables.{verdicts_at}
-use Rattle.desk_tables.specs.Kept.{IsDeskDatabase, Spares}
-use Rattle.desk_tables.specs.SqliteStates.{IsUp, Rests}
-use Rattle.desk_tables.specs.Stored.{content_of, with_roster}
-use Rattle.desk_tables.specs.Committed.{ChangesAt}
-use Rattle.desk_schema.specs.Beside.{IsOther, KeepsBeside}
-use Rattle.desk_schema.specs.declared.part.Part.TheVariants as part
-use Rattle.desk_schema.proofs.BesideLemmas.{other_apart, other_new, other_still, spared_beside, there_still}
-use Rattle.desk_schema.proofs.ShapeLemmas.{common_of}
-use Rattle.desk_schema.proofs.MarksLemmas.{unmarked_spared, unmarked_still}
-use Rattle.desk_opening.specs.declared.found.Contents.{Contents}
-use Rattle.desk_opening.specs.declared.found.Found.{Found}
-use Rattle.desk_opening.specs.declared.found.Found.TheVariants as found
-use Rattle.desk_migration.specs.Migrated.{GainsVerdicts, IsBeside, KeepsOthers, MigratesAt}
-use Rattle.desk_opening.specs.Opened.{FoundIn, IsKept, IsOldDesk, Reads}
+use Rattle.store_tables.specs.DeskTables.{verdicts_at}
+use Rattle.store_tables.specs.Kept.{IsDeskDatabase, Spares}
+use Rattle.store_tables.specs.SqliteStates.{IsUp, Rests}
+use Rattle.store_tables.specs.Stored.{content_of, with_roster}
+use Rattle.store_tables.specs.Committed.{ChangesAt}
+use Rattle.store_schema.specs.Beside.{IsOther, KeepsBeside}
+use Rattle.store_schema.specs.declared.part.Part.TheVariants as part
+use Rattle.store_schema.proofs.BesideLemmas.{other_apart, other_new, other_still, spared_beside, there_still}
+use Rattle.store_schema.proofs.ShapeLemmas.{common_of}
+use Rattle.store_schema.proofs.MarksLemmas.{unmarked_spared, unmarked_still}
+use Rattle.store_opening.specs.declared.found.Contents.{Contents}
+use Rattle.store_opening.specs.declared.found.Found.{Found}
+use Rattle.store_opening.specs.declared.found.Found.TheVariants as found
+use Rattle.store_migration.specs.Migrated.{GainsVerdicts, IsBeside, KeepsOthers, MigratesAt}
+use Rattle.store_opening.specs.Opened.{FoundIn, IsKept, IsOldDesk, Reads}
 use Rattle.desk_store.specs.private.Replacing.{Becomes, BecomesAt, Replaces}
 
 -- what was found, by its case

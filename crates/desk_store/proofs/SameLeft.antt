@@ -1,7 +1,7 @@
 -- A whole desk that is left is also any other with the same roster text and the same messages.
 use Rattle.std.proofs.Common.{◌≡◌, ◌∙◌, ℕ, List}
 use Rattle.messages.specs.declared.message.Message.{Message}
-use Rattle.desk_tables.specs.Sets.{SameSet}
+use Rattle.store_tables.specs.Sets.{SameSet}
 use Rattle.desk_store.specs.Left.{Left, Nothing, ADesk, AnOldDesk, NoDesk, IsDeskOf, IsOldDeskOf}
 
 pub same_left : (r s : List ℕ) (S T : Message → Type 0) (left : Left) → s ≡ r → SameSet S T → IsDeskOf s T left → IsDeskOf r S left

@@ -1,6 +1,6 @@
 -- What storage does to calls, one after the other.
 use Rattle.std.proofs.Common.{◌≡◌, ◌⊎◌, ℕ, ◌≤◌, true, false, le_refl, inl, inr, arith}
-use Rattle.desk_schema.specs.Beside.{TableWithRows}
+use Rattle.store_schema.specs.Beside.{TableWithRows}
 use Rattle.desk_store.specs.Keeping.{HasFailed}
 use Rattle.desk_store.specs.Serving.{IsServed}
 

@@ -9,14 +9,14 @@ use Rattle.sqlite.specs.Order.{Row, column}
 use Rattle.sqlite.specs.Effect.{Database}
 use Rattle.sqlite_rules.proofs.ListLemmas.{has_contained, some_from}
 use Rattle.messages.specs.declared.message.Message.{Message}
-use Rattle.desk_tables.specs.Kept.{HoldsText, table_in}
-use Rattle.desk_tables.specs.Sets.{Lists}
-use Rattle.desk_tables.specs.Stored.{is_stray, is_text}
-use Rattle.desk_schema.specs.declared.part.Part.TheVariants.{Messages}
-use Rattle.desk_opening.specs.Opened.{HasTexts}
-use Rattle.desk_opening.specs.private.Reading.{AreBodies, IsKeepable, body}
-use Rattle.desk_opening.specs.private.Selecting.{shown_of}
-use Rattle.desk_opening.proofs.TextsShown.{listed, row_has, text_of}
+use Rattle.store_tables.specs.Kept.{HoldsText, table_in}
+use Rattle.store_tables.specs.Sets.{Lists}
+use Rattle.store_tables.specs.Stored.{is_stray, is_text}
+use Rattle.store_schema.specs.declared.part.Part.TheVariants.{Messages}
+use Rattle.store_opening.specs.Opened.{HasTexts}
+use Rattle.store_opening.specs.private.Reading.{AreBodies, IsKeepable, body}
+use Rattle.store_opening.specs.private.Selecting.{shown_of}
+use Rattle.store_opening.proofs.TextsShown.{listed, row_has, text_of}
 use Rattle.outcomes.proofs.Membership.{no_member, Contains-head, Contains-behind, Contains-cases}
 
 -- a message whose text is the row's body

@@ -10,11 +10,11 @@ use Rattle.sqlite.specs.Schema.{Schema}
 use Rattle.sqlite.specs.Tree.{Trees}
 use Rattle.sqlite.specs.Effect.{Database}
 use Rattle.sqlite_schema.specs.Names.{same_name}
-use Rattle.desk_tables.specs.DeskTables.{desk_at, messages_at, names_at, parked_at, verdicts_at}
-use Rattle.desk_tables.specs.Stored.{HasDesk, IsUnused, content_of, has}
-use Rattle.desk_tables.proofs.RefillLemmas.{no_rows}
-use Rattle.desk_tables.proofs.StepLemmas.{keyed_none, neat_none}
-use Rattle.desk_opening.specs.Opened.{IsKept}
+use Rattle.store_tables.specs.DeskTables.{desk_at, messages_at, names_at, parked_at, verdicts_at}
+use Rattle.store_tables.specs.Stored.{HasDesk, IsUnused, content_of, has}
+use Rattle.store_tables.proofs.RefillLemmas.{no_rows}
+use Rattle.store_tables.proofs.StepLemmas.{keyed_none, neat_none}
+use Rattle.store_opening.specs.Opened.{IsKept}
 
 schema : Schema
 schema = record {

@@ -4,17 +4,17 @@ use Rattle.std.specs.Prelude.{IfSome, string_bytes}
 use Rattle.sqlite.specs.Effect.{Database}
 use Rattle.messages.specs.declared.message.Message.{Message}
 use Rattle.outcomes.specs.Gathered.{AreGathered, Known}
-use Rattle.desk_tables.specs.Kept.{HoldsText, table_in}
-use Rattle.desk_tables.specs.Sets.{Lists}
-use Rattle.desk_tables.specs.Stored.{content_of}
-use Rattle.desk_schema.specs.Shapes.{IsVacant}
-use Rattle.desk_schema.proofs.ShapeLemmas.{common_of}
-use Rattle.desk_opening.specs.declared.found.Found.{Found as InDatabase}
-use Rattle.desk_opening.specs.declared.found.Found.TheVariants as database
-use Rattle.desk_opening.specs.Opened.{FoundIn, IsDeskBesideRows, IsKept, IsOldDesk}
-use Rattle.desk_opening.specs.Opened.{IsSomeDesk as IsFoundDesk}
-use Rattle.desk_opening.proofs.OpenedLemmas.{not_old, not_vacant}
-use Rattle.desk_opening.proofs.Shown.{recorded_two}
+use Rattle.store_tables.specs.Kept.{HoldsText, table_in}
+use Rattle.store_tables.specs.Sets.{Lists}
+use Rattle.store_tables.specs.Stored.{content_of}
+use Rattle.store_schema.specs.Shapes.{IsVacant}
+use Rattle.store_schema.proofs.ShapeLemmas.{common_of}
+use Rattle.store_opening.specs.declared.found.Found.{Found as InDatabase}
+use Rattle.store_opening.specs.declared.found.Found.TheVariants as database
+use Rattle.store_opening.specs.Opened.{FoundIn, IsDeskBesideRows, IsKept, IsOldDesk}
+use Rattle.store_opening.specs.Opened.{IsSomeDesk as IsFoundDesk}
+use Rattle.store_opening.proofs.OpenedLemmas.{not_old, not_vacant}
+use Rattle.store_opening.proofs.Shown.{recorded_two}
 use Rattle.desk_store.specs.declared.found.Found.{Found}
 use Rattle.desk_store.specs.Keeping.{IsKnownOf, IsSomeDesk, Tells, TellsKnown}
 use Rattle.desk_store.specs.private.Showing.{IsShown}

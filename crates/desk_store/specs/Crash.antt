@@ -2,9 +2,9 @@
 use Rattle.std.specs.Prelude.{◌≡◌, None, [], IsSome, unwrap_or}
 use Rattle.sqlite.specs.Effect.{Database, IsDatabase}
 use Rattle.sqlite.specs.State.{State}
-use Rattle.desk_tables.specs.Stored.{content_of}
-use Rattle.desk_schema.specs.Shapes.{IsVacant}
-use Rattle.desk_opening.specs.Opened.{IsKept, IsOldDesk}
+use Rattle.store_tables.specs.Stored.{content_of}
+use Rattle.store_schema.specs.Shapes.{IsVacant}
+use Rattle.store_opening.specs.Opened.{IsKept, IsOldDesk}
 use Rattle.desk_store.specs.Memory.{MemoryContent, Holds}
 use Rattle.desk_store.specs.Left.{Left, Nothing, ADesk, AnOldDesk, NoDesk, IsDeskOf}
 

@@ -2,8 +2,8 @@
 use Rattle.std.specs.Prelude.{◌≡◌, ◌⊎◌, true, List, ℕ}
 use Rattle.messages.specs.Wire.{wire, IsMessage}
 use Rattle.messages.specs.declared.message.Message.{Message}
-use Rattle.desk_tables.specs.Sets.{SameSet, With}
-use Rattle.desk_tables.specs.Stored.{Content, has}
+use Rattle.store_tables.specs.Sets.{SameSet, With}
+use Rattle.store_tables.specs.Stored.{Content, has}
 
 -- No part of a desk, a desk with all that it keeps, a desk of an older form with its messages, or
 -- something under a desk's names that is not a desk.

@@ -1,7 +1,7 @@
 -- Two keepers in memory with the same content keep the same of a desk. For private clauses.
 use Rattle.std.specs.Prelude.{◌≡◌, [], None, IsSome, unwrap_or}
 use Rattle.std.proofs.Common.{refl, sym, ◌∙◌, subst, ap}
-use Rattle.desk_tables.specs.Sets.{SameSet}
+use Rattle.store_tables.specs.Sets.{SameSet}
 use Rattle.desk_store.specs.Memory.{MemoryContent, Holds}
 
 pub same_itself : (a : MemoryContent) → a ≡ a

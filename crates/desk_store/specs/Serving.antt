@@ -1,6 +1,6 @@
 -- What storage does to a keeper's calls.
 use Rattle.std.specs.Prelude.{◌⊎◌, ℕ, ◌≤◌}
-use Rattle.desk_schema.specs.Beside.{TableWithRows}
+use Rattle.store_schema.specs.Beside.{TableWithRows}
 use Rattle.desk_store.specs.Keeping.{HasFailed}
 
 -- A keeper after some calls, compared with before. If it is up, it was up; if it is clean, it was

@@ -6,8 +6,8 @@ ghost use Rattle.desk_store.specs.private.Failing.{IsOfMemory};
 ghost use Rattle.desk_store.specs.declared.error.KeeperError.TheVariants as errors;
 
 use crate::error::KeeperError;
-use desk_tables::Fault;
 use sqlite::{Error, ErrorCode};
+use store_tables::Fault;
 
 /// Whether a growth was refused.
 fn is_of_memory(fault: &Fault) -> bool

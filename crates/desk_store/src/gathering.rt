@@ -3,17 +3,17 @@
 ghost use Rattle.std.specs.Prelude.{IfOk, OnOk};
 ghost use Rattle.sqlite.specs.State.{HasCleanDisk};
 ghost use Rattle.sqlite.specs.Held.{state};
-ghost use Rattle.desk_tables.specs.Kept.{HoldsText};
-ghost use Rattle.desk_tables.specs.SqliteStates.{IsUp, Rests};
-ghost use Rattle.desk_opening.specs.Opened.{IsKept, Reads};
+ghost use Rattle.store_tables.specs.Kept.{HoldsText};
+ghost use Rattle.store_tables.specs.SqliteStates.{IsUp, Rests};
+ghost use Rattle.store_opening.specs.Opened.{IsKept, Reads};
 ghost use Rattle.outcomes.specs.Gathered.{AreGathered};
 ghost use Rattle.desk_store.specs.Keeping.{IsKnownOf};
 
-use desk_opening::{Stored, shown_of};
-use desk_tables::Fault;
 use outcomes::Gathered;
 use sqlite::{Alter, Connection};
 use std::alloc::Global;
+use store_opening::{Stored, shown_of};
+use store_tables::Fault;
 use sudo_words::NoMemory;
 
 /// What is known of these messages, each of which is freed once it is taken in.

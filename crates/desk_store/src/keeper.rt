@@ -3,8 +3,8 @@
 ghost use Rattle.std.specs.Prelude.{◌≡◌, ℕ, ◌≤◌, ◌⊎◌, List, length, IfOk, IsErr, OnOk, OnErr, Err};
 ghost use Rattle.messages.specs.Wire.{IsMessage, wire};
 ghost use Rattle.messages.specs.declared.message.Message.{Message as AnyMessage};
-ghost use Rattle.desk_schema.specs.Beside.{TableWithRows};
-ghost use Rattle.desk_tables.specs.Sets.{IsNothing, SameSet, IsWith, Lists, With};
+ghost use Rattle.store_schema.specs.Beside.{TableWithRows};
+ghost use Rattle.store_tables.specs.Sets.{IsNothing, SameSet, IsWith, Lists, With};
 ghost use Rattle.desk_store.specs.Keeping.{IsKnownOf, IsSomeDesk, Tells, TellsKnown};
 ghost use Rattle.desk_store.specs.Left.{Left, AddsOnly, IsAsKept, IsCommitted, IsDeskOf};
 ghost use Rattle.desk_store.specs.Left.{IsNothingOrFresh, IsReplacedOrNot, IsWithOrWithout};

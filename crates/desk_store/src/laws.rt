@@ -3,10 +3,10 @@
 
 ghost use Rattle.std.specs.Prelude.{◌≡◌, ℕ, List, IsUtf8};
 ghost use Rattle.sqlite.specs.Effect.{Database};
-ghost use Rattle.desk_tables.specs.Kept.{HoldsText};
-ghost use Rattle.desk_tables.specs.Stored.{content_of};
-ghost use Rattle.desk_schema.specs.Shapes.{IsVacant};
-ghost use Rattle.desk_opening.specs.Opened.{IsKept, IsOldDesk};
+ghost use Rattle.store_tables.specs.Kept.{HoldsText};
+ghost use Rattle.store_tables.specs.Stored.{content_of};
+ghost use Rattle.store_schema.specs.Shapes.{IsVacant};
+ghost use Rattle.store_opening.specs.Opened.{IsKept, IsOldDesk};
 ghost use Rattle.desk_store.specs.Crash.{IsFound};
 ghost use Rattle.desk_store.specs.Left.{IsFoundAs, Left as AnyLeft};
 

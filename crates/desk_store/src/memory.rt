@@ -2,7 +2,7 @@
 
 ghost use Rattle.std.specs.Prelude.{◌≡◌, ◌≢◌, ⊤, [], None, AllPairs, Err, IfOk, OnOk};
 ghost use Rattle.std.specs.Prelude.{IsSome, unwrap_or};
-ghost use Rattle.desk_tables.specs.Sets.{Lists};
+ghost use Rattle.store_tables.specs.Sets.{Lists};
 ghost use Rattle.desk_store.specs.Crash.{LeavesContent};
 ghost use Rattle.desk_store.specs.Keeping.{HasFailed};
 ghost use Rattle.desk_store.specs.Left.{AddsOnly, IsDeskOf, LeavesOnly};

@@ -3,18 +3,18 @@
 ghost use Rattle.std.specs.Prelude.{◌≡◌, Contains, IfOk};
 ghost use Rattle.sqlite.specs.Held.{state};
 ghost use Rattle.messages.specs.declared.message.Message.{Message as AnyMessage};
-ghost use Rattle.desk_tables.specs.Kept.{HoldsText};
-ghost use Rattle.desk_tables.specs.Sets.{Lists, SameSet};
-ghost use Rattle.desk_tables.specs.SqliteStates.{IsUp, Rests};
-ghost use Rattle.desk_opening.specs.Opened.{IsKept, IsOldDesk};
+ghost use Rattle.store_tables.specs.Kept.{HoldsText};
+ghost use Rattle.store_tables.specs.Sets.{Lists, SameSet};
+ghost use Rattle.store_tables.specs.SqliteStates.{IsUp, Rests};
+ghost use Rattle.store_opening.specs.Opened.{IsKept, IsOldDesk};
 ghost use Rattle.desk_store.specs.private.Replacing.{IsEither, Replaces};
 
 use crate::collected::Collected;
-use desk_migration::migrate;
-use desk_opening::{Contents, Found, Stored, look};
-use desk_tables::{Fault, replace};
 use sqlite::{Alter, Connection};
 use std::alloc::Global;
+use store_migration::migrate;
+use store_opening::{Contents, Found, Stored, look};
+use store_tables::{Fault, replace};
 use sudo_words::NoMemory;
 
 /// The messages, each once.

@@ -1,7 +1,7 @@
 //! What a crash leaves of a connection at rest.
 
 ghost use Rattle.sqlite.specs.Held.{state};
-ghost use Rattle.desk_tables.specs.SqliteStates.{IsUp, Rests};
+ghost use Rattle.store_tables.specs.SqliteStates.{IsUp, Rests};
 ghost use Rattle.desk_store.specs.Crash.{MayShow};
 ghost use Rattle.desk_store.specs.private.Survival.{Settled};
 

@@ -3,13 +3,13 @@
 ghost use Rattle.std.specs.Prelude.{◌≡◌, ◌↔◌, false, IfSome};
 ghost use Rattle.sqlite.specs.State.{HasCleanDisk};
 ghost use Rattle.sqlite.specs.Held.{state};
-ghost use Rattle.desk_tables.specs.Kept.{HoldsText};
-ghost use Rattle.desk_tables.specs.Sets.{SameSet};
-ghost use Rattle.desk_tables.specs.SqliteStates.{IsUp, Rests};
-ghost use Rattle.desk_tables.specs.Stored.{content_of};
-ghost use Rattle.desk_schema.specs.Beside.{StandsBeside};
-ghost use Rattle.desk_schema.specs.Shapes.{IsVacant};
-ghost use Rattle.desk_opening.specs.Opened.{IsKept, IsOldDesk};
+ghost use Rattle.store_tables.specs.Kept.{HoldsText};
+ghost use Rattle.store_tables.specs.Sets.{SameSet};
+ghost use Rattle.store_tables.specs.SqliteStates.{IsUp, Rests};
+ghost use Rattle.store_tables.specs.Stored.{content_of};
+ghost use Rattle.store_schema.specs.Beside.{StandsBeside};
+ghost use Rattle.store_schema.specs.Shapes.{IsVacant};
+ghost use Rattle.store_opening.specs.Opened.{IsKept, IsOldDesk};
 ghost use Rattle.outcomes.specs.Gathered.{AreGathered};
 ghost use Rattle.desk_store.specs.Crash.{MayLeave};
 ghost use Rattle.desk_store.specs.private.Props.{Rests-prop};
@@ -23,13 +23,13 @@ use crate::gathering::{gather_in, known_of};
 use crate::keeper::Keeper;
 use crate::replacing::replace_in;
 use crate::settled::{may_show, settles};
-use desk_opening::{Contents, Found as InDatabase, look, messages_of};
-use desk_schema::{is_ready, make};
-use desk_tables::{Fault, arrive};
 use messages::Message;
 use outcomes::Gathered;
 use sqlite::{Alter, Connection};
 use std::alloc::Global;
+use store_opening::{Contents, Found as InDatabase, look, messages_of};
+use store_schema::{is_ready, make};
+use store_tables::{Fault, arrive};
 
 /// A desk in a database over any store, or a database that has none. Between calls all that it
 /// shows is committed.

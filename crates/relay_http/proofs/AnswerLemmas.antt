@@ -13,7 +13,7 @@ use Rattle.roster.specs.Fields.{Reading, RosterFields}
 use Rattle.roster.specs.Rules.{is_among}
 use Rattle.grants.specs.declared.denial.Denial.TheVariants as denials
 use Rattle.outcomes.specs.HostFile.{Line, AreLines, IsHostFile, IsHostFileAfter, lines_after, with_lines}
-use Rattle.desk_schema.specs.Beside.{TableWithRows}
+use Rattle.store_schema.specs.Beside.{TableWithRows}
 use Rattle.desk_store.specs.Left.{AddsOnly}
 use Rattle.desk_store.specs.Serving.{IsServed}
 use Rattle.desk_store.specs.declared.keeper.Keeper.{Ghosts}

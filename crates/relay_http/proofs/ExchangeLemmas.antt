@@ -9,7 +9,7 @@ use Rattle.httparse.proofs.GrammarLemmas.{request_unique}
 use Rattle.sudo_policy.specs.declared.entry.Entry.{Entry}
 use Rattle.messages.specs.declared.message.Message.{Message}
 use Rattle.roster.specs.Fields.{Reading}
-use Rattle.desk_schema.specs.Beside.{TableWithRows}
+use Rattle.store_schema.specs.Beside.{TableWithRows}
 use Rattle.desk_store.specs.Keeping.{HasFailed}
 use Rattle.desk_store.specs.Serving.{IsServed}
 use Rattle.desk_store.proofs.ServingLemmas.{served_as}

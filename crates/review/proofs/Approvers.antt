@@ -25,8 +25,8 @@ use Rattle.review.specs.declared.reason.Reason.{Reason}
 use Rattle.review.specs.Barred.{AreBarredLines, HasApproved, HasApprovedAt, IsWhy, barred_for, reason}
 use Rattle.review.specs.Report.{AreAll}
 use Rattle.review.specs.private.Whys.{both, joined, whys}
-use Rattle.sorting.specs.Lists.{AreParts, text_order}
-use Rattle.sorting.proofs.Lists.{contains_map}
+use Rattle.sudo_words.specs.Lists.{AreParts, text_order}
+use Rattle.sudo_words.proofs.Lists.{contains_map}
 use Rattle.review.proofs.ReportLaws.{barred_is_not_eligible, unbarred_is_eligible}
 
 -- ---- orders

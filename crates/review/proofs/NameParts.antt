@@ -6,7 +6,7 @@ use Rattle.messages.specs.declared.message.Message.{Message}
 use Rattle.roster.specs.Fields.{RosterFields}
 use Rattle.grants.specs.Summaries.{Kept}
 use Rattle.review.specs.declared.names.Parts.{Parts}
-use Rattle.sorting.specs.Lists.{AreParts}
+use Rattle.sudo_words.specs.Lists.{AreParts}
 use Rattle.review.specs.private.Names.{AddsName, AreBarredOf, AreBroadOf, AreLiveOf, HaveNames}
 use Rattle.review.specs.private.Reporting.{AddsLines}
 use Rattle.review.proofs.ReportLists.{more_lines}

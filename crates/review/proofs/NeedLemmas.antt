@@ -13,8 +13,8 @@ use Rattle.sudo_beyond.specs.Cases.{product}
 use Rattle.review.specs.Needs.{IsNeedBeyond, IsNeedOn, IsNeedOver, grant_scope, own_policy}
 use Rattle.review.specs.private.Reporting.{over_both}
 use Rattle.std.proofs.lemmas.List.Elements.{Contains-append_left, Contains-push, Contains-push_cases}
-use Rattle.sorting.proofs.Lists.{take_next}
-use Rattle.sorting.proofs.OneSorted.{no_element}
+use Rattle.sudo_words.proofs.Lists.{take_next}
+use Rattle.sudo_words.proofs.OneSorted.{no_element}
 use Rattle.sudo_beyond.proofs.OneList.{one_list_of_each}
 
 -- few cases are not too many

@@ -32,8 +32,8 @@ use Rattle.outcomes.proofs.GrantedRules.{Fits, fits_from_yes, grant_answers, yes
 use Rattle.outcomes.proofs.Headline.{Grants, entries_of_rules, line_grants, one_says_yes, silent_lines, some_grants}
 use Rattle.outcomes.proofs.Membership.{Contains-from_get}
 use Rattle.sudo_beyond.specs.Beyond.{Allows, IsInvocation}
-use Rattle.sorting.proofs.Lists.{contains_head, contains_map}
-use Rattle.sorting.proofs.OneSorted.{cons_cases, no_element}
+use Rattle.sudo_words.proofs.Lists.{contains_head, contains_map}
+use Rattle.sudo_words.proofs.OneSorted.{cons_cases, no_element}
 use Rattle.review.specs.declared.need.Need.TheVariants.{Needless}
 use Rattle.review.specs.Needs.{IsNeed, is_same_name, lines_without, own_policy}
 use Rattle.review.proofs.ReportLaws.{needless_gives_nothing}

@@ -12,8 +12,8 @@ use Rattle.messages.proofs.NameOrder.{less_from_lower}
 use Rattle.grants.specs.Summaries.{Kept, StandsFor}
 use Rattle.outcomes.specs.Order.{AllAfter, AreInOrder}
 use Rattle.outcomes.specs.Summaries.{AreSummaries, SummaryPrecedes}
-use Rattle.sorting.proofs.Lists.{contains_head, contains_map}
-use Rattle.sorting.proofs.OneSorted.{cons_cases, no_element}
+use Rattle.sudo_words.proofs.Lists.{contains_head, contains_map}
+use Rattle.sudo_words.proofs.OneSorted.{cons_cases, no_element}
 use Rattle.review.specs.Report.{AreAll, IsAsked}
 use Rattle.review.specs.private.Reporting.{kept_name}
 

@@ -17,7 +17,7 @@ use Rattle.roster.proofs.RightLemmas.{against_alike, eligible_until, same_ceilin
 use Rattle.grants.specs.Past.{AreMadeBy}
 use Rattle.grants.specs.declared.outcome.Window.{Window}
 use Rattle.grants.proofs.PastLaws.{judge_alike, status}
-use Rattle.sorting.specs.Lists.{AreParts, IsEachOnce}
+use Rattle.sudo_words.specs.Lists.{AreParts, IsEachOnce}
 use Rattle.review.specs.declared.reason.Reason.{Reason}
 use Rattle.review.specs.declared.reason.Reason.TheVariants.{Asker, Duty, Conflict}
 use Rattle.review.specs.Barred.{AreBarredLines, HasApprovedAt, IsWhy, approval, reason}

@@ -5,10 +5,10 @@ use Rattle.std.specs.List.{AllByRecursion, flat_map}
 use Rattle.std.specs.Prelude.{codes}
 use Rattle.std.proofs.lemmas.Grind.{flat_map-append}
 use Rattle.std.proofs.lemmas.List.{append-nil, map-append, take_all}
-use Rattle.sorting.specs.Lists.{AreParts}
+use Rattle.sudo_words.specs.Lists.{AreParts}
 use Rattle.review.specs.Columns.{lines_text}
 use Rattle.review.specs.private.Reporting.{AddsLines}
-use Rattle.sorting.proofs.Lists.{parts_more, take_next}
+use Rattle.sudo_words.proofs.Lists.{parts_more, take_next}
 
 pub lines_both : (xs ys : List (List ℕ)) → lines_text (xs ++ ys) ≡ lines_text xs ++ lines_text ys
 lines_both xs ys = flat_map-append (λ (line : List ℕ). line ++ codes "\n") xs ys

@@ -23,13 +23,13 @@ use Rattle.outcomes.proofs.SetLemmas.{one_parked, parked_of_set}
 use Rattle.review.specs.declared.need.Need.{Need}
 use Rattle.review.specs.declared.reason.Reason.{Reason}
 use Rattle.review.specs.Barred.{AreBarredLines, HasApproved, HasApprovedAt, IsWhy, approval, barred_for, reason}
-use Rattle.sorting.specs.Lists.{AreParts, text_order}
+use Rattle.sudo_words.specs.Lists.{AreParts, text_order}
 use Rattle.review.specs.Columns.{lines_text}
 use Rattle.review.specs.Needs.{IsNeedOn, grant_scope, own_policy}
 use Rattle.review.specs.Report.{AreAll, AreBarred, AreBarredUnder, AreBroadLines, AreInForce, BarredLines, IsAsked, IsLiveLine, IsOnlyRequest}
 use Rattle.review.specs.Report.{IsReport, LinesInForce, conflicts_of, is_open, lesser_first, live_line, report_lines}
 use Rattle.review.proofs.NeedLemmas.{one_need_beyond, one_need_over}
-use Rattle.sorting.proofs.OneSorted.{one_once, one_sorted}
+use Rattle.sudo_words.proofs.OneSorted.{one_once, one_sorted}
 
 pub names_total : IsTotalOrder name_cmp
 names_total = then_total (on_total (λ (n : RequestName). n.by) nat_list_cmp_total) (on_total (λ (n : RequestName). n.no) nat_cmp_total)

@@ -15,7 +15,7 @@ use Rattle.grants.specs.declared.outcome.Window.{Window}
 use Rattle.grants.proofs.LawfulRules.{extended_policy}
 use Rattle.grants.proofs.RuleLemmas.{span_grants}
 use Rattle.sudo_beyond.proofs.Answered.{beyond_or_not, few_or_many}
-use Rattle.sorting.proofs.Lists.{contains_head}
+use Rattle.sudo_words.proofs.Lists.{contains_head}
 use Rattle.review.specs.declared.need.Need.{Need}
 use Rattle.review.specs.declared.need.Need.TheVariants.{Needed, Needless, Unknown}
 use Rattle.review.specs.Needs.{IsNeed, IsNeedOn, IsNeedOver, grant_scope, own_policy}

@@ -29,8 +29,8 @@ use Rattle.grants.specs.private.Noting.{shown}
 use Rattle.grants.proofs.ApprovalLemmas.{are_approvals}
 use Rattle.grants.proofs.SomeStatus.{some_status}
 use Rattle.outcomes.proofs.Existence.{some_parked, some_summaries}
-use Rattle.sorting.specs.Lists.{AreParts, text_order}
-use Rattle.sorting.proofs.Lists.{contains_head}
+use Rattle.sudo_words.specs.Lists.{AreParts, text_order}
+use Rattle.sudo_words.proofs.Lists.{contains_head}
 use Rattle.sudo_beyond.proofs.Existing.{exact_texts, once_of}
 use Rattle.review.specs.declared.reason.Reason.{Reason}
 use Rattle.review.specs.Barred.{barred_for, reason}

@@ -27,7 +27,7 @@ use Rattle.grants.specs.declared.outcome.Window.{Window}
 use Rattle.outcomes.specs.Parked.{AreParked}
 use Rattle.review.specs.declared.need.Need.{Need}
 use Rattle.review.specs.Barred.{AreBarredLines, HasApproved}
-use Rattle.sorting.specs.Lists.{AreParts, IsEachOnce, text_order}
+use Rattle.sudo_words.specs.Lists.{AreParts, IsEachOnce, text_order}
 use Rattle.review.specs.Columns.{left, name_columns, lines_text}
 use Rattle.review.specs.Needs.{IsNeed, need_text}
 

@@ -7,9 +7,8 @@ ghost use Rattle.review.specs.Report as report;
 
 use crate::columns::push_left;
 use roster::Roster;
-use sorting::in_order;
 use std::alloc::Global;
-use sudo_words::{Label, Moment, Name, NoMemory};
+use sudo_words::{Label, Moment, Name, NoMemory, in_order};
 
 /// The two duties, the lesser first.
 fn lesser_first(one: &Label, other: &Label) -> Result<(Label, Label), NoMemory>

@@ -4,7 +4,7 @@ ghost use Rattle.std.specs.Prelude.{◌≡◌, ◌↔◌, ℕ, ◌++◌, List, [
 ghost use Rattle.std.specs.Prelude.{Some, None, codes, map, true, false};
 ghost use Rattle.std.specs.List.{flat_map};
 ghost use Rattle.std.specs.declared.cmp.Ordering.TheVariants.{Less};
-ghost use Rattle.sorting.specs.Lists.{text_order};
+ghost use Rattle.sudo_words.specs.Lists.{text_order};
 ghost use Rattle.sudo_words.specs.Moment.{IsMoment};
 ghost use Rattle.sudo_words.specs.declared.cmnd.Cmnd.{Cmnd};
 ghost use Rattle.sudo_policy.specs.declared.entry.Entry.{Entry};

@@ -3,8 +3,8 @@ use Rattle.std.proofs.Common.{◌≡◌, ◌<◌, ℕ, suc, Bool, false, ◌&&�
 use Rattle.std.specs.List.{list_all, list_any}
 use Rattle.std.specs.Str.{bytes_eq}
 use Rattle.std.proofs.lemmas.Slice.Eq.{bytes_eq-Decides}
-use Rattle.sorting.specs.Lists.{IsEachOnce}
-use Rattle.sorting.proofs.Lists.{any_once}
+use Rattle.sudo_words.specs.Lists.{IsEachOnce}
+use Rattle.sudo_words.proofs.Lists.{any_once}
 use Rattle.sudo_words.specs.declared.cmnd.Cmnd.{Cmnd}
 use Rattle.roster.specs.Fields.{RosterFields}
 use Rattle.roster.specs.Relations.{text_order}

@@ -6,7 +6,7 @@ ghost use Rattle.std.specs.List.{list_all, list_any};
 ghost use Rattle.std.specs.Str.{bytes_eq};
 ghost use Rattle.roster.specs.Relations.{text_order};
 ghost use Rattle.roster.specs.private.LookupOrders.{AreTextsInOrder};
-ghost use Rattle.sorting.specs.Lists.{IsEachOnce};
+ghost use Rattle.sudo_words.specs.Lists.{IsEachOnce};
 ghost use Rattle.roster.specs.Rules as rules;
 
 use crate::ceiling::Ceiling;
@@ -14,9 +14,8 @@ use crate::content::Content;
 use crate::days::Days;
 use crate::draft::{Draft, DraftCeiling};
 use crate::text::Text;
-use sorting::{in_order, is_among};
 use std::alloc::AllocError;
-use sudo_words::{Form, HostName, Items, Label, Name, Word};
+use sudo_words::{Form, HostName, Items, Label, Name, Word, in_order, is_among};
 
 /// The words, each once, in byte order; an error where memory runs out.
 fn copy_in_order<F: Form + Clone>(words: &Items<Word<F>>) -> Result<Items<Word<F>>, AllocError>

@@ -31,7 +31,7 @@ use Rattle.sudo_beyond.specs.declared.cases.Cases.{Cases}
 use Rattle.sudo_beyond.specs.declared.run.Run.{Run}
 use Rattle.sudo_beyond.specs.declared.size.Size.{Size}
 use Rattle.sudo_beyond.specs.Standing.{users, hosts, runas, commands}
-use Rattle.sorting.specs.Lists.{text_order, args_order, IsEachOnce, AreParts}
+use Rattle.sudo_words.specs.Lists.{text_order, args_order, IsEachOnce, AreParts}
 use Rattle.sudo_beyond.specs.Cases.{AreNamesAndOther, AreNameCases, run_of, path_in, paths, dir_in, dirs, listed_args, args_in, args_with}
 use Rattle.sudo_beyond.specs.Cases.{ArePathCases, IsFreshFile, AreCommandCases, turns_of, turns, AreMomentCases, AreCases, product}
 use Rattle.sudo_beyond.specs.Answer.{AreFew, most_cases}
@@ -41,8 +41,8 @@ use Rattle.sudo_beyond.proofs.AlikeLemmas.{all_weaker}
 use Rattle.sudo_beyond.proofs.CmndCases.{args_decides, args_few, paths_few}
 use Rattle.sudo_beyond.proofs.Counting.{flat_long, is_counted}
 use Rattle.sudo_beyond.proofs.Fresh.{found_other}
-use Rattle.sorting.proofs.Lists.{contains_head}
-use Rattle.sorting.proofs.OneSorted.{cons_cases}
+use Rattle.sudo_words.proofs.Lists.{contains_head}
+use Rattle.sudo_words.proofs.OneSorted.{cons_cases}
 
 -- ---- lists of at most so many elements
 

@@ -8,7 +8,7 @@ use Rattle.std.proofs.lemmas.Grind.{flat_map-append}
 use Rattle.sudo_decide.specs.declared.invocation.Invocation.{Invocation}
 use Rattle.sudo_beyond.specs.Answer.{IsFirst, FirstOf}
 use Rattle.sudo_beyond.proofs.AlikeLemmas.{all_append, all_front, all_back}
-use Rattle.sorting.proofs.Lists.{take_next}
+use Rattle.sudo_words.proofs.Lists.{take_next}
 
 -- P holds of none of the cases
 abbrev pub NoGap : (Invocation → Type 0) → List Invocation → Type 0

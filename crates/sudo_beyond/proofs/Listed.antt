@@ -20,13 +20,13 @@ use Rattle.sudo_words.specs.declared.cmnd.ArgRule.TheVariants.{Any, Empty, Exact
 use Rattle.sudo_policy.specs.declared.entry.Rule.{Rule}
 use Rattle.sudo_beyond.specs.declared.run.Run.{Run}
 use Rattle.sudo_beyond.specs.Beyond.{Agrees}
-use Rattle.sorting.specs.Lists.{text_order, IsEachOnce, AreParts}
+use Rattle.sudo_words.specs.Lists.{text_order, IsEachOnce, AreParts}
 use Rattle.sudo_beyond.specs.Cases.{other, IsFirstOther, has, AreNameCases, run_of, paths, dirs, args_with, args_in}
 use Rattle.sudo_beyond.specs.Cases.{listed_args, has_args, ArePathCases, IsFreshFile, AreCommandCases, AreMomentCases, turns}
 use Rattle.sudo_beyond.specs.private.Gathering.{IsFormOfOthers, IsLawfulDir}
 use Rattle.sudo_beyond.proofs.AlikeLemmas.{all_weaker, all_append, all_flat}
 use Rattle.sudo_beyond.proofs.CmndCases.{args_decides, args_few, paths_few, files_in_dir, files_in_root}
-use Rattle.sorting.proofs.Lists.{any_contains, contains_map, contains_head}
+use Rattle.sudo_words.proofs.Lists.{any_contains, contains_map, contains_head}
 use Rattle.sudo_beyond.proofs.NameCases.{other_arg}
 use Rattle.sudo_beyond.proofs.OneCase.{IsNameCase, IsArgsCase, IsCmndCase, IsMomentCase}
 use Rattle.sudo_beyond.proofs.Others.{one_first, number_low}

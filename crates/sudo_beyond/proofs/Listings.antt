@@ -19,11 +19,11 @@ use Rattle.sudo_words.specs.declared.cmnd.Cmnd.{Cmnd}
 use Rattle.sudo_words.specs.declared.cmnd.Cmnd.TheVariants.{All, Path, Dir}
 use Rattle.sudo_words.specs.declared.cmnd.ArgRule.TheVariants.{Any, Empty, Exactly}
 use Rattle.sudo_beyond.specs.declared.run.Run.{Run}
-use Rattle.sorting.specs.Lists.{text_order, args_order, IsEachOnce}
+use Rattle.sudo_words.specs.Lists.{text_order, args_order, IsEachOnce}
 use Rattle.sudo_beyond.specs.Cases.{args_in, args_with}
 use Rattle.sudo_beyond.specs.private.Gathering.{run_order, listing_in, listings, args_if, args_at, AreListings}
 use Rattle.sudo_beyond.proofs.CmndCases.{args_decides}
-use Rattle.sorting.proofs.Halving.{index_lt, index_eq, answers_rise}
+use Rattle.sudo_words.proofs.Halving.{index_lt, index_eq, answers_rise}
 
 -- ---- those of one path, among the listings and among the commands
 

@@ -9,10 +9,10 @@ use Rattle.sudo_beyond.specs.declared.cases.Cases.{Cases}
 use Rattle.sudo_beyond.specs.declared.run.Run.{Run}
 use Rattle.sudo_decide.specs.declared.scope.Scope.{Scope}
 use Rattle.sudo_beyond.specs.Standing.{users, hosts, runas, commands}
-use Rattle.sorting.specs.Lists.{args_order, AreParts}
+use Rattle.sudo_words.specs.Lists.{args_order, AreParts}
 use Rattle.sudo_beyond.specs.Cases.{has, has_args, args_with, paths, dirs, run_of, AreNameCases, ArePathCases, IsFreshFile, AreCommandCases, AreCases}
-use Rattle.sorting.proofs.Lists.{one_parts}
-use Rattle.sorting.proofs.OneSorted.{one_once}
+use Rattle.sudo_words.proofs.Lists.{one_parts}
+use Rattle.sudo_words.proofs.OneSorted.{one_once}
 use Rattle.sudo_beyond.proofs.Others.{one_first}
 
 -- ---- names

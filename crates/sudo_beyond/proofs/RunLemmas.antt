@@ -9,11 +9,11 @@ use Rattle.std.proofs.lemmas.List.Elements.{All-weaker, All-contains, All-contai
 use Rattle.std.proofs.lemmas.Slice.Eq.{bytes_eq-Decides}
 use Rattle.sudo_words.specs.declared.cmnd.Cmnd.{Cmnd}
 use Rattle.sudo_beyond.specs.declared.run.Run.{Run}
-use Rattle.sorting.specs.Lists.{text_order, args_order, IsEachOnce, AreParts}
+use Rattle.sudo_words.specs.Lists.{text_order, args_order, IsEachOnce, AreParts}
 use Rattle.sudo_beyond.specs.Cases.{IsFirstOther, has, run_of, paths, dirs, args_with, has_args, ArePathCases, IsFreshFile, AreCommandCases}
 use Rattle.sudo_beyond.specs.private.Gathering.{IsFreeFile, IsFreeArgs, Adds}
 use Rattle.sudo_beyond.proofs.CmndCases.{args_decides}
-use Rattle.sorting.proofs.Lists.{any_once, take_next, parts_more, parts_weaker}
+use Rattle.sudo_words.proofs.Lists.{any_once, take_next, parts_more, parts_weaker}
 
 -- comparing two lists of arguments in either order gives the same
 pub args_either_way : (lists : List (List (List ℕ))) (args : List (List ℕ)) → list_any (λ wanted. pointwise bytes_eq wanted args) lists ≡ has_args lists args

@@ -20,7 +20,7 @@ use Rattle.sudo_beyond.proofs.Counting.{is_counted}
 use Rattle.sudo_beyond.proofs.Everywhere.{beyond_at_case}
 use Rattle.sudo_beyond.proofs.Gaps.{NoGap}
 use Rattle.sudo_beyond.proofs.Listed.{IsRun, name_listed, names_formed, run_listed, runs_formed, moment_listed, moments_formed}
-use Rattle.sorting.proofs.Lists.{contains_map}
+use Rattle.sudo_words.proofs.Lists.{contains_map}
 use Rattle.sudo_beyond.proofs.NameCases.{other_name, other_host}
 use Rattle.sudo_beyond.proofs.PolicyForms.{are_users, are_hosts, are_targets, are_lawful, are_turns}
 

@@ -4,10 +4,9 @@ ghost use Rattle.std.specs.Prelude.{◌≡◌, ◌++◌, IfOk, OnOk};
 ghost use Rattle.sudo_decide.specs.Reach.{rule_in, rules_in};
 ghost use Rattle.sudo_beyond.specs.Cases.{AreMomentCases, moment_after, turns_of, turns};
 
-use sorting::in_order;
 use std::alloc::Global;
 use sudo_policy::{Entry, Policy, Rule};
-use sudo_words::{Items, Moment, NoMemory};
+use sudo_words::{Items, Moment, NoMemory, in_order};
 
 fn push_moment_after(moments: &mut Vec<Moment>, last: Option<Moment>) -> Result<(), NoMemory>
     ensures { OnOk result (moments.new.items ≡ moments.old.items ++ moment_after last) }

@@ -5,9 +5,8 @@ ghost use Rattle.sudo_beyond.specs.Cases.{AreNameCases, AreNamesAndOther};
 ghost use Rattle.sudo_beyond.specs.private.Gathering.{IsFormOfOthers};
 
 use crate::other::first_other;
-use sorting::in_order;
 use std::alloc::Global;
-use sudo_words::{Form, Items, NoMemory, Word};
+use sudo_words::{Form, Items, NoMemory, Word, in_order};
 
 /// The names in `standing`, each once, in byte order, and then the first other name.
 fn names_and_other<F: Form>(

@@ -2,13 +2,12 @@
 
 ghost use Rattle.std.specs.Prelude.{◌≡◌, ◌<◌, true, IfOk};
 ghost use Rattle.std.specs.List.Sorted.{IsStrictlySortedBy};
-ghost use Rattle.sorting.specs.Lists.{text_order};
+ghost use Rattle.sudo_words.specs.Lists.{text_order};
 ghost use Rattle.sudo_beyond.specs.Cases.{other as word_of, IsFirstOther, has};
 ghost use Rattle.sudo_beyond.specs.private.Gathering.{IsFormOfOthers};
 
-use sorting::is_among;
 use std::alloc::Global;
-use sudo_words::{Form, NoMemory, Word};
+use sudo_words::{Form, NoMemory, Word, is_among};
 
 /// The word `other` and this number.
 pub fn other<F: Form>(alloc: Global, number: usize) -> Result<Word<F>, NoMemory>

@@ -5,7 +5,7 @@ ghost use Rattle.std.specs.List.{All};
 ghost use Rattle.std.specs.List.Sorted.{IsStrictlySortedBy};
 ghost use Rattle.sudo_words.specs.Word.{is_file_path};
 ghost use Rattle.sudo_words.specs.declared.cmnd.Cmnd.{Cmnd as AnyCmnd};
-ghost use Rattle.sorting.specs.Lists.{text_order, args_order, IsEachOnce, AreParts};
+ghost use Rattle.sudo_words.specs.Lists.{text_order, args_order, IsEachOnce, AreParts};
 ghost use Rattle.sudo_beyond.specs.Cases.{other as word_of, run_of, dirs as dirs_of};
 ghost use Rattle.sudo_beyond.specs.Cases.{ArePathCases, IsFreshFile, AreCommandCases};
 ghost use Rattle.sudo_beyond.specs.private.Gathering.{IsLawfulDir, IsFreeFile, IsFreeArgs};
@@ -16,9 +16,8 @@ ghost use Rattle.sudo_beyond.specs.private.Gathering.{AreListings};
 use crate::commands::{dirs, paths};
 use crate::other::other;
 use crate::run::{Args, Run};
-use sorting::{in_order, is_among};
 use std::alloc::Global;
-use sudo_words::{Arg, ArgRule, Cmnd, DirPath, FilePath, Items, NoMemory};
+use sudo_words::{Arg, ArgRule, Cmnd, DirPath, FilePath, Items, NoMemory, in_order, is_among};
 
 fn copied_path(path: &FilePath) -> Result<FilePath, NoMemory>
     ensures { IfOk result (λ x. x ≡ path.now) }

@@ -9,3 +9,6 @@ pub mod PathLemmas
 pub mod PieceLemmas
 pub mod ReadingLemmas
 pub mod WorkedMoments
+pub mod Lists
+pub mod OneSorted
+pub mod Halving

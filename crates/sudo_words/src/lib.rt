@@ -1,4 +1,4 @@
-//! Words of sudoers texts: names, paths, arguments, commands and moments.
+//! Words of sudoers texts: names, paths, arguments, commands and moments; and lists in order.
 #![tactic(auto)]
 
 mod alias;
@@ -17,6 +17,7 @@ pub mod laws;
 mod moment;
 mod moment_laws;
 mod name;
+mod order;
 mod parts;
 mod path;
 mod word;
@@ -34,5 +35,6 @@ pub use keyword::{is_keyword, is_sudoedit};
 pub use lawful::{MOST_ARGS, cmnd_len, is_lawful};
 pub use moment::Moment;
 pub use name::{HostForm, HostName, Label, LabelForm, Name, UserForm};
+pub use order::{in_order, is_among};
 pub use path::{DirForm, DirPath, FileForm, FilePath};
 pub use word::{Form, Word};

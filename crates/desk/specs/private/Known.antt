@@ -2,7 +2,7 @@
 use Rattle.std.specs.Prelude.{◌≡◌, ℕ, List, [], Option, Some, None, IfSome}
 use Rattle.messages.specs.declared.message.Message.{Message}
 use Rattle.outcomes.specs.Gathered.{AreGathered}
-use Rattle.desk_tables.specs.Sets.{IsNothing, Lists}
+use Rattle.store_tables.specs.Sets.{IsNothing, Lists}
 use Rattle.desk_store.specs.Keeping.{IsKnownOf}
 use Rattle.desk.specs.Count.{IsCount}
 use Rattle.desk.specs.declared.loading.Known.{Known}

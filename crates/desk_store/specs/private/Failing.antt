@@ -2,8 +2,8 @@
 use Rattle.std.specs.Prelude.{◌≡◌, ⊤}
 use Rattle.sqlite.specs.declared.error.Error.TheVariants.{SqliteFailure}
 use Rattle.sqlite.specs.declared.error.ErrorCode.TheVariants.{OutOfMemory}
-use Rattle.desk_tables.specs.declared.fault.Fault.{Fault}
-use Rattle.desk_tables.specs.declared.fault.Fault.TheVariants as fault
+use Rattle.store_tables.specs.declared.fault.Fault.{Fault}
+use Rattle.store_tables.specs.declared.fault.Fault.TheVariants as fault
 
 -- a growth was refused, here or within the database
 abbrev pub IsOfMemory : Fault → Type 0

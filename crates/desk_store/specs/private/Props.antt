@@ -8,7 +8,7 @@ use Rattle.sqlite_schema.specs.contracts.schema.Schema as schema
 use Rattle.sqlite_trees.specs.Props.{Trees-set}
 use Rattle.sqlite.specs.Effect.{Database}
 use Rattle.sqlite.specs.State.{State}
-use Rattle.desk_tables.specs.SqliteStates.{IsAtRest, Rests}
+use Rattle.store_tables.specs.SqliteStates.{IsAtRest, Rests}
 
 Schema-set : IsSet Schema
 Schema-set = Coded-set schema.the_row.coded

@@ -3,10 +3,10 @@ use Rattle.std.specs.Prelude.{◌≡◌, ◌⊎◌, List, ℕ, OnOk, OnErr, Resu
 use Rattle.sqlite.specs.Tree.{Trees}
 use Rattle.sqlite.specs.Effect.{Database, IsDatabase}
 use Rattle.sqlite.specs.State.{HasCleanDisk, State, Survives}
-use Rattle.desk_tables.specs.SqliteStates.{IsUp, Rests}
-use Rattle.desk_tables.specs.Stored.{content_of, with_roster}
-use Rattle.desk_schema.specs.Beside.{KeepsBeside}
-use Rattle.desk_opening.specs.Opened.{IsKept, IsOldDesk}
+use Rattle.store_tables.specs.SqliteStates.{IsUp, Rests}
+use Rattle.store_tables.specs.Stored.{content_of, with_roster}
+use Rattle.store_schema.specs.Beside.{KeepsBeside}
+use Rattle.store_opening.specs.Opened.{IsKept, IsOldDesk}
 
 -- a desk of either form
 abbrev pub IsEither : Database → Type 0

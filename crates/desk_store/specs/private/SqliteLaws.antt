@@ -2,11 +2,11 @@
 use Rattle.std.specs.Prelude.{◌≡◌}
 use Rattle.std.proofs.Common.{refl, sym, ◌∙◌, subst, ap}
 use Rattle.sqlite.specs.Effect.{Database}
-use Rattle.desk_tables.specs.Kept.{HoldsText}
-use Rattle.desk_tables.specs.Sets.{SameSet}
-use Rattle.desk_tables.specs.Stored.{content_of}
-use Rattle.desk_schema.specs.Shapes.{IsVacant}
-use Rattle.desk_opening.specs.Opened.{IsKept, IsOldDesk}
+use Rattle.store_tables.specs.Kept.{HoldsText}
+use Rattle.store_tables.specs.Sets.{SameSet}
+use Rattle.store_tables.specs.Stored.{content_of}
+use Rattle.store_schema.specs.Shapes.{IsVacant}
+use Rattle.store_opening.specs.Opened.{IsKept, IsOldDesk}
 
 pub same_itself : (a : Database) → a ≡ a
 same_itself a = refl

@@ -2,10 +2,10 @@
 use Rattle.std.specs.Prelude.{◌≡◌}
 use Rattle.sqlite.specs.Effect.{Database}
 use Rattle.sqlite.specs.State.{State}
-use Rattle.desk_tables.specs.SqliteStates.{IsUp}
-use Rattle.desk_tables.specs.Stored.{content_of}
-use Rattle.desk_schema.specs.Shapes.{IsVacant}
-use Rattle.desk_opening.specs.Opened.{IsKept, IsOldDesk}
+use Rattle.store_tables.specs.SqliteStates.{IsUp}
+use Rattle.store_tables.specs.Stored.{content_of}
+use Rattle.store_schema.specs.Shapes.{IsVacant}
+use Rattle.store_opening.specs.Opened.{IsKept, IsOldDesk}
 use Rattle.desk_store.specs.Crash.{MayShow}
 
 -- The second database keeps the same of a desk as the first, whatever else its schema has.

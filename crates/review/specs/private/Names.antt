@@ -7,7 +7,7 @@ use Rattle.messages.specs.declared.message.Message.{Message}
 use Rattle.roster.specs.Fields.{RosterFields}
 use Rattle.grants.specs.Summaries.{Kept}
 use Rattle.review.specs.declared.names.Parts.{Parts}
-use Rattle.sorting.specs.Lists.{AreParts}
+use Rattle.sudo_words.specs.Lists.{AreParts}
 use Rattle.review.specs.Report.{AreBarred, AreBroadLines, AreInForce, IsLiveLine}
 use Rattle.review.specs.private.Reporting.{AddsLines, kept_name}
 

@@ -11,7 +11,7 @@ use Rattle.sudo_words.specs.declared.cmnd.Cmnd.TheVariants as cmnd_of
 use Rattle.sudo_words.specs.Word.{is_dir_path}
 use Rattle.sudo_words.specs.Command.{most_path_bytes}
 use Rattle.sudo_beyond.specs.declared.run.Run.{Run}
-use Rattle.sorting.specs.Lists.{text_order, args_order, IsEachOnce}
+use Rattle.sudo_words.specs.Lists.{text_order, args_order, IsEachOnce}
 use Rattle.sudo_beyond.specs.Cases.{other, IsFirstOther, has, has_args, listed_args, run_of}
 
 -- each other word has the form, as far as a machine can count

@@ -1,5 +1,5 @@
 use Rattle.std.proofs.Common.{refl, inl, inr}
-use Rattle.desk_tables.specs.Sets.{SameSet}
+use Rattle.store_tables.specs.Sets.{SameSet}
 use Rattle.desk_store.proofs.SameLeft.{same_left}
 use Rattle.desk_store.proofs.OutcomeLemmas.{ok_no_err}
 use Rattle.desk_store.proofs.ServingLemmas.{not_err, served_after, served_at_ok}

@@ -1,6 +1,6 @@
 use Rattle.std.proofs.Common.{◌≡◌, ◌⊎◌, ◌∙◌, ap, inr, subst}
 use Rattle.grants.specs.Bases.{FitsBase}
-use Rattle.desk_tables.specs.Sets.{SameSet}
+use Rattle.store_tables.specs.Sets.{SameSet}
 use Rattle.desk.specs.Rebuilding.{Rebuilds, RefusesToRebuild}
 use Rattle.desk.specs.Refusals.{IsWant}
 use Rattle.desk.specs.declared.refusal.Refusal.TheVariants.{BaseTooLarge}

@@ -1,5 +1,5 @@
 use Rattle.std.proofs.Common.{◌≡◌, ◌∙◌, sym}
-use Rattle.desk_tables.specs.Sets.{SameSet}
+use Rattle.store_tables.specs.Sets.{SameSet}
 use Rattle.desk.specs.Opening.{Opens}
 use Rattle.desk.specs.Same.{AnswerAlike}
 use Rattle.desk.proofs.RestartLemmas.{held_again, of_opened, of_refused, recorded_text, same_answers, set_of_same, was_up_of}

@@ -1,11 +1,11 @@
 use Rattle.std.proofs.Common.{◌≡◌, ◌≢◌, ◌⊎◌, ◌∙◌, ap, sym}
 use Rattle.sqlite.specs.Held.{state}
-use Rattle.desk_tables.specs.Sets.{SameSet}
-use Rattle.desk_tables.specs.SqliteStates.{IsUp}
-use Rattle.desk_tables.specs.Kept.{HoldsText}
-use Rattle.desk_tables.specs.Stored.{content_of}
-use Rattle.desk_schema.specs.Shapes.{IsVacant}
-use Rattle.desk_opening.specs.Opened.{IsKept, IsOldDesk}
+use Rattle.store_tables.specs.Sets.{SameSet}
+use Rattle.store_tables.specs.SqliteStates.{IsUp}
+use Rattle.store_tables.specs.Kept.{HoldsText}
+use Rattle.store_tables.specs.Stored.{content_of}
+use Rattle.store_schema.specs.Shapes.{IsVacant}
+use Rattle.store_opening.specs.Opened.{IsKept, IsOldDesk}
 use Rattle.grants.specs.Bases.{FitsBase}
 use Rattle.desk.specs.Opening.{Opens, Refuses}
 use Rattle.desk.specs.Refusals.{IsWant}

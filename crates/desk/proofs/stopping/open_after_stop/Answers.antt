@@ -1,7 +1,7 @@
 use Rattle.std.proofs.Common.{◌≡◌, ◌⊎◌, Contains}
 use Rattle.messages.specs.declared.message.Message.{Message}
 use Rattle.grants.specs.Bases.{FitsBase}
-use Rattle.desk_tables.specs.Sets.{IsNothing, SameSet, With}
+use Rattle.store_tables.specs.Sets.{IsNothing, SameSet, With}
 use Rattle.desk.specs.Crash.{IsAcceptable}
 use Rattle.desk.specs.Delivery.{AcknowledgesAmong, Delivery}
 use Rattle.desk.specs.Opening.{Opens, Refuses}

@@ -3,8 +3,8 @@ use Rattle.std.specs.Prelude.{Contains}
 use Rattle.sqlite.specs.Held.{state}
 use Rattle.messages.specs.NameRows.{ShowSet}
 use Rattle.messages.specs.declared.message.Message.{Message}
-use Rattle.desk_tables.specs.Kept.{HoldsText}
-use Rattle.desk_schema.proofs.ShapeLemmas.{common_of}
+use Rattle.store_tables.specs.Kept.{HoldsText}
+use Rattle.store_schema.proofs.ShapeLemmas.{common_of}
 use Rattle.outcomes.specs.Gathered.{AreGathered}
 use Rattle.desk_store.specs.Keeping.{IsKnownOf}
 use Rattle.messages.proofs.SetsShown.{shown_too}

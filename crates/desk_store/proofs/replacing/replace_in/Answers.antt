@@ -1,9 +1,9 @@
 use Rattle.sqlite.specs.Held.{state}
 use Rattle.std.proofs.Common.{subst, sym}
 use Rattle.sqlite.specs.Effect.{Database}
-use Rattle.desk_tables.specs.Kept.{HoldsText}
-use Rattle.desk_tables.specs.Sets.{Lists}
-use Rattle.desk_opening.specs.Opened.{IsKept, IsOldDesk}
+use Rattle.store_tables.specs.Kept.{HoldsText}
+use Rattle.store_tables.specs.Sets.{Lists}
+use Rattle.store_opening.specs.Opened.{IsKept, IsOldDesk}
 use Rattle.desk_store.proofs.ReplacingLemmas.{found_older, found_today, read_only, read_refused, then_replaces}
 use Rattle.desk_store.proofs.replacing.replace_in.Goals as goal
 

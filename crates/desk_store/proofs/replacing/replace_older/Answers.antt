@@ -2,8 +2,8 @@ use Rattle.std.proofs.Common.{sym, subst}
 use Rattle.std.specs.Prelude.{List}
 use Rattle.sqlite.specs.Held.{state}
 use Rattle.messages.specs.declared.message.Message.{Message}
-use Rattle.desk_tables.specs.Kept.{HoldsText}
-use Rattle.desk_tables.specs.Sets.{Lists}
+use Rattle.store_tables.specs.Kept.{HoldsText}
+use Rattle.store_tables.specs.Sets.{Lists}
 use Rattle.desk_store.proofs.EachOnce.{lists_same}
 use Rattle.desk_store.proofs.ReplacingLemmas.{nothing_came, nothing_done, older_becomes, older_beside, older_survives}
 use Rattle.desk_store.proofs.replacing.replace_older.Goals as goal

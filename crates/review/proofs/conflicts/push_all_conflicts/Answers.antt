@@ -3,7 +3,7 @@ use Rattle.std.specs.List.{flat_map}
 use Rattle.std.proofs.lemmas.List.{take_all}
 use Rattle.roster.specs.Fields.{Entry}
 use Rattle.roster.specs.Relations.{pair_order}
-use Rattle.sorting.specs.Lists.{IsEachOnce}
+use Rattle.sudo_words.specs.Lists.{IsEachOnce}
 use Rattle.review.specs.Columns.{lines_text}
 use Rattle.review.specs.Report.{conflict_for, conflicts_of, lesser_first}
 use Rattle.review.proofs.ReportLists.{flat_more}

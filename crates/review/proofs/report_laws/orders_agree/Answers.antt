@@ -2,7 +2,7 @@ use Rattle.std.proofs.Common.{◌≡◌, true, List, ℕ, ap, refl}
 use Rattle.std.specs.Ordering.{is_lt}
 use Rattle.std.specs.declared.cmp.Ordering.{Ordering}
 use Rattle.std.specs.declared.cmp.Ordering.TheVariants.{Less, Equal, Greater}
-use Rattle.sorting.specs.Lists.{text_order}
+use Rattle.sudo_words.specs.Lists.{text_order}
 use Rattle.messages.proofs.NameOrder.{less_from_lower, lower_from_less}
 use Rattle.review.proofs.report_laws.orders_agree.Goals as goal
 

@@ -2,7 +2,7 @@ use Rattle.std.proofs.Common.{◌≡◌, ℕ, List, [], ◌∷◌, ◌++◌, sym
 use Rattle.std.specs.Ordering.{nat_cmp}
 use Rattle.std.proofs.lemmas.Grind.{flat_map-append}
 use Rattle.sudo_decide.specs.Reach.{rules_in}
-use Rattle.sorting.specs.Lists.{IsEachOnce}
+use Rattle.sudo_words.specs.Lists.{IsEachOnce}
 use Rattle.sudo_beyond.specs.Cases.{turns_of, turns}
 use Rattle.sudo_beyond.proofs.moments.moment_cases.Goals as goal
 

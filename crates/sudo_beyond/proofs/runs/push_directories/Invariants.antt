@@ -1,5 +1,5 @@
 use Rattle.std.proofs.Common.{take}
-use Rattle.sorting.specs.Lists.{AreParts}
+use Rattle.sudo_words.specs.Lists.{AreParts}
 use Rattle.sudo_beyond.specs.Cases.{IsFreshFile}
 use Rattle.sudo_beyond.specs.private.Gathering.{Adds}
 use Rattle.sudo_beyond.proofs.runs.push_directories.Given as goal

@@ -1,7 +1,7 @@
 use Rattle.std.proofs.Common.{◌≡◌, List, ℕ, [], ◌∷◌, ◌++◌, ap, ◌∙◌, sym, subst}
 use Rattle.std.specs.List.Sorted.{IsStrictlySortedBy}
 use Rattle.sudo_beyond.specs.declared.run.Run.{Run}
-use Rattle.sorting.specs.Lists.{args_order, IsEachOnce}
+use Rattle.sudo_words.specs.Lists.{args_order, IsEachOnce}
 use Rattle.sudo_beyond.specs.Cases.{run_of, ArePathCases}
 use Rattle.sudo_beyond.specs.private.Gathering.{IsFreeArgs, Adds}
 use Rattle.sudo_beyond.proofs.CmndCases.{args_decides}

@@ -1,6 +1,6 @@
 use Rattle.std.proofs.Common.{List, ℕ, subst, arith}
 use Rattle.std.proofs.lemmas.List.{take_all}
-use Rattle.sorting.specs.Lists.{AreParts}
+use Rattle.sudo_words.specs.Lists.{AreParts}
 use Rattle.sudo_beyond.specs.Cases.{ArePathCases}
 use Rattle.sudo_beyond.specs.private.Gathering.{Adds}
 use Rattle.sudo_beyond.proofs.RunLemmas.{adds_more}

@@ -1,6 +1,6 @@
 use Rattle.std.proofs.Common.{List, take}
 use Rattle.sudo_words.specs.declared.cmnd.Cmnd.{Cmnd}
-use Rattle.sorting.specs.Lists.{AreParts}
+use Rattle.sudo_words.specs.Lists.{AreParts}
 use Rattle.sudo_beyond.specs.Cases.{ArePathCases}
 use Rattle.sudo_beyond.specs.private.Gathering.{Adds, AreListings}
 use Rattle.sudo_beyond.proofs.runs.push_paths.Given as goal

@@ -3,7 +3,7 @@ use Rattle.std.specs.Prelude.{codes}
 use Rattle.std.specs.List.{All}
 use Rattle.std.specs.List.Sorted.{IsStrictlySortedBy}
 use Rattle.sudo_beyond.specs.declared.run.Run.{Run}
-use Rattle.sorting.specs.Lists.{text_order, IsEachOnce, AreParts}
+use Rattle.sudo_words.specs.Lists.{text_order, IsEachOnce, AreParts}
 use Rattle.sudo_beyond.specs.Cases.{dirs, ArePathCases, IsFreshFile, AreCommandCases}
 use Rattle.sudo_beyond.specs.private.Gathering.{IsLawfulDir, Adds, AreListings, run_order}
 use Rattle.sudo_beyond.proofs.CmndCases.{files_in_root}

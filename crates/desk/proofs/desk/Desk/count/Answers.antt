@@ -3,7 +3,7 @@ use Rattle.std.specs.Prelude.{Contains, IfSome, string_bytes}
 use Rattle.std.proofs.lemmas.List.{length-map}
 use Rattle.messages.specs.Wire.{IsMessage}
 use Rattle.messages.specs.declared.message.Message.{Message}
-use Rattle.desk_tables.specs.Sets.{Lists, SameSet}
+use Rattle.store_tables.specs.Sets.{Lists, SameSet}
 use Rattle.desk.specs.Count.{IsCount}
 use Rattle.desk.specs.State.{DeskState}
 use Rattle.desk.specs.private.Known.{IsKnown, IsKnownOfUp}

@@ -2,7 +2,7 @@ use Rattle.std.proofs.Common.{◌≡◌, ◌∙◌, Ok, true, rules, subst, sym}
 use Rattle.std.proofs.lemmas.Result.{err_from_is_err_and}
 use Rattle.messages.specs.declared.message.Message.{Message}
 use Rattle.roster.specs.Rules.{is_among}
-use Rattle.desk_tables.specs.Sets.{With}
+use Rattle.store_tables.specs.Sets.{With}
 use Rattle.desk_store.specs.Left.{AddsOnly}
 use Rattle.desk_store.proofs.SameLeft.{same_left}
 use Rattle.desk.specs.Crash.{IsAddedByDelivery}

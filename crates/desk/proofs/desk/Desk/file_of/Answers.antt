@@ -2,7 +2,7 @@ use Rattle.std.proofs.Common.{◌≡◌, ◌⊎◌, ◌<◌, ◌≤◌, List, le
 use Rattle.std.specs.Prelude.{string_bytes}
 use Rattle.std.proofs.lemmas.Result.{err_from_is_err_and}
 use Rattle.messages.specs.declared.message.Message.{Message}
-use Rattle.desk_tables.specs.Sets.{Lists}
+use Rattle.store_tables.specs.Sets.{Lists}
 use Rattle.desk.specs.declared.refusal.Refusal.TheVariants.{UnknownHost}
 use Rattle.outcomes.specs.HostFile.{Line, AreLines}
 use Rattle.outcomes.specs.LinesLeft.{IsFileLeft, lines_left}

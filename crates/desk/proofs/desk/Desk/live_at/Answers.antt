@@ -1,6 +1,6 @@
 use Rattle.std.proofs.Common.{List}
 use Rattle.messages.specs.declared.message.Message.{Message}
-use Rattle.desk_tables.specs.Sets.{Lists}
+use Rattle.store_tables.specs.Sets.{Lists}
 use Rattle.outcomes.specs.Outcomes.{AreLive}
 use Rattle.desk.proofs.QueryLemmas.{same_listed}
 use Rattle.outcomes.proofs.SetLemmas.{alike_sets, live_alike}

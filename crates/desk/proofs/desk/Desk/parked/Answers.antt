@@ -1,6 +1,6 @@
 use Rattle.std.proofs.Common.{List}
 use Rattle.messages.specs.declared.message.Message.{Message}
-use Rattle.desk_tables.specs.Sets.{Lists}
+use Rattle.store_tables.specs.Sets.{Lists}
 use Rattle.std.specs.Prelude.{map, string_bytes}
 use Rattle.outcomes.specs.Parked.{AreParked}
 use Rattle.desk.proofs.QueryLemmas.{same_listed}

@@ -1,7 +1,7 @@
 use Rattle.std.proofs.Common.{List}
 use Rattle.std.specs.Prelude.{map, string_bytes}
 use Rattle.messages.specs.declared.message.Message.{Message}
-use Rattle.desk_tables.specs.Sets.{Lists}
+use Rattle.store_tables.specs.Sets.{Lists}
 use Rattle.desk.specs.Texts.{AreTexts}
 use Rattle.desk.proofs.QueryLemmas.{same_listed}
 use Rattle.desk.proofs.TextLemmas.{texts_of_set}

@@ -1,7 +1,7 @@
 use Rattle.std.proofs.Common.{◌⊎◌, subst}
 use Rattle.std.specs.Prelude.{⊤, [], IsSome, OnOk, option_map, string_bytes, unwrap_or}
 use Rattle.desk_store.specs.Memory.{MemoryContent, Holds}
-use Rattle.desk_tables.specs.Sets.{IsWith, With}
+use Rattle.store_tables.specs.Sets.{IsWith, With}
 use Rattle.desk_store.specs.Left.{IsCommitted, IsDeskOf, IsWithOrWithout, LeavesOnly}
 use Rattle.desk_store.specs.Crash.{LeavesContent}
 use Rattle.desk_store.proofs.MemoryLeft.{put_adds_only, put_lasts, put_leaves}

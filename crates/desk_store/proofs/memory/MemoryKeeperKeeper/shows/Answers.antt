@@ -2,8 +2,8 @@ use Rattle.std.proofs.Common.{◌≡◌, ◌⊎◌, inl, inr, refl, subst, List,
 use Rattle.std.specs.Prelude.{⊤, IsSome, None, option_map, string_bytes, unwrap_or}
 use Rattle.messages.specs.Wire.{IsMessage}
 use Rattle.messages.specs.declared.message.Message.{Message}
-use Rattle.desk_tables.specs.Sets.{Lists}
-use Rattle.desk_tables.specs.Steps.{texts_in}
+use Rattle.store_tables.specs.Sets.{Lists}
+use Rattle.store_tables.specs.Steps.{texts_in}
 use Rattle.desk_store.specs.Memory.{MemoryContent, Holds}
 use Rattle.desk_store.specs.Left.{Left, Nothing, ADesk}
 use Rattle.desk_store.specs.Crash.{LeavesContent}

@@ -2,12 +2,12 @@ use Rattle.std.proofs.Common.{ap, inl, inr, le_refl, refl, subst}
 use Rattle.sqlite.specs.Effect.{Database}
 use Rattle.sqlite.specs.Held.{state}
 use Rattle.sqlite.specs.State.{Survives}
-use Rattle.desk_tables.specs.Stored.{Content, content_of}
-use Rattle.desk_tables.specs.SqliteStates.{IsUp}
-use Rattle.desk_tables.specs.Committed.{ArrivesAt}
+use Rattle.store_tables.specs.Stored.{Content, content_of}
+use Rattle.store_tables.specs.SqliteStates.{IsUp}
+use Rattle.store_tables.specs.Committed.{ArrivesAt}
 use Rattle.desk_store.proofs.ArrivalLemmas.{arrival_keeps, content_wired, held_wired}
 use Rattle.desk_store.proofs.FoundLemmas.{arrival_lasts, one_more, up_left, with_message, with_or_without}
-use Rattle.desk_schema.proofs.BesideLemmas.{same_beside, spared_beside}
+use Rattle.store_schema.proofs.BesideLemmas.{same_beside, spared_beside}
 use Rattle.desk_store.proofs.OutcomeLemmas.{ok_no_err}
 use Rattle.desk_store.proofs.sqlite_keeper.SqliteKeeperKeeper.add.Goals as goal
 

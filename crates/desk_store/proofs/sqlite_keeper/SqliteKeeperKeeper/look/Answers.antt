@@ -1,7 +1,7 @@
 use Rattle.std.proofs.Common.{inl, inr, le_refl, refl}
 use Rattle.sqlite.specs.Held.{state}
 use Rattle.desk_store.proofs.FoundLemmas.{as_kept, none_more}
-use Rattle.desk_schema.proofs.BesideLemmas.{same_beside}
+use Rattle.store_schema.proofs.BesideLemmas.{same_beside}
 use Rattle.desk_store.proofs.OutcomeLemmas.{ok_no_err}
 use Rattle.desk_store.proofs.TellLemmas.{live_of, told, told_known}
 use Rattle.desk_store.proofs.sqlite_keeper.SqliteKeeperKeeper.look.Goals as goal

@@ -1,8 +1,8 @@
 use Rattle.std.proofs.Common.{ap, inl, inr, le_refl, refl}
 use Rattle.sqlite.specs.Held.{state}
-use Rattle.desk_tables.specs.Stored.{Content}
+use Rattle.store_tables.specs.Stored.{Content}
 use Rattle.desk_store.proofs.FoundLemmas.{holds_nothing, made_kept, made_lasts, made_more, nothing_or_made, up_left}
-use Rattle.desk_schema.proofs.BesideLemmas.{same_beside}
+use Rattle.store_schema.proofs.BesideLemmas.{same_beside}
 use Rattle.desk_store.proofs.OutcomeLemmas.{ok_no_err}
 use Rattle.desk_store.proofs.sqlite_keeper.SqliteKeeperKeeper.make.Goals as goal
 

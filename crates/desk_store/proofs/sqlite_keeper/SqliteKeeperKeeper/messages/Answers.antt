@@ -1,8 +1,8 @@
 use Rattle.std.proofs.Common.{inl, inr, le_refl, refl}
 use Rattle.sqlite.specs.Held.{state}
-use Rattle.desk_schema.proofs.ShapeLemmas.{common_of}
+use Rattle.store_schema.proofs.ShapeLemmas.{common_of}
 use Rattle.desk_store.proofs.FoundLemmas.{as_kept, none_more}
-use Rattle.desk_schema.proofs.BesideLemmas.{same_beside}
+use Rattle.store_schema.proofs.BesideLemmas.{same_beside}
 use Rattle.desk_store.proofs.OutcomeLemmas.{ok_no_err}
 use Rattle.desk_store.proofs.sqlite_keeper.SqliteKeeperKeeper.messages.Goals as goal
 

@@ -1,8 +1,8 @@
 use Rattle.std.proofs.Common.{ap, inl, inr, le_refl, refl}
 use Rattle.sqlite.specs.Held.{state}
-use Rattle.desk_tables.specs.Stored.{Content}
+use Rattle.store_tables.specs.Stored.{Content}
 use Rattle.desk_store.proofs.FoundLemmas.{replaced_more, replaced_or_not, roster_lasts, same_texts, up_left}
-use Rattle.desk_schema.proofs.BesideLemmas.{same_beside}
+use Rattle.store_schema.proofs.BesideLemmas.{same_beside}
 use Rattle.desk_store.proofs.OutcomeLemmas.{ok_no_err}
 use Rattle.desk_store.proofs.sqlite_keeper.SqliteKeeperKeeper.replace.Goals as goal
 

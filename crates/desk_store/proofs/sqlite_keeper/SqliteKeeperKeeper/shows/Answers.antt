@@ -1,6 +1,6 @@
 use Rattle.std.proofs.Common.{inl, inr, refl}
 use Rattle.sqlite.specs.Held.{state}
-use Rattle.desk_tables.specs.Stored.{content_of}
+use Rattle.store_tables.specs.Stored.{content_of}
 use Rattle.desk_store.specs.Left.{Left, Nothing, ADesk, AnOldDesk}
 use Rattle.desk_store.specs.Crash.{MayLeave}
 use Rattle.desk_store.proofs.Listed.{kept_listed, old_listed}

@@ -1,6 +1,0 @@
-use Rattle.desk_opening.specs.private.Reading.{AreBodies}
-use Rattle.desk_opening.proofs.reading.all_stored.Given as goal
-
--- what was read is of the rows that were gone through
-abbrev pub invariant-loop-row : goal.invariant-loop-row
-invariant-loop-row l = AreBodies l.yielded l.all.items

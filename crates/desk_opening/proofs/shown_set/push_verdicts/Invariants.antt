@@ -1,7 +1,0 @@
-use Rattle.std.proofs.Common.{◌≡◌, ◌++◌, List, take}
-use Rattle.messages.specs.Fields.{VerdictFields}
-use Rattle.desk_opening.specs.private.Showing.{AreShown, ShowsVerdict}
-use Rattle.desk_opening.proofs.shown_set.push_verdicts.Given as goal
-
-abbrev pub invariant-loop-row : goal.invariant-loop-row
-invariant-loop-row l = (shown : List VerdictFields) → AreShown ShowsVerdict l.rows shown → l.verdicts.items ≡ l.fn.verdicts.items ++ take l.row-index shown

@@ -1,0 +1,16 @@
+use Rattle.sqlite.specs.Held.{state}
+use Rattle.store_tables.proofs.QueryLemmas.{keeps_query}
+use Rattle.store_migration.proofs.EmptyLemmas.{rows_shown}
+use Rattle.store_migration.proofs.statements.rows_left.Goals as goal
+
+pub returns-clause-left : goal.returns-clause-left
+returns-clause-left g c clean inside =
+    rows_shown c.args.part (state g.S.Store c.args.tx.now.conn.now)
+    (state g.S.Store c.query_all.new.self.conn.now) c.query_all.result inside (rw c.select_of.ensures at (c.query_all.ensures.ok clean))
+
+pub returns-clause-step : goal.returns-clause-step
+returns-clause-step g c = record {
+  survives = c.query_all.ensures.survives;
+  kept = λ clean inside. keeps_query _ _ (state g.S.Store c.args.tx.now.conn.now)
+      (state g.S.Store c.query_all.new.self.conn.now) c.query_all.result inside (c.query_all.ensures.ok clean) (c.query_all.ensures.err clean);
+}

@@ -1,0 +1,43 @@
+//! Emptying the tables of an older desk.
+
+ghost use Rattle.std.specs.Prelude.{◌≡◌, OnOk};
+ghost use Rattle.sqlite.specs.Held.{state};
+ghost use Rattle.store_tables.specs.Steps.{InStep};
+ghost use Rattle.store_tables.specs.Steps.{IsStep};
+ghost use Rattle.store_migration.specs.private.Clearing.{Cleared};
+ghost use Rattle.store_migration.specs.private.Moving.{Emptied};
+
+use crate::statements::{delete, rows_left};
+use sqlite::{Alter, Transaction};
+use store_schema::Part;
+use store_tables::Fault;
+
+/// Empties the table. A DELETE leaves a row whose rowid is not a whole number: if one is left, the
+/// answer is `Fault::Stray`.
+fn clear<S: Alter>(tx: &mut Transaction<'_, S>, part: Part) -> Result<(), Fault>
+    ensures same_reference { tx.new.conn.ghost_name ≡ tx.old.conn.ghost_name }
+    ensures cleared { InStep (state S.Store tx.old.conn.now)
+        (state S.Store tx.new.conn.now) (λ a b. OnOk result (Cleared part a b)) }
+    ensures step { IsStep (state S.Store tx.old.conn.now) (state S.Store tx.new.conn.now) }
+{
+    delete(tx, part)?;
+    let rows = rows_left(tx, part)?;
+    if rows.is_empty() {
+        Ok(())
+    } else {
+        Err(Fault::Stray)
+    }
+}
+
+/// Empties the tables of an older desk, except its messages.
+pub(crate) fn clear_all<S: Alter>(tx: &mut Transaction<'_, S>) -> Result<(), Fault>
+    ensures same_reference { tx.new.conn.ghost_name ≡ tx.old.conn.ghost_name }
+    ensures emptied { InStep (state S.Store tx.old.conn.now)
+        (state S.Store tx.new.conn.now) (λ a b. OnOk result (Emptied a b)) }
+    ensures step { IsStep (state S.Store tx.old.conn.now) (state S.Store tx.new.conn.now) }
+{
+    clear(tx, Part::Names)?;
+    clear(tx, Part::Parked)?;
+    clear(tx, Part::Marks)?;
+    clear(tx, Part::Desk)
+}

@@ -1,0 +1,48 @@
+//! The statements that empty one of a desk's tables, each in a function of its own.
+
+ghost use Rattle.std.specs.Prelude.{◌≡◌, IfOk, OnOk};
+ghost use Rattle.sqlite.specs.Held.{state};
+ghost use Rattle.store_tables.specs.Steps.{InStep};
+ghost use Rattle.store_tables.specs.Steps.{IsStep};
+ghost use Rattle.store_migration.specs.private.Clearing.{Deleted, Left, delete_of};
+
+use sqlite::{Alter, Error, Row, Transaction};
+use store_opening::select_of;
+use store_schema::Part;
+
+/// The statement that deletes all rows of the table.
+fn delete_of(part: Part) -> &'static str
+    ensures { result.now ≡ delete_of part }
+{
+    match part {
+        Part::Desk => "DELETE FROM desk",
+        Part::Messages => "DELETE FROM messages",
+        Part::Names => "DELETE FROM names",
+        Part::Marks => "DELETE FROM marks",
+        Part::Verdicts => "DELETE FROM verdicts",
+        Part::Parked => "DELETE FROM parked",
+    }
+}
+
+/// Deletes the rows of the table.
+pub(crate) fn delete<S: Alter>(tx: &mut Transaction<'_, S>, part: Part) -> Result<usize, Error>
+    ensures same_reference { tx.new.conn.ghost_name ≡ tx.old.conn.ghost_name }
+    ensures deleted { InStep (state S.Store tx.old.conn.now)
+        (state S.Store tx.new.conn.now) (λ a b. OnOk result (Deleted part a b)) }
+    ensures step { IsStep (state S.Store tx.old.conn.now) (state S.Store tx.new.conn.now) }
+{
+    tx.execute(delete_of(part), &[])
+}
+
+/// The rows of the table. The database stays as it is.
+pub(crate) fn rows_left<S: Alter>(
+    tx: &mut Transaction<'_, S>,
+    part: Part,
+) -> Result<Vec<Row>, Error>
+    ensures same_reference { tx.new.conn.ghost_name ≡ tx.old.conn.ghost_name }
+    ensures left { InStep (state S.Store tx.old.conn.now) (state S.Store tx.new.conn.now)
+        (λ a b. IfOk result (λ rows. Left part rows.items a b)) }
+    ensures step { IsStep (state S.Store tx.old.conn.now) (state S.Store tx.new.conn.now) }
+{
+    tx.query_all(select_of(part), &[])
+}

@@ -1,0 +1,21 @@
+use Rattle.sqlite.specs.Held.{state}
+use Rattle.store_tables.proofs.ReceiveLemmas.{again, anew}
+use Rattle.store_tables.proofs.TurnLemmas.{clean_before, on_ok}
+use Rattle.store_tables.proofs.arrival.receive.Goals as goal
+
+pub returns-then-branch-clause-received : goal.returns-then-branch-clause-received
+returns-then-branch-clause-received g c clean inside =
+    again c.args.body.now c.in_ok-has_text.field-0 (state g.S.Store c.args.tx.now.conn.now)
+    (state g.S.Store c.has_text.new.tx.conn.now) c.if-branch.true (c.in_ok-has_text.ensures.finds clean inside)
+
+pub returns-clause-received : goal.returns-clause-received
+returns-clause-received g c clean inside =
+    let a = state g.S.Store c.args.tx.now.conn.now in
+    let z = state g.S.Store c.has_text.new.tx.conn.now in
+    let b = state g.S.Store c.put_text.new.tx.conn.now in
+    let d = state g.S.Store c.settle.new.tx.conn.now in
+    let clean_b = clean_before b d _ c.settle.ensures.step.survives clean in
+    let finds = c.in_ok-has_text.ensures.finds (clean_before z b _ c.put_text.ensures.survives clean_b) inside in
+    let wrote = c.in_ok-put_text.ensures.wrote clean_b finds.begun.mode in
+    on_ok c.settle.result _ _ (anew c.args.body.now c.in_ok-has_text.field-0 c.args.message.now a z b d
+    c.requires.written c.requires.text c.if-branch.false finds wrote) (c.settle.ensures.settled clean wrote.inside.mode)

@@ -1,0 +1,35 @@
+use Rattle.std.proofs.Common.{rules, ℕ, not, length, ◌==◌, ◌≡◌, Bool, List, [], ◌∷◌, IsTrue, codes, ap, sym, ◌∙◌}
+use Rattle.sqlite.specs.declared.types.Value.TheVariants.{Text}
+use Rattle.sqlite.specs.Order.{Row}
+use Rattle.sqlite.specs.State.{State, Shown}
+use Rattle.sqlite.specs.Held.{state}
+use Rattle.store_tables.specs.Stored.{tree_of}
+use Rattle.store_tables.specs.private.Stepping.{FindsText}
+use Rattle.store_tables.proofs.Found.{text_select, text_selects, text_told}
+use Rattle.store_tables.proofs.QueryLemmas.{asks_inside, keeps_query, shown_same}
+use Rattle.store_tables.proofs.TextSets.{contains_bodies}
+use Rattle.store_tables.proofs.statements.has_text.Goals as goal
+
+step : (text : List ℕ) (old new : State) (rows : List Row) (empty : Bool) → IsTrue old.in_transaction
+    → Shown text_select (Text text ∷ []) old new rows → empty ≡ (length rows == 0) → FindsText text (not empty) old new
+step text old new rows empty inside shown is = record {
+  begun = asks_inside text_select _ old new rows inside shown;
+  same = λ tidy. (shown_same text_select _ old new rows
+      (text_selects old.now.schema tidy.desk.m (tree_of old.now.schema (codes "messages")) tidy.desk.messages).plain shown).0.now_is;
+  tells = λ tidy.
+      ap not is ∙ text_told text tidy.desk.m (tree_of old.now.schema (codes "messages")) old new rows tidy.desk.messages shown
+      ∙ sym (contains_bodies text (old.now.trees (tree_of old.now.schema (codes "messages"))));
+}
+
+pub returns-clause-finds : goal.returns-clause-finds
+returns-clause-finds g c clean inside =
+    step c.args.text.now (state g.S.Store c.args.tx.now.conn.now) (state g.S.Store c.query_all.new.self.conn.now)
+    c.in_ok-rows.rows.items c.is_empty.result inside (rw c.params-to_sql.ensures at (c.in_ok-rows.ensures.ok clean)) (search rules)
+
+pub returns-clause-kept : goal.returns-clause-kept
+returns-clause-kept g c clean inside = keeps_query _ _ (state g.S.Store c.args.tx.now.conn.now)
+    (state g.S.Store c.query_all.new.self.conn.now) c.query_all.result inside (c.query_all.ensures.ok clean) (c.query_all.ensures.err clean)
+
+pub returns-in_err-rows-clause-kept : goal.returns-in_err-rows-clause-kept
+returns-in_err-rows-clause-kept g c clean inside = keeps_query _ _ (state g.S.Store c.args.tx.now.conn.now)
+    (state g.S.Store c.query_all.new.self.conn.now) c.query_all.result inside (c.query_all.ensures.ok clean) (c.query_all.ensures.err clean)

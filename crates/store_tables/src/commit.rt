@@ -1,0 +1,105 @@
+//! A message's arrival, and a new roster's text, each in one commit.
+
+ghost use Rattle.std.specs.Prelude.{◌≡◌, ◌≢◌, true, false, AllPairs, Contains, OnOk, OnErr};
+ghost use Rattle.sqlite.specs.State.{HasCleanDisk, IsLive, Survives};
+ghost use Rattle.sqlite.specs.Held.{state};
+ghost use Rattle.messages.specs.Wire.{wire, IsMessage};
+ghost use Rattle.messages.specs.declared.message.Message.{Message as AnyMessage};
+ghost use Rattle.store_tables.specs.Sets.{Lists};
+ghost use Rattle.store_tables.specs.Kept.{HoldsText, IsDeskDatabase, Spares};
+ghost use Rattle.store_tables.specs.SqliteStates.{IsUp, Rests};
+ghost use Rattle.store_tables.specs.Stored.{IsWritten, content_of, has, with_roster, with_text};
+ghost use Rattle.store_tables.specs.Committed.{ArrivesAt, ChangesAt};
+
+use crate::arrival::receive;
+use crate::fault::Fault;
+use crate::roster::replace_within;
+use messages::Message;
+use sqlite::{Alter, Connection};
+use std::alloc::Global;
+
+/// The database obeys its schema, as long as the store is open. It is called for this contract.
+fn obeys<S: Alter>(conn: &Connection<S>)
+    ensures { IsLive (state S.Store conn.now) }
+{
+    let _schema = conn.schema();
+}
+
+/// Takes a message into a desk, with all that it changes, in one commit. One that is there already
+/// changes nothing.
+pub fn arrive<S: Alter>(
+    alloc: Global,
+    conn: &mut Connection<S>,
+    message: &Message,
+    body: &str,
+) -> Result<(), Fault>
+    requires autocommit { conn.old.in_transaction ≡ false }
+    requires rests { Rests (state S.Store conn.old) }
+    requires desk { IsUp (state S.Store conn.old) → IsDeskDatabase (state S.Store conn.old).now }
+    requires text { body.now ≡ wire message.now }
+    requires written { IsWritten body.now }
+    ensures rests { Rests (state S.Store conn.new) }
+    ensures was_up { IsUp (state S.Store conn.new) → IsUp (state S.Store conn.old) }
+    ensures was_clean { HasCleanDisk (state S.Store conn.new)
+        → HasCleanDisk (state S.Store conn.old) }
+    ensures up { HasCleanDisk (state S.Store conn.new)
+        → OnOk result (IsUp (state S.Store conn.new)) }
+    ensures desk { IsUp (state S.Store conn.new) → IsDeskDatabase (state S.Store conn.new).now }
+    ensures arrived { IsUp (state S.Store conn.new)
+        → OnOk result (content_of (state S.Store conn.new).now
+        ≡ with_text body.now (content_of (state S.Store conn.old).now)) }
+    ensures repeated { IsUp (state S.Store conn.new)
+        → has (content_of (state S.Store conn.old).now) body.now ≡ true
+        → OnOk result ((state S.Store conn.new).now ≡ (state S.Store conn.old).now) }
+    ensures others { IsUp (state S.Store conn.new)
+        → OnOk result (Spares (state S.Store conn.old).now (state S.Store conn.new).now) }
+    ensures unchanged { IsUp (state S.Store conn.new)
+        → OnErr result ((state S.Store conn.new).now ≡ (state S.Store conn.old).now) }
+    // A connection that is not up commits nothing.
+    ensures survives { Survives (state S.Store conn.old) (state S.Store conn.new) (λ trees.
+        IsUp (state S.Store conn.old) × ArrivesAt body.now (state S.Store conn.old).now trees) }
+{
+    obeys(conn);
+    let mut tx = conn.transaction();
+    receive(alloc, &mut tx, message, body)?;
+    tx.commit()?;
+    Ok(())
+}
+
+/// Replaces the desk's roster text, and makes all rows anew from its messages, in one commit.
+pub fn replace<S: Alter>(
+    alloc: Global,
+    conn: &mut Connection<S>,
+    roster: &str,
+    messages: &[Message],
+) -> Result<(), Fault>
+    requires autocommit { conn.old.in_transaction ≡ false }
+    requires rests { Rests (state S.Store conn.old) }
+    requires desk { IsUp (state S.Store conn.old) → IsDeskDatabase (state S.Store conn.old).now }
+    requires listed { IsUp (state S.Store conn.old)
+        → Lists (HoldsText (state S.Store conn.old).now) messages.now }
+    requires once { AllPairs (λ m n. m ≢ n) messages.now }
+    requires messages { (m : AnyMessage) → Contains messages.now m → IsMessage m }
+    ensures rests { Rests (state S.Store conn.new) }
+    ensures was_up { IsUp (state S.Store conn.new) → IsUp (state S.Store conn.old) }
+    ensures was_clean { HasCleanDisk (state S.Store conn.new)
+        → HasCleanDisk (state S.Store conn.old) }
+    ensures up { HasCleanDisk (state S.Store conn.new)
+        → OnOk result (IsUp (state S.Store conn.new)) }
+    ensures desk { IsUp (state S.Store conn.new) → IsDeskDatabase (state S.Store conn.new).now }
+    ensures replaced { IsUp (state S.Store conn.new)
+        → OnOk result (content_of (state S.Store conn.new).now
+        ≡ with_roster roster.now (content_of (state S.Store conn.old).now)) }
+    ensures others { IsUp (state S.Store conn.new)
+        → OnOk result (Spares (state S.Store conn.old).now (state S.Store conn.new).now) }
+    ensures unchanged { IsUp (state S.Store conn.new)
+        → OnErr result ((state S.Store conn.new).now ≡ (state S.Store conn.old).now) }
+    // A connection that is not up commits nothing.
+    ensures survives { Survives (state S.Store conn.old) (state S.Store conn.new) (λ trees.
+        IsUp (state S.Store conn.old) × ChangesAt roster.now (state S.Store conn.old).now trees) }
+{
+    let mut tx = conn.transaction();
+    replace_within(alloc, &mut tx, roster, messages)?;
+    tx.commit()?;
+    Ok(())
+}
