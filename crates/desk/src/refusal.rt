@@ -62,7 +62,7 @@ impl Refusal {
     ghost use Rattle.sudo_words.specs.Bytes.{newline};
     ghost use Rattle.desk.specs.Refusals.{refusal_text};
 
-    /// Its code and name, and a newline. A reply can say it where memory ran out.
+    /// Its code and name, and a newline. A response can say it where memory ran out.
     pub fn line(self) -> &'static str
         ensures { result.now ≡ refusal_text self ++ newline ∷ [] }
     {

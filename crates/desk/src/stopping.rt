@@ -20,8 +20,8 @@ use roster::Roster;
 use std::alloc::Global;
 use sudo_policy::Policy;
 
-/// Opens a desk over a keeper that keeps what a crash may leave of another keeper, which stopped
-/// and is an argument for the proof alone.
+/// Opens a desk over a keeper that keeps what a crash may leave of another keeper, of whatever kind,
+/// which stopped and is an argument for the proof alone.
 ///
 /// The clauses `crash`, `lasting` and `durable` of the call that was stopped say what may be left.
 /// So where that call had acknowledged, or the stop came between calls, the desk holds all
@@ -30,45 +30,45 @@ use sudo_policy::Policy;
 /// which some failed, the desk holds all that was acknowledged, and at most one message more; and
 /// where it stopped while a desk was made, opened or rebuilt, nothing is lost. It is refused only
 /// for the base, or for want of memory or of the storage.
-pub fn open_after_stop<K: Keeper>(
+pub fn open_after_stop<K: Keeper, L: Keeper>(
     alloc: Global,
     _stopped: &K,
     roster: Roster,
     base: Policy,
-    found: K,
-) -> Result<Desk<K>, (Refusal, K)>
-    requires { K.is_up found → MayBe (K.may_leave _stopped.now) (IsFoundAs (K.is_empty found)
-        (K.is_desk found) (K.is_old found) (K.roster found) (K.holds found)) }
+    found: L,
+) -> Result<Desk<L>, (Refusal, L)>
+    requires { L.is_up found → MayBe (K.may_leave _stopped.now) (IsFoundAs (L.is_empty found)
+        (L.is_desk found) (L.is_old found) (L.roster found) (L.holds found)) }
     ensures held { (list : List AnyMessage)
         → LeavesOnly (K.may_leave _stopped.now) (IsDeskOf roster.text (λ m. Contains list m))
-        → IfOk result (λ d. K.is_up d.keeper → SameSet (λ m. Contains list m) (K.holds d.keeper)) }
+        → IfOk result (λ d. L.is_up d.keeper → SameSet (λ m. Contains list m) (L.holds d.keeper)) }
     ensures alike { (list : List AnyMessage) → LeavesOnly (K.may_leave _stopped.now)
-        (IsDeskOf roster.text (λ m. Contains list m)) → IfOk result (λ d. K.is_up d.keeper
-        → AnswerAlike roster.says (λ m. Contains list m) (K.holds d.keeper)) }
+        (IsDeskOf roster.text (λ m. Contains list m)) → IfOk result (λ d. L.is_up d.keeper
+        → AnswerAlike roster.says (λ m. Contains list m) (L.holds d.keeper)) }
     ensures refused { (list : List AnyMessage) → LeavesOnly (K.may_leave _stopped.now)
         (IsDeskOf roster.text (λ m. Contains list m)) → IfErr result
-        (λ r. K.is_up r.1 → IsWant r.0 ⊎ ((r.0 ≡ refusal.BaseTooLarge) × (¬ FitsBase base))) }
+        (λ r. L.is_up r.1 → IsWant r.0 ⊎ ((r.0 ≡ refusal.BaseTooLarge) × (¬ FitsBase base))) }
     ensures delivery { (list : List AnyMessage) (d : Delivery)
         → LeavesOnly (K.may_leave _stopped.now)
         (IsLeftByDelivery roster.says roster.text (λ m. Contains list m) d)
-        → IfOk result (λ desk. K.is_up desk.keeper → SameSet (λ m. Contains list m)
-        (K.holds desk.keeper) ⊎ ((m : AnyMessage) × IsAcceptable roster.says d m
-        × SameSet (With (λ n. Contains list n) m) (K.holds desk.keeper))) }
+        → IfOk result (λ desk. L.is_up desk.keeper → SameSet (λ m. Contains list m)
+        (L.holds desk.keeper) ⊎ ((m : AnyMessage) × IsAcceptable roster.says d m
+        × SameSet (With (λ n. Contains list n) m) (L.holds desk.keeper))) }
     ensures deliveries { (list : List AnyMessage) (ds : List Delivery)
         (answers : List (Result AnyAck AnyRefusal)) → LeavesOnly (K.may_leave _stopped.now)
         (IsLeftByDeliveries roster.says roster.text (λ m. Contains list m) ds answers)
-        → IfOk result (λ desk. K.is_up desk.keeper
-        → SameSet (λ m. Contains list m ⊎ AcknowledgesAmong ds answers m) (K.holds desk.keeper)
+        → IfOk result (λ desk. L.is_up desk.keeper
+        → SameSet (λ m. Contains list m ⊎ AcknowledgesAmong ds answers m) (L.holds desk.keeper)
         ⊎ ((d : Delivery) × Contains ds d × (m : AnyMessage) × IsAcceptable roster.says d m
         × SameSet (With (λ n. Contains list n ⊎ AcknowledgesAmong ds answers n) m)
-        (K.holds desk.keeper))) }
+        (L.holds desk.keeper))) }
     ensures making { LeavesOnly (K.may_leave _stopped.now) (IsNothingOrFresh roster.text)
-        → IfOk result (λ d. K.is_up d.keeper → IsNothing (K.holds d.keeper)) }
+        → IfOk result (λ d. L.is_up d.keeper → IsNothing (L.holds d.keeper)) }
     ensures rebuilding { (list : List AnyMessage) (recorded : List ℕ)
         → LeavesOnly (K.may_leave _stopped.now) (λ left. IsDeskOf recorded
         (λ m. Contains list m) left ⊎ IsDeskOf roster.text (λ m. Contains list m) left)
-        → IfOk result (λ d. K.is_up d.keeper → SameSet (λ m. Contains list m) (K.holds d.keeper)) }
-    ensures unchanged { IfErr result (λ r. K.is_up r.1 → K.is_same found r.1) }
+        → IfOk result (λ d. L.is_up d.keeper → SameSet (λ m. Contains list m) (L.holds d.keeper)) }
+    ensures unchanged { IfErr result (λ r. L.is_up r.1 → L.is_same found r.1) }
 {
     Desk::open(alloc, roster, base, found)
 }

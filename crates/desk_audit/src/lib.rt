@@ -2,9 +2,9 @@
 //! of these counted and why the others did not, who may still approve it, and on which hosts it is
 //! in force.
 //!
-//! A clause of `audit` says which names it tells, with which messages and which status, and one of
-//! `document` and of `document_of` that the text is the document of what is told. The text for a
-//! terminal is safe, and is tested against a second reading of the rules.
+//! A clause of `audit` says which names it tells, with which messages and which status; one of
+//! `document` and of `document_of` that the text is the document of what is told; and one of `text`
+//! that it is the text for a terminal.
 #![tactic(auto)]
 
 mod any_text;
