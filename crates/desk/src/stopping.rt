@@ -20,8 +20,8 @@ use roster::Roster;
 use std::alloc::Global;
 use sudo_policy::Policy;
 
-/// Opens a desk over a keeper that keeps what a crash may leave of another keeper, of whatever kind,
-/// which stopped and is an argument for the proof alone.
+/// Opens a desk over a keeper that keeps what a crash may leave of another keeper, of whatever
+/// kind, which stopped and is an argument for the proof alone.
 ///
 /// The clauses `crash`, `lasting` and `durable` of the call that was stopped say what may be left.
 /// So where that call had acknowledged, or the stop came between calls, the desk holds all

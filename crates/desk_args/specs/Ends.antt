@@ -1,11 +1,11 @@
 -- How the program ends.
 use Rattle.std.specs.Prelude.{ℕ}
-use Rattle.desk_args.specs.declared.status.Status.{Status}
-use Rattle.desk_args.specs.declared.status.Status.TheVariants.{Denied, Done, Found}
-use Rattle.desk_args.specs.declared.status.Status.TheVariants.{LinesRefused, Refused}
+use Rattle.desk_args.specs.declared.status.ExitStatus.{ExitStatus}
+use Rattle.desk_args.specs.declared.status.ExitStatus.TheVariants.{Denied, Done, Found}
+use Rattle.desk_args.specs.declared.status.ExitStatus.TheVariants.{LinesRefused, Refused}
 
 -- the program's exit status
-abbrev pub exit_status : Status → ℕ
+abbrev pub exit_status : ExitStatus → ℕ
 exit_status Done = 0
 exit_status Denied = 1
 exit_status Found = 1

@@ -3,7 +3,7 @@
 ghost use Rattle.std.specs.Prelude.{◌≡◌, ◌≢◌};
 ghost use Rattle.clap.specs.Words.{kind_of};
 
-use crate::status::Status;
+use crate::status::ExitStatus;
 use clap::error::ErrorKind;
 use std::alloc::{AllocError, AllocFailed};
 use sudo_words::WordFault;
@@ -22,14 +22,14 @@ pub enum JobFault {
 
 /// Prints clap's text, help on the standard output and a mistake on the standard error, and says
 /// how the program ends after it.
-pub fn show(rt: &HostRuntime, error: &clap::Error) -> Status
+pub fn show(rt: &HostRuntime, error: &clap::Error) -> ExitStatus
     ensures mistake { kind_of error.now ≢ ErrorKind.DisplayHelp
-        → kind_of error.now ≢ ErrorKind.DisplayVersion → result ≡ Status.Refused }
+        → kind_of error.now ≢ ErrorKind.DisplayVersion → result ≡ ExitStatus.Refused }
 {
     if error.print(rt).is_err() || error.use_stderr() {
-        Status::Refused
+        ExitStatus::Refused
     } else {
-        Status::Done
+        ExitStatus::Done
     }
 }
 

@@ -15,6 +15,6 @@ mod values;
 pub use command_line::job;
 pub use fault::{JobFault, show};
 pub use named::{FilePaths, paths};
-pub use status::{Status, code};
+pub use status::{ExitStatus, code};
 pub use task::{Address, Job, Places, Store};
 pub use text::Text;

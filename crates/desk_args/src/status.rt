@@ -5,7 +5,7 @@ ghost use Rattle.desk_args.specs.Ends.{exit_status};
 
 /// How a job ends.
 #[derive(Clone, Copy, Debug, PartialEq, Eq)]
-pub enum Status {
+pub enum ExitStatus {
     /// It is done, and what was asked for is allowed.
     Done,
     /// It is done: the command is denied.
@@ -19,14 +19,14 @@ pub enum Status {
 }
 
 /// The exit status of the program.
-pub fn code(status: Status) -> u8
+pub fn code(status: ExitStatus) -> u8
     ensures { result ≡ exit_status status }
 {
     match status {
-        Status::Done => 0,
-        Status::Denied => 1,
-        Status::Found => 1,
-        Status::LinesRefused => 2,
-        Status::Refused => 2,
+        ExitStatus::Done => 0,
+        ExitStatus::Denied => 1,
+        ExitStatus::Found => 1,
+        ExitStatus::LinesRefused => 2,
+        ExitStatus::Refused => 2,
     }
 }

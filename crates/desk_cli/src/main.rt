@@ -4,7 +4,7 @@
 #[cfg(test)]
 mod tests;
 
-use desk_commands::{JobFault, Refusal, Status, code, job, refuse, show};
+use desk_commands::{ExitStatus, JobFault, Refusal, code, job, refuse, show};
 use desk_process::{hold_streams, work};
 use std::process::ExitCode;
 use std::{env, io};
@@ -18,7 +18,7 @@ fn words(rt: &HostRuntime) -> Result<Vec<String>, Refusal> {
 }
 
 /// How the program ends where the command line says nothing to do.
-fn idle(rt: &HostRuntime, fault: JobFault) -> Result<Status, Refusal> {
+fn idle(rt: &HostRuntime, fault: JobFault) -> Result<ExitStatus, Refusal> {
     match fault {
         JobFault::BadWord => Err(Refusal::BadWord),
         JobFault::NoMemory => Err(Refusal::NoMemory),
@@ -26,7 +26,7 @@ fn idle(rt: &HostRuntime, fault: JobFault) -> Result<Status, Refusal> {
     }
 }
 
-fn outcome(rt: &HostRuntime) -> Result<Status, Refusal> {
+fn outcome(rt: &HostRuntime) -> Result<ExitStatus, Refusal> {
     match job(rt.alloc(), words(rt)?) {
         Ok(job) => Ok(work(rt, &job)),
         Err(fault) => idle(rt, fault),

@@ -10,8 +10,8 @@ use Rattle.desk_commands.specs.declared.refusal.Refusal.{Refusal as Reason}
 use Rattle.desk_commands.specs.Wanting.{TellsWant}
 use Rattle.desk_commands.specs.private.Outcomes.{IsOutcome, WantsIn}
 use Rattle.desk_commands.proofs.OverLemmas.{nothing_said}
-use Rattle.desk_args.specs.declared.status.Status.{Status}
-use Rattle.desk_args.specs.declared.status.Status.TheVariants.{Refused}
+use Rattle.desk_args.specs.declared.status.ExitStatus.{ExitStatus}
+use Rattle.desk_args.specs.declared.status.ExitStatus.TheVariants.{Refused}
 use Rattle.desk_args.specs.declared.task.Job.{Job}
 
 -- what is answered to this job, with nothing said beside it
@@ -31,7 +31,7 @@ of_job r job own files k input before after is outcome = subst (λ j. IsOutcome 
 module _ (job : Job) (files : List (List ℕ)) (k : Kept) (input : Option (List ℕ))
     (out_before out_after err_before err_between err_after : Option (List ℕ)) where
   -- what is written of this result, where the job is not refused
-  pub concluded : (r : Result Answer Reason) (status : Status) → IsOutcome job files k input r err_before err_between
+  pub concluded : (r : Result Answer Reason) (status : ExitStatus) → IsOutcome job files k input r err_before err_between
       → IfOk r (λ a. status ≢ Refused → (status ≡ a.status) × Appends out_before out_after (string_bytes a.text) × (err_after ≡ err_between))
       → IfErr r (λ _. (status ≡ Refused) × (out_after ≡ out_before)) → (Up Clean Still : Type 0)
       → IfOk r (λ _. Up → Clean → WantsIn job r ⊎ Still)
@@ -50,7 +50,7 @@ module _ (job : Job) (files : List (List ℕ)) (k : Kept) (input : Option (List 
   concluded (Err e) status outcome written none Up Clean Still up taken = absurd (taken none.0)
 
   -- what is there of this result, where the job is refused
-  pub not_concluded : (r : Result Answer Reason) (status : Status) → IsOutcome job files k input r err_before err_between
+  pub not_concluded : (r : Result Answer Reason) (status : ExitStatus) → IsOutcome job files k input r err_before err_between
       → IfOk r (λ a. AppendsFront out_before out_after (string_bytes a.text)) → IfErr r (λ _. (status ≡ Refused) × (out_after ≡ out_before))
       → ((out_after ≡ out_before) × HasCause job files k input) ⊎ BeganAnswer job files k input out_before out_after
   not_concluded (Ok a) status outcome front none = inr (a.status, string_bytes a.text, outcome.found.0, outcome.found.1, front)

@@ -19,8 +19,8 @@ use Rattle.sudo_decide.specs.declared.invocation.Invocation.{Invocation}
 use Rattle.sudo_beyond.specs.Beyond.{IsInvocation, LiesBeyond, SomethingBeyond}
 use Rattle.sudo_decide.specs.declared.scope.Scope.{Scope}
 use Rattle.desk_commands.specs.Comparing.{ComparesFiles, IsShown, case_text}
-use Rattle.desk_args.specs.declared.status.Status.{Status}
-use Rattle.desk_args.specs.declared.status.Status.TheVariants.{Done, Found}
+use Rattle.desk_args.specs.declared.status.ExitStatus.{ExitStatus}
+use Rattle.desk_args.specs.declared.status.ExitStatus.TheVariants.{Done, Found}
 use Rattle.desk_args.proofs.Runs.{same_run}
 
 -- ---- there is no space in what a case says
@@ -127,11 +127,11 @@ case_is_not_none i is same =
 
 -- ---- what the answer tells
 
-pub record Tells (nothing : Type 0) (status : Status) (text : List ℕ) : Type 0 where
+pub record Tells (nothing : Type 0) (status : ExitStatus) (text : List ℕ) : Type 0 where
   pub by_text : (text ≡ codes "none\n") ↔ nothing
   pub by_status : (status ≡ Done) ↔ nothing
 
-found_told : (scope : Scope) (a b : List Entry) (status : Status) (text : List ℕ) (found : Option Invocation)
+found_told : (scope : Scope) (a b : List Entry) (status : ExitStatus) (text : List ℕ) (found : Option Invocation)
     → MatchOption found (SomethingBeyond scope a b → ⊥) (LiesBeyond scope a b) → IsShown found status text → Tells (SomethingBeyond scope a b → ⊥) status text
 found_told scope a b status text None nothing shown = record {
   by_text = (λ _. nothing, λ _. shown.1);
@@ -145,7 +145,7 @@ found_told scope a b status text (Some i) beyond shown = record {
   by_status = (λ done. let other : Found ≡ Done = sym shown.0 ∙ done in absurd cc, λ nothing. absurd (nothing (i, beyond)));
 }
 
-pub told : (scope : Scope) (a_file b_file : List ℕ) (a b : List Entry) (status : Status) (text : List ℕ) → ComparesFiles scope a_file b_file status text
+pub told : (scope : Scope) (a_file b_file : List ℕ) (a b : List Entry) (status : ExitStatus) (text : List ℕ) → ComparesFiles scope a_file b_file status text
     → Spells a_file a → Spells b_file b → Tells (SomethingBeyond scope a b → ⊥) status text
 told scope a_file b_file a b status text is of_a of_b =
     let same_a : is.a ≡ a = text_one a_file is.a a is.a_spelled of_a in

@@ -27,7 +27,7 @@ use Rattle.desk_commands.specs.private.Outcomes.{IsLeft, IsOutcome, WantsIn}
 use Rattle.desk_commands.proofs.BroughtLemmas.{admitted_of, further, here, right_answer}
 use Rattle.desk_commands.proofs.OverLemmas.{nothing_said, set_on, with_more}
 use Rattle.desk_commands.proofs.TellingLemmas.{whole_front}
-use Rattle.desk_args.specs.declared.status.Status.{Status}
+use Rattle.desk_args.specs.declared.status.ExitStatus.{ExitStatus}
 use Rattle.desk_args.specs.declared.task.Job.{Job}
 use Rattle.desk_args.specs.declared.task.Job.TheVariants.{Beyond, Check, Decide, Deliver, Print, Rebuild, Review, Serve}
 use Rattle.desk_args.specs.declared.task.Places.{Places}
@@ -243,7 +243,7 @@ left_of_job r job own files k Same input before after is left = subst (λ j. IfE
 
 -- ---- a job that is refused
 
-module _ (k : Kept) (input before after : Option (List ℕ)) (status : Status) (text said : List ℕ)
+module _ (k : Kept) (input before after : Option (List ℕ)) (status : ExitStatus) (text said : List ℕ)
     (written : Appends before after said) where
   nothing : said ≡ [] → Appends before after []
   nothing none = subst (Appends before after) none written

@@ -22,7 +22,7 @@ use Rattle.desk_commands.specs.declared.answer.Answer.{Answer}
 use Rattle.desk_commands.specs.declared.refusal.Refusal.{Refusal as Reason}
 use Rattle.desk_commands.specs.declared.refusal.Refusal.TheVariants as reasons
 use Rattle.desk_commands.specs.private.Outcomes.{EndsFile, EndsReport, IsOutcome}
-use Rattle.desk_args.specs.declared.status.Status.TheVariants.{Done}
+use Rattle.desk_args.specs.declared.status.ExitStatus.TheVariants.{Done}
 use Rattle.desk_args.specs.declared.task.Job.TheVariants.{Deliver, Print, Rebuild, Review}
 use Rattle.desk_args.specs.declared.task.Places.{Places}
 use Rattle.desk_args.specs.declared.task.Store.{Store}

@@ -17,7 +17,7 @@ use Rattle.desk_commands.specs.Taking.{HeldWith, Takes}
 use Rattle.desk_commands.specs.declared.refusal.Refusal.TheVariants as reasons
 use Rattle.desk_commands.specs.private.Outcomes.{EndsFile, EndsReport}
 use Rattle.desk_commands.proofs.OverLemmas.{listed, set_on}
-use Rattle.desk_args.specs.declared.status.Status.TheVariants.{Done}
+use Rattle.desk_args.specs.declared.status.ExitStatus.TheVariants.{Done}
 use Rattle.desk_args.specs.declared.task.Store.{Store}
 
 -- the host is known where its being unknown is not the answer

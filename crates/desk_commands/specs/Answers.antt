@@ -18,31 +18,31 @@ use Rattle.desk_commands.specs.declared.refusal.Refusal.{Refusal as Reason}
 use Rattle.desk_commands.specs.declared.refusal.Refusal.TheVariants.{BadWord, Beyond as Compared}
 use Rattle.desk_commands.specs.declared.refusal.Refusal.TheVariants.{Desk, FileFailed, NoMemory}
 use Rattle.desk_commands.specs.declared.refusal.Refusal.TheVariants.{Policy, Roster}
-use Rattle.desk_args.specs.declared.status.Status.{Status}
-use Rattle.desk_args.specs.declared.status.Status.TheVariants.{Denied, Done}
+use Rattle.desk_args.specs.declared.status.ExitStatus.{ExitStatus}
+use Rattle.desk_args.specs.declared.status.ExitStatus.TheVariants.{Denied, Done}
 use Rattle.desk_args.specs.declared.task.Store.TheVariants.{Memory}
 use Rattle.desk_args.specs.declared.task.Job.{Job}
 use Rattle.desk_args.specs.declared.task.Job.TheVariants.{Beyond, Check, Decide, Deliver}
 use Rattle.desk_args.specs.declared.task.Job.TheVariants.{Print, Rebuild, Review, Serve}
 
 -- how the program ends after it
-abbrev pub status_of : Decision → Status
+abbrev pub status_of : Decision → ExitStatus
 status_of Deny = Denied
 status_of Allow = Done
 status_of AllowNoPassword = Done
 
 -- the decision and a newline, with the status that goes with it
-abbrev pub IsDecided : Decision → Status → List ℕ → Type 0
+abbrev pub IsDecided : Decision → ExitStatus → List ℕ → Type 0
 IsDecided decision status text =
     (status ≡ status_of decision) × (text ≡ decision_text decision ++ 10 ∷ [])
 
 -- `check` answers with the canonical text of the policy that the file spells.
-abbrev pub ChecksFile : List ℕ → Status → List ℕ → Type 0
+abbrev pub ChecksFile : List ℕ → ExitStatus → List ℕ → Type 0
 ChecksFile file status text =
     (es : List Entry) × Spells file es × (status ≡ Done) × (text ≡ canon es)
 
 -- `decide` answers with what the policy that the file spells decides of the invocation.
-abbrev pub DecidesByFile : List ℕ → Invocation → Status → List ℕ → Type 0
+abbrev pub DecidesByFile : List ℕ → Invocation → ExitStatus → List ℕ → Type 0
 DecidesByFile file invocation status text =
     (es : List Entry) × (decision : Decision) × Spells file es
     × Decides es invocation decision × IsDecided decision status text
@@ -61,7 +61,7 @@ OfFiles files Holds = ⊥
 -- over this input, if it is known, is answered by this text, and ends with this status; `said` is
 -- said beside the answer. `serve` has no such answer: what it writes depends on who connects.
 abbrev pub IsAnswer : Job → (files : List (List ℕ)) → Kept
-    → (input : Option (List ℕ)) → Status → (text said : List ℕ) → Type 0
+    → (input : Option (List ℕ)) → ExitStatus → (text said : List ℕ) → Type 0
 IsAnswer (Check name) files k input status text said =
     OfFile files (λ file. ChecksFile file status text) × (said ≡ [])
 IsAnswer (Decide name invocation) files k input status text said =
@@ -86,7 +86,7 @@ IsAnswer (Serve places addr requests) files k input status text said = ⊥
 -- The job over these files, what is kept and this input has an answer.
 abbrev pub HasAnswer : Job → (files : List (List ℕ)) → Kept → (input : Option (List ℕ)) → Type 0
 HasAnswer job files k input =
-    (status : Status) × (text said : List ℕ) × IsAnswer job files k input status text said
+    (status : ExitStatus) × (text said : List ℕ) × IsAnswer job files k input status text said
 
 -- the job asks a desk, and so a keeper
 abbrev pub IsOnDesk : Job → Type 0

@@ -12,8 +12,8 @@ use Rattle.sudo_decide.specs.declared.scope.Scope.{Scope}
 use Rattle.desk_commands.specs.Files.{IsFaultOf}
 use Rattle.desk_commands.specs.declared.refusal.Refusal.{Refusal as Reason}
 use Rattle.desk_commands.specs.declared.refusal.Refusal.TheVariants as reasons
-use Rattle.desk_args.specs.declared.status.Status.{Status}
-use Rattle.desk_args.specs.declared.status.Status.TheVariants.{Done, Found}
+use Rattle.desk_args.specs.declared.status.ExitStatus.{ExitStatus}
+use Rattle.desk_args.specs.declared.status.ExitStatus.TheVariants.{Done, Found}
 
 -- each word after a space
 abbrev pub spaced : List (List ℕ) → List ℕ
@@ -25,7 +25,7 @@ abbrev pub case_text : Invocation → List ℕ
 case_text i = i.user ++ spaced (i.host ∷ i.runas ∷ stamp i.at ∷ i.path ∷ i.args)
 
 -- `none`, which is done; or the case, which is found; and a newline
-abbrev pub IsShown : Option Invocation → Status → List ℕ → Type 0
+abbrev pub IsShown : Option Invocation → ExitStatus → List ℕ → Type 0
 IsShown None status text = (status ≡ Done) × (text ≡ codes "none\n")
 IsShown (Some i) status text = (status ≡ Found) × (text ≡ case_text i ++ codes "\n")
 
@@ -33,7 +33,7 @@ IsShown (Some i) status text = (status ≡ Found) × (text ≡ case_text i ++ co
 -- no invocation at all in the scope that b refuses; or it answers with one that a allows and b
 -- refuses, which is the first of at most 1,000,000 cases.
 pub record ComparesFiles (scope : Scope) (a_file b_file : List ℕ)
-    (status : Status) (text : List ℕ) : Type 0 where
+    (status : ExitStatus) (text : List ℕ) : Type 0 where
   pub a : List Entry
   pub b : List Entry
   pub found : Option Invocation

@@ -15,8 +15,8 @@ use Rattle.desk_commands.specs.Kept.{Kept}
 use Rattle.desk_commands.specs.Lines.{from_relay, input_lines}
 use Rattle.desk_commands.specs.declared.refusal.Refusal.{Refusal as Reason}
 use Rattle.desk_commands.specs.declared.refusal.Refusal.TheVariants as reasons
-use Rattle.desk_args.specs.declared.status.Status.{Status}
-use Rattle.desk_args.specs.declared.status.Status.TheVariants.{Done, LinesRefused}
+use Rattle.desk_args.specs.declared.status.ExitStatus.{ExitStatus}
+use Rattle.desk_args.specs.declared.status.ExitStatus.TheVariants.{Done, LinesRefused}
 
 -- `ack`, or the refusal's code and name; and a newline
 abbrev pub answer_line : Result Ack Refusal → List ℕ
@@ -29,14 +29,15 @@ answer_lines [] = []
 answer_lines (answer ∷ answers) = answer_line answer ++ answer_lines answers
 
 -- it is done where each line is acknowledged
-abbrev pub status_after : List (Result Ack Refusal) → Status
+abbrev pub status_after : List (Result Ack Refusal) → ExitStatus
 status_after answers = if list_all is_ok answers then Done else LinesRefused
 
 -- `deliver` answers with what the desk answers to each line of the input, in order, from the relay.
 -- What is acknowledged is held then, and nothing else is new. A line is answered `K4 Storage` only
 -- where a failure was counted.
-pub record DeliversLines (roster : RosterFields Cmnd) (relay : List ℕ) (old new : Message → Type 0)
-    (Up Failed : Type 0) (input : Option (List ℕ)) (status : Status) (text : List ℕ) : Type 0 where
+pub record DeliversLines (roster : RosterFields Cmnd) (relay : List ℕ)
+    (old new : Message → Type 0) (Up Failed : Type 0) (input : Option (List ℕ))
+    (status : ExitStatus) (text : List ℕ) : Type 0 where
   pub lines : List (List ℕ)
   pub answers : List (Result Ack Refusal)
   pub lines_are : IfSome input (λ bytes. lines ≡ input_lines bytes)

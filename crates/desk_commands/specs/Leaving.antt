@@ -18,7 +18,7 @@ use Rattle.desk_commands.specs.Telling.{AppendsFront, refusal_line}
 use Rattle.desk_commands.specs.Wanting.{IsWanting, TellsWant}
 use Rattle.desk_commands.specs.declared.refusal.Refusal.{Refusal as Reason}
 use Rattle.desk_commands.specs.declared.refusal.Refusal.TheVariants.{FileFailed}
-use Rattle.desk_args.specs.declared.status.Status.{Status}
+use Rattle.desk_args.specs.declared.status.ExitStatus.{ExitStatus}
 use Rattle.desk_args.specs.declared.task.Job.{Job}
 use Rattle.desk_args.specs.declared.task.Job.TheVariants.{Deliver, Print, Review}
 use Rattle.desk_args.specs.declared.task.Store.{Store}
@@ -125,13 +125,13 @@ TellsBefore job files input before after = Appends before after []
 -- the job has an answer, which tells of want
 abbrev pub HasWantingAnswer : Job → (files : List (List ℕ))
     → Kept → (input : Option (List ℕ)) → Type 0
-HasWantingAnswer job files k input = (status : Status) × (text said : List ℕ)
+HasWantingAnswer job files k input = (status : ExitStatus) × (text said : List ℕ)
     × IsAnswer job files k input status text said × TellsWant job text
 
 -- The job has an answer, and a beginning of its text was written, which may be all of it.
 abbrev pub BeganAnswer : Job → (files : List (List ℕ))
     → Kept → (input before after : Option (List ℕ)) → Type 0
-BeganAnswer job files k input before after = (status : Status) × (text said : List ℕ)
+BeganAnswer job files k input before after = (status : ExitStatus) × (text said : List ℕ)
     × IsAnswer job files k input status text said × AppendsFront before after text
 
 -- After what a refused job says first comes the line of its refusal, or a beginning of it. The

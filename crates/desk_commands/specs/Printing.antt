@@ -14,8 +14,8 @@ use Rattle.desk_commands.specs.Kept.{Kept, held}
 use Rattle.desk_commands.specs.Taking.{HeldWith, MayFailTaking, Takes}
 use Rattle.desk_commands.specs.declared.refusal.Refusal.{Refusal as Reason}
 use Rattle.desk_commands.specs.declared.refusal.Refusal.TheVariants as reasons
-use Rattle.desk_args.specs.declared.status.Status.{Status}
-use Rattle.desk_args.specs.declared.status.Status.TheVariants.{Done}
+use Rattle.desk_args.specs.declared.status.ExitStatus.{ExitStatus}
+use Rattle.desk_args.specs.declared.status.ExitStatus.TheVariants.{Done}
 use Rattle.desk_args.specs.declared.task.Store.{Store}
 
 -- the text of the host's file: the whole of it, or without the lines that end before a moment
@@ -40,7 +40,7 @@ lines_printed (Some moment) lines = lines_after moment lines
 -- where it takes them. It says why the other lines bring none.
 pub record PrintsHost (roster : RosterFields Cmnd) (base : List Entry)
     (store : Store) (host : List ℕ) (after : Option ℕ) (old new : Message → Type 0) (Up : Type 0)
-    (input : Option (List ℕ)) (status : Status) (text said : List ℕ) : Type 0 where
+    (input : Option (List ℕ)) (status : ExitStatus) (text said : List ℕ) : Type 0 where
   pub lines : List (List ℕ)
   pub taken : Takes store roster input lines said
   pub known : is_among roster.hosts host ≡ true

@@ -5,12 +5,12 @@ use Rattle.desk_store.specs.Sets.{SameSet}
 use Rattle.desk_commands.specs.Files.{EndsReplacing, EndsWith}
 use Rattle.desk_commands.specs.Kept.{Kept}
 use Rattle.desk_commands.specs.declared.refusal.Refusal.{Refusal as Reason}
-use Rattle.desk_args.specs.declared.status.Status.{Status}
-use Rattle.desk_args.specs.declared.status.Status.TheVariants.{Done}
+use Rattle.desk_args.specs.declared.status.ExitStatus.{ExitStatus}
+use Rattle.desk_args.specs.declared.status.ExitStatus.TheVariants.{Done}
 
 -- `rebuild` answers `ok`. What was held is held, also what the new roster does not admit.
 pub record RebuildsDesk (old new : Message → Type 0)
-    (Up : Type 0) (status : Status) (text : List ℕ) : Type 0 where
+    (Up : Type 0) (status : ExitStatus) (text : List ℕ) : Type 0 where
   pub done : status ≡ Done
   pub told : text ≡ codes "ok\n"
   pub stays : Up → SameSet old new

@@ -11,15 +11,15 @@ use Rattle.desk_commands.specs.Kept.{Kept}
 use Rattle.desk_commands.specs.Taking.{HeldWith, MayFailTaking, Takes}
 use Rattle.desk_commands.specs.declared.refusal.Refusal.{Refusal as Reason}
 use Rattle.desk_commands.specs.declared.refusal.Refusal.TheVariants as reasons
-use Rattle.desk_args.specs.declared.status.Status.{Status}
-use Rattle.desk_args.specs.declared.status.Status.TheVariants.{Done}
+use Rattle.desk_args.specs.declared.status.ExitStatus.{ExitStatus}
+use Rattle.desk_args.specs.declared.status.ExitStatus.TheVariants.{Done}
 use Rattle.desk_args.specs.declared.task.Store.{Store}
 
 -- `review` answers with the report at the moment, over what was held and what the lines of the
 -- input bring, where it takes them. It says why the other lines bring none.
 pub record ReviewsDesk (roster : RosterFields Cmnd) (base : List Entry)
     (store : Store) (at : ℕ) (old new : Message → Type 0) (Up : Type 0) (input : Option (List ℕ))
-    (status : Status) (text said : List ℕ) : Type 0 where
+    (status : ExitStatus) (text said : List ℕ) : Type 0 where
   pub lines : List (List ℕ)
   pub taken : Takes store roster input lines said
   pub reported : Up → (messages : List Message)

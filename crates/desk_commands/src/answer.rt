@@ -1,6 +1,6 @@
 //! Answers of jobs.
 
-use desk_args::Status;
+use desk_args::ExitStatus;
 
 /// What a job answers.
 #[derive(Drop)]
@@ -8,5 +8,5 @@ pub struct Answer {
     /// What is written.
     pub text: String,
     /// How the job ends.
-    pub status: Status,
+    pub status: ExitStatus,
 }

@@ -7,7 +7,7 @@ ghost use Rattle.desk_commands.specs.Comparing.{IsShown, case_text, spaced};
 
 use crate::answer::Answer;
 use crate::refusal::Refusal;
-use desk_args::Status;
+use desk_args::ExitStatus;
 use review::{Scope, beyond};
 use std::alloc::{AllocError, Global};
 use std::fmt::Write as _;
@@ -45,11 +45,11 @@ fn shown(alloc: Global, found: &Option<Invocation>) -> Result<Answer, AllocError
     match found {
         Some(case) => Ok(Answer {
             text: case_line(alloc, case)?,
-            status: Status::Found,
+            status: ExitStatus::Found,
         }),
         None => Ok(Answer {
             text: String::from_str(alloc, "none\n")?,
-            status: Status::Done,
+            status: ExitStatus::Done,
         }),
     }
 }

@@ -20,7 +20,7 @@ use crate::lines::read_lines;
 use crate::opening::open_over;
 use crate::refusal::Refusal;
 use desk::{Ack, Desk, Keeper};
-use desk_args::Status;
+use desk_args::ExitStatus;
 use std::alloc::{AllocError, AllocFailed, Global};
 use std::fmt::Write as _;
 use std::io::Read;
@@ -56,13 +56,13 @@ fn are_acknowledged(answers: &[Result<Ack, desk::Refusal>]) -> bool
 }
 
 /// How it ends: done where each line is acknowledged.
-fn status_of(answers: &[Result<Ack, desk::Refusal>]) -> Status
+fn status_of(answers: &[Result<Ack, desk::Refusal>]) -> ExitStatus
     ensures { result ≡ status_after answers.now }
 {
     if are_acknowledged(answers) {
-        Status::Done
+        ExitStatus::Done
     } else {
-        Status::LinesRefused
+        ExitStatus::LinesRefused
     }
 }
 

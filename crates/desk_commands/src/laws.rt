@@ -7,8 +7,8 @@ ghost use Rattle.sudo_decide.specs.declared.invocation.Invocation.{Invocation};
 ghost use Rattle.sudo_beyond.specs.Beyond.{IsInvocation, SomethingBeyond};
 ghost use Rattle.sudo_decide.specs.declared.scope.Scope.{Scope};
 ghost use Rattle.desk_commands.specs.Comparing.{ComparesFiles, case_text};
-ghost use Rattle.desk_args.specs.declared.status.Status.{Status};
-ghost use Rattle.desk_args.specs.declared.status.Status.TheVariants.{Done};
+ghost use Rattle.desk_args.specs.declared.status.ExitStatus.{ExitStatus};
+ghost use Rattle.desk_args.specs.declared.status.ExitStatus.TheVariants.{Done};
 
 /// Two cases with the same line are the same case, and no case has the line `none`.
 pub fn case_tells()
@@ -20,10 +20,10 @@ pub fn case_tells()
 /// For files that spell two policies, the answer is `none` exactly where nothing of the first lies
 /// beyond the second. The same holds for the status `Done`.
 pub fn none_tells()
-    ensures text { (scope : Scope) (a_file b_file : List ℕ) (a b : List Entry) (status : Status)
+    ensures text { (scope : Scope) (a_file b_file : List ℕ) (a b : List Entry) (status : ExitStatus)
         (text : List ℕ) → ComparesFiles scope a_file b_file status text → Spells a_file a
         → Spells b_file b → (text ≡ codes "none\n") ↔ (SomethingBeyond scope a b → ⊥) }
     ensures status { (scope : Scope) (a_file b_file : List ℕ) (a b : List Entry)
-        (status : Status) (text : List ℕ) → ComparesFiles scope a_file b_file status text
+        (status : ExitStatus) (text : List ℕ) → ComparesFiles scope a_file b_file status text
         → Spells a_file a → Spells b_file b → (status ≡ Done) ↔ (SomethingBeyond scope a b → ⊥) }
 {}

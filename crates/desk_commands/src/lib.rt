@@ -16,7 +16,9 @@ mod running;
 mod taking;
 mod telling;
 
-pub use desk_args::{Address, Job, JobFault, Places, Status, Store, Text, code, job, paths, show};
+pub use desk_args::{
+    Address, ExitStatus, Job, JobFault, Places, Store, Text, code, job, paths, show,
+};
 pub use opening::open_over;
 pub use refusal::Refusal;
 pub use running::{finish, run};

@@ -25,7 +25,7 @@ use crate::opening::open_over;
 use crate::refusal::Refusal;
 use crate::taking::take_input;
 use desk::{Desk, Keeper};
-use desk_args::{Places, Status, Store};
+use desk_args::{ExitStatus, Places, Store};
 use std::alloc::Global;
 use std::io::{Read, Write};
 use sudo_words::{HostName, Moment};
@@ -90,7 +90,7 @@ fn print_of<K: Keeper, R: Read, E: Write>(
     match file_of(desk, host, after) {
         Ok(text) => Ok(Answer {
             text,
-            status: Status::Done,
+            status: ExitStatus::Done,
         }),
         Err(refusal) => Err(Refusal::Desk(refusal)),
     }

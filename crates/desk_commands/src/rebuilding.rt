@@ -6,7 +6,7 @@ ghost use Rattle.desk_store.specs.Serves.{Serves};
 ghost use Rattle.desk_commands.specs.Kept.{kept_by};
 ghost use Rattle.desk_commands.specs.Wanting.{IsWanting};
 ghost use Rattle.desk_commands.specs.private.Outcomes.{IsLeft, IsOutcome, LivesAfter};
-ghost use Rattle.desk_args.specs.declared.status.Status.TheVariants.{Done};
+ghost use Rattle.desk_args.specs.declared.status.ExitStatus.TheVariants.{Done};
 ghost use Rattle.desk_args.specs.declared.task.Job.TheVariants as jobs;
 ghost use Rattle.desk_args.specs.declared.task.Places.{Places as Parts};
 
@@ -14,7 +14,7 @@ use crate::answer::Answer;
 use crate::opening::rebuild_over;
 use crate::refusal::Refusal;
 use desk::Keeper;
-use desk_args::Status;
+use desk_args::ExitStatus;
 use std::alloc::{AllocError, Global};
 
 /// The answer when the desk is rebuilt.
@@ -23,7 +23,7 @@ fn ok(alloc: Global) -> Result<Answer, AllocError>
 {
     Ok(Answer {
         text: String::from_str(alloc, "ok\n")?,
-        status: Status::Done,
+        status: ExitStatus::Done,
     })
 }
 

@@ -17,7 +17,7 @@ use crate::opening::open_over;
 use crate::refusal::Refusal;
 use crate::taking::take_input;
 use desk::{Desk, Keeper};
-use desk_args::{Places, Status, Store};
+use desk_args::{ExitStatus, Places, Store};
 use review::report;
 use std::alloc::Global;
 use std::io::{Read, Write};
@@ -52,7 +52,7 @@ fn review_of<K: Keeper, R: Read, E: Write>(
     match report(desk, at) {
         Ok(text) => Ok(Answer {
             text,
-            status: Status::Done,
+            status: ExitStatus::Done,
         }),
         Err(refusal) => Err(Refusal::Desk(refusal)),
     }

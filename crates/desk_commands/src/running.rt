@@ -28,7 +28,7 @@ use crate::refusal::Refusal;
 use crate::reviewing::review_desk;
 use crate::telling::{refuse, write_front};
 use desk::Keeper;
-use desk_args::{Job, Status};
+use desk_args::{ExitStatus, Job};
 use review::Scope;
 use std::alloc::{AllocError, Global};
 use std::io::{BufWriter, Read, Write};
@@ -37,13 +37,13 @@ use sudo_decide::{Decision, Invocation};
 use sudo_syntax::{Policy, print_owned, read_policy};
 use sudo_words::NoMemory;
 
-fn status_of(decision: Decision) -> Status
+fn status_of(decision: Decision) -> ExitStatus
     ensures { result ≡ status_of decision }
 {
     match decision {
-        Decision::Deny => Status::Denied,
-        Decision::Allow => Status::Done,
-        Decision::AllowNoPassword => Status::Done,
+        Decision::Deny => ExitStatus::Denied,
+        Decision::Allow => ExitStatus::Done,
+        Decision::AllowNoPassword => ExitStatus::Done,
     }
 }
 
@@ -74,7 +74,7 @@ fn check(alloc: Global, file: &mut Vec<u8>) -> Result<Answer, Refusal>
     let policy = policy_of(alloc, file)?;
     Ok(Answer {
         text: print_owned(alloc, policy)?,
-        status: Status::Done,
+        status: ExitStatus::Done,
     })
 }
 
@@ -171,13 +171,13 @@ fn answered<K: Keeper, R: Read, E: Write>(
     }
 }
 
-fn write_answer<W: Write, E: Write>(answer: &Answer, out: &mut W, err: &mut E) -> Status
-    ensures status { result ≢ Status.Refused → result ≡ answer.now.status }
-    ensures written { result ≢ Status.Refused
+fn write_answer<W: Write, E: Write>(answer: &Answer, out: &mut W, err: &mut E) -> ExitStatus
+    ensures status { result ≢ ExitStatus.Refused → result ≡ answer.now.status }
+    ensures written { result ≢ ExitStatus.Refused
         → Appends (W.contents out.old) (W.contents out.new) (string_bytes answer.now.text) }
     ensures front { AppendsFront (W.contents out.old)
         (W.contents out.new) (string_bytes answer.now.text) }
-    ensures quiet { result ≢ Status.Refused → E.contents err.new ≡ E.contents err.old }
+    ensures quiet { result ≢ ExitStatus.Refused → E.contents err.new ≡ E.contents err.old }
     ensures told { AppendsFront (E.contents err.old)
         (E.contents err.new) (refusal_line FileFailed) }
 {
@@ -188,14 +188,18 @@ fn write_answer<W: Write, E: Write>(answer: &Answer, out: &mut W, err: &mut E) -
 }
 
 /// Writes the answer of a job on `out`, or says on `err` why there is none.
-fn conclude<W: Write, E: Write>(answer: Result<Answer, Refusal>, out: &mut W, err: &mut E) -> Status
-    ensures answered { IfOk answer (λ a. result ≢ Status.Refused → (result ≡ a.status)
+fn conclude<W: Write, E: Write>(
+    answer: Result<Answer, Refusal>,
+    out: &mut W,
+    err: &mut E,
+) -> ExitStatus
+    ensures answered { IfOk answer (λ a. result ≢ ExitStatus.Refused → (result ≡ a.status)
         × Appends (W.contents out.old) (W.contents out.new) (string_bytes a.text)
         × (E.contents err.new ≡ E.contents err.old)) }
     ensures front { IfOk answer
         (λ a. AppendsFront (W.contents out.old) (W.contents out.new) (string_bytes a.text)) }
     ensures unanswered { IfErr answer
-        (λ _. (result ≡ Status.Refused) × (W.contents out.new ≡ W.contents out.old)) }
+        (λ _. (result ≡ ExitStatus.Refused) × (W.contents out.new ≡ W.contents out.old)) }
     ensures told { MatchResult answer
         (λ _. AppendsFront (E.contents err.old) (E.contents err.new) (refusal_line FileFailed))
         (λ e. AppendsFront (E.contents err.old) (E.contents err.new) (refusal_line e)) }
@@ -222,8 +226,8 @@ pub fn run<K: Keeper, R: Read, W: Write, E: Write>(
     input: &mut R,
     out: &mut W,
     err: &mut E,
-) -> (Status, K)
-    ensures answered { result.0 ≢ Status.Refused → (text : List ℕ) × (said : List ℕ)
+) -> (ExitStatus, K)
+    ensures answered { result.0 ≢ ExitStatus.Refused → (text : List ℕ) × (said : List ℕ)
         × IsAnswer job.now (map (λ f. f.items) files.old) (kept_by K.Keeper keeper result.1)
         (R.remaining input.old) result.0 text said × Appends (W.contents out.old)
         (W.contents out.new) text × Appends (E.contents err.old) (E.contents err.new) said
@@ -231,17 +235,18 @@ pub fn run<K: Keeper, R: Read, W: Write, E: Write>(
         → TellsWant job.now text ⊎ K.is_up result.1) }
     // A job that is refused leaves `out` as it was, and there is a reason for it; or it has an
     // answer, and no more than a beginning of that was written.
-    ensures refused { result.0 ≡ Status.Refused → ((W.contents out.new ≡ W.contents out.old)
+    ensures refused { result.0 ≡ ExitStatus.Refused → ((W.contents out.new ≡ W.contents out.old)
         × HasCause job.now (map (λ f. f.items) files.old) (kept_by K.Keeper keeper result.1)
         (R.remaining input.old)) ⊎ BeganAnswer job.now (map (λ f. f.items) files.old)
         (kept_by K.Keeper keeper result.1) (R.remaining input.old)
         (W.contents out.old) (W.contents out.new) }
     // What a refused job leaves at the keeper, and what it says on `err`.
-    ensures kept { result.0 ≡ Status.Refused → K.is_up result.1
+    ensures kept { result.0 ≡ ExitStatus.Refused → K.is_up result.1
         → KeepsAfterRefusal job.now (map (λ f. f.items) files.old) (kept_by K.Keeper keeper
         result.1) (K.is_same keeper result.1) (R.remaining input.old) ⊎ HasAnswer job.now
         (map (λ f. f.items) files.old) (kept_by K.Keeper keeper result.1) (R.remaining input.old) }
-    ensures told { result.0 ≡ Status.Refused → TellsRefusal job.now (map (λ f. f.items) files.old)
+    ensures told { result.0 ≡ ExitStatus.Refused
+        → TellsRefusal job.now (map (λ f. f.items) files.old)
         (kept_by K.Keeper keeper result.1) (K.is_up keeper × K.is_clean result.1)
         (R.remaining input.old) (E.contents err.old) (E.contents err.new) }
     // Only a job on a desk asks the keeper, and only one that takes lines reads the input.
@@ -257,19 +262,19 @@ pub fn run<K: Keeper, R: Read, W: Write, E: Write>(
 ///
 /// A job whose output cannot be written out is refused, and `err` says so.
 pub fn finish<W: Write + Drop, E: Write>(
-    status: Status,
+    status: ExitStatus,
     out: &mut BufWriter<W>,
     err: &mut E,
-) -> Status
-    ensures status { result ≢ Status.Refused → result ≡ status }
+) -> ExitStatus
+    ensures status { result ≢ ExitStatus.Refused → result ≡ status }
     // Nothing of an answer is left in the buffer.
-    ensures written_out { result ≢ Status.Refused → writer_buffer out.new ≡ [] }
+    ensures written_out { result ≢ ExitStatus.Refused → writer_buffer out.new ≡ [] }
     ensures kept { Keeps (writer_contents W.contents out.old) (writer_contents W.contents out.new) }
-    ensures quiet { result ≢ Status.Refused → E.contents err.new ≡ E.contents err.old }
+    ensures quiet { result ≢ ExitStatus.Refused → E.contents err.new ≡ E.contents err.old }
     ensures told { AppendsFront (E.contents err.old)
         (E.contents err.new) (refusal_line FileFailed) }
 {
-    if status == Status::Refused {
+    if status == ExitStatus::Refused {
         return status;
     }
     if out.flush().is_err() {

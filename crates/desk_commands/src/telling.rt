@@ -6,7 +6,7 @@ ghost use Rattle.std.specs.Io.KnownBytes.{Appends};
 ghost use Rattle.desk_commands.specs.Telling.{AppendsFront, refusal_line};
 
 use crate::refusal::Refusal;
-use desk_args::Status;
+use desk_args::ExitStatus;
 use std::fmt::{InlineText, Write as _};
 use std::io::{ErrorKind, Write};
 use std::{fmt, io};
@@ -57,11 +57,11 @@ fn say_line<E: Write>(refusal: Refusal, err: &mut E) -> io::Result<()>
 ///
 /// Where it could not be written, a beginning of the line was written, and nothing else can be
 /// done.
-pub fn refuse<E: Write>(refusal: Refusal, err: &mut E) -> (Status, io::Result<()>)
-    ensures status { result.0 ≡ Status.Refused }
+pub fn refuse<E: Write>(refusal: Refusal, err: &mut E) -> (ExitStatus, io::Result<()>)
+    ensures status { result.0 ≡ ExitStatus.Refused }
     ensures told { OnOk result.1
         (Appends (E.contents err.old) (E.contents err.new) (refusal_line refusal)) }
     ensures front { AppendsFront (E.contents err.old) (E.contents err.new) (refusal_line refusal) }
 {
-    (Status::Refused, say_line(refusal, err))
+    (ExitStatus::Refused, say_line(refusal, err))
 }

@@ -194,8 +194,32 @@ fn change_of(
     }))
 }
 
+/// Adds what the new roster makes of the grants of these requests, in their order. What stays as it
+/// is has no place in it.
+fn push_changes(
+    changes: &mut Vec<Change>,
+    old: &Roster,
+    new: &Roster,
+    messages: &[Message],
+    summaries: &[Summary],
+    now: Moment,
+) -> Result<(), NoMemory> {
+    for summary in summaries {
+        if let Some(change) = change_of(old, new, messages, summary, now)? {
+            changes.push(change)?;
+        }
+    }
+    Ok(())
+}
+
+/// The summaries of these messages, in the order of their names.
+fn summaries_of(alloc: Global, messages: &[Message]) -> Result<Vec<Summary>, NoMemory> {
+    let gathered = Gathered::of(alloc, messages)?;
+    summaries_in(alloc, &gathered)
+}
+
 /// What the new roster makes of the grants of these messages from the moment on, in the order of
-/// their names. What stays as it is has no place in it.
+/// their names.
 fn changes_between(
     alloc: Global,
     old: &Roster,
@@ -203,13 +227,9 @@ fn changes_between(
     messages: &[Message],
     now: Moment,
 ) -> Result<Vec<Change>, NoMemory> {
-    let gathered = Gathered::of(alloc, messages)?;
+    let summaries = summaries_of(alloc, messages)?;
     let mut changes = Vec::new(alloc);
-    for summary in summaries_in(alloc, &gathered)? {
-        if let Some(change) = change_of(old, new, messages, &summary, now)? {
-            changes.push(change)?;
-        }
-    }
+    push_changes(&mut changes, old, new, messages, summaries.as_slice(), now)?;
     Ok(changes)
 }
 
@@ -225,6 +245,37 @@ fn roster_of(alloc: Global, text: &[u8]) -> Result<Option<Roster>, NoMemory> {
     }
 }
 
+/// What the new roster makes of the grants of the desk that the keeper keeps.
+fn changes_to<K: Keeper>(
+    alloc: Global,
+    old: &Roster,
+    new: &Roster,
+    keeper: &mut K,
+    now: Moment,
+) -> Result<Vec<Change>, KeeperError>
+    requires { K.is_up keeper.old → K.is_desk keeper.old }
+{
+    let messages = keeper.messages()?;
+    Ok(changes_between(alloc, old, new, messages.as_slice(), now)?)
+}
+
+/// What the roster of a file makes of the grants of the desk that the keeper keeps, whose roster is
+/// the old one.
+fn changes_by<K: Keeper>(
+    alloc: Global,
+    old: &Roster,
+    file: &[u8],
+    keeper: &mut K,
+    now: Moment,
+) -> Result<Vec<Change>, KeeperError>
+    requires { K.is_up keeper.old → K.is_desk keeper.old }
+{
+    match roster_of(alloc, file)? {
+        Some(new) => changes_to(alloc, old, &new, keeper, now),
+        None => Ok(Vec::new(alloc)),
+    }
+}
+
 /// What the roster of a file makes of the grants of the desk that the keeper keeps, with this
 /// roster's text.
 fn changes_from<K: Keeper>(
@@ -236,14 +287,10 @@ fn changes_from<K: Keeper>(
 ) -> Result<Vec<Change>, KeeperError>
     requires { K.is_up keeper.old → K.is_desk keeper.old }
 {
-    let (Some(old), Some(new)) = (
-        roster_of(alloc, recorded.as_bytes())?,
-        roster_of(alloc, file)?,
-    ) else {
-        return Ok(Vec::new(alloc));
-    };
-    let messages = keeper.messages()?;
-    Ok(changes_between(alloc, &old, &new, messages.as_slice(), now)?)
+    match roster_of(alloc, recorded.as_bytes())? {
+        Some(old) => changes_by(alloc, &old, file, keeper, now),
+        None => Ok(Vec::new(alloc)),
+    }
 }
 
 /// What the roster of a file makes of the grants of the desk that the keeper keeps, from the moment

@@ -6,7 +6,7 @@ use crate::socket::Stream;
 use desk::{Desk, Keeper};
 use mio::{Registry, Token};
 use relay_http::{
-    Action, Counted, Exchange, ExchangeBuffer, Outgoing, ReadFault, Routes, ServeFault,
+    Action, Counted, Exchange, ExchangeBuffer, Outgoing, ReceiveFault, Routes, ServeFault,
 };
 use std::alloc::Global;
 use std::io::{self, ErrorKind, Read};
@@ -88,9 +88,9 @@ fn take_request(
         match exchange.read_on(routes, &mut reader, buffer) {
             Ok(0) => return Next::IsWhole,
             Ok(_) => {}
-            Err(ReadFault::Failed(ErrorKind::WouldBlock)) => return Next::Waits,
-            Err(ReadFault::Failed(_)) => return Next::Fails(ServeFault::ReadFailed),
-            Err(ReadFault::NoMemory) => return Next::Fails(ServeFault::NoMemory),
+            Err(ReceiveFault::Failed(ErrorKind::WouldBlock)) => return Next::Waits,
+            Err(ReceiveFault::Failed(_)) => return Next::Fails(ServeFault::ReadFailed),
+            Err(ReceiveFault::NoMemory) => return Next::Fails(ServeFault::NoMemory),
         }
     }
     Next::IsWhole

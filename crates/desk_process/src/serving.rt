@@ -5,7 +5,7 @@ use crate::service::End;
 use crate::stores::tell_new;
 use crate::trouble::Trouble;
 use desk::Keeper;
-use desk_commands::{Address, Refusal, Status, open_over};
+use desk_commands::{Address, ExitStatus, Refusal, open_over};
 use sha2::{Digest, Sha256};
 use std::alloc::Global;
 
@@ -18,9 +18,9 @@ fn digest_of(alloc: Global, roster: &[u8]) -> Result<String, Refusal> {
 }
 
 /// The status or the refusal with which the service ended.
-fn status_of(served: Result<End, Trouble>) -> Result<Status, Trouble> {
+fn status_of(served: Result<End, Trouble>) -> Result<ExitStatus, Trouble> {
     match served? {
-        End::Served => Ok(Status::Done),
+        End::Served => Ok(ExitStatus::Done),
         End::StorageFailed => Err(Trouble::from(Refusal::Desk(desk::Refusal::Storage))),
     }
 }
@@ -38,7 +38,7 @@ pub(crate) fn serve<K: Keeper>(
     new: Option<&str>,
     addr: &Address,
     requests: Option<u64>,
-) -> (Result<Status, Trouble>, K) {
+) -> (Result<ExitStatus, Trouble>, K) {
     let [roster, base, ..] = files else {
         return (Err(Trouble::from(Refusal::FileFailed)), keeper);
     };

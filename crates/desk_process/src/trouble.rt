@@ -1,6 +1,6 @@
 //! Why a job is refused, and what failed where a file, a stream or an address did.
 
-use desk_commands::{Refusal, Status, refuse};
+use desk_commands::{ExitStatus, Refusal, refuse};
 use std::alloc::{AllocFailed, Global};
 use std::fmt::Display;
 use std::io;
@@ -31,7 +31,7 @@ impl Trouble {
     }
 
     /// Says the refusal on the standard error, and on a further line what failed.
-    pub(crate) fn tell(&self, rt: &HostRuntime) -> Status {
+    pub(crate) fn tell(&self, rt: &HostRuntime) -> ExitStatus {
         let (status, _) = refuse(self.refusal, &mut rt.stderr());
         self.tell_cause(rt);
         status

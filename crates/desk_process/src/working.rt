@@ -7,7 +7,7 @@ use crate::serving::serve;
 use crate::stores::{Opened, close, open_store, path_of};
 use crate::trouble::{Trouble, tell_failed};
 use desk::{Keeper, MemoryKeeper};
-use desk_commands::{Job, Refusal, Status, finish, run};
+use desk_commands::{ExitStatus, Job, Refusal, finish, run};
 use desk_store::SqliteKeeper;
 use sqlite::Alter;
 use std::io::{BufReader, BufWriter};
@@ -19,7 +19,7 @@ fn run_on_streams<K: Keeper + Drop>(
     job: &Job,
     files: &mut [Vec<u8>],
     keeper: K,
-) -> (Result<Status, Trouble>, K) {
+) -> (Result<ExitStatus, Trouble>, K) {
     let alloc = rt.alloc();
     let Ok(reader) = BufReader::new(alloc, rt.stdin()) else {
         return (Err(Trouble::from(Refusal::NoMemory)), keeper);
@@ -31,7 +31,7 @@ fn run_on_streams<K: Keeper + Drop>(
     let mut err = rt.stderr();
     let (status, keeper) = run(alloc, job, files, keeper, &mut input, &mut out, &mut err);
     let status = finish(status, &mut out, &mut err);
-    if status == Status::Refused {
+    if status == ExitStatus::Refused {
         tell_failed(rt, "standard input", input.failed());
         tell_failed(rt, "standard output", out.get_ref().failed());
     }
@@ -46,7 +46,7 @@ fn work_over<K: Keeper + Drop>(
     files: &mut [Vec<u8>],
     keeper: K,
     new: Option<&str>,
-) -> (Result<Status, Trouble>, K) {
+) -> (Result<ExitStatus, Trouble>, K) {
     match job {
         Job::Serve { addr, requests, .. } => serve(rt, files, keeper, new, addr, *requests),
         _ => run_on_streams(rt, job, files, keeper),
@@ -61,7 +61,7 @@ fn work_stored<S: Alter + Drop>(
     files: &mut [Vec<u8>],
     mut stored: SqliteKeeper<S>,
     new: Option<&str>,
-) -> (Result<Status, Trouble>, SqliteKeeper<S>) {
+) -> (Result<ExitStatus, Trouble>, SqliteKeeper<S>) {
     if let (Job::Rebuild { .. }, [roster, base, ..]) = (job, &*files) {
         let told = tell_changes(rt, roster.as_slice(), base.as_slice(), &mut stored);
         if let Err(trouble) = told {
@@ -72,7 +72,7 @@ fn work_stored<S: Alter + Drop>(
 }
 
 /// Does the job, or says why not: its files are read before its database is opened.
-fn done(rt: &HostRuntime, job: &Job) -> Result<Status, Trouble> {
+fn done(rt: &HostRuntime, job: &Job) -> Result<ExitStatus, Trouble> {
     let mut files = files(rt, job)?;
     let Some(Opened { stored, is_new }) = open_store(rt, job)? else {
         let memory = MemoryKeeper::new(rt.alloc());
@@ -80,7 +80,7 @@ fn done(rt: &HostRuntime, job: &Job) -> Result<Status, Trouble> {
     };
     let new = path_of(job).filter(|_| is_new);
     let (status, stored) = work_stored(rt, job, files.as_mut_slice(), stored, new);
-    let is_done = matches!(status, Ok(Status::Done | Status::LinesRefused));
+    let is_done = matches!(status, Ok(ExitStatus::Done | ExitStatus::LinesRefused));
     close(rt, job, Opened { stored, is_new }, is_done);
     status
 }
@@ -92,7 +92,7 @@ fn done(rt: &HostRuntime, job: &Job) -> Result<Status, Trouble> {
 /// or an address cannot be listened at, and a further line says which and why; the other refusals
 /// are those of the job itself. A store that the job made is named on the standard error. When the
 /// job ends in order, what is in the database's log goes into its file.
-pub fn work(rt: &HostRuntime, job: &Job) -> Status {
+pub fn work(rt: &HostRuntime, job: &Job) -> ExitStatus {
     match done(rt, job) {
         Ok(status) => status,
         Err(trouble) => trouble.tell(rt),

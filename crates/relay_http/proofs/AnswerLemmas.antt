@@ -27,7 +27,7 @@ use Rattle.desk.specs.declared.refusal.Refusal.TheVariants.{RosterChanged, NotAD
 use Rattle.relay_http.specs.Request.{Action, deliver}
 use Rattle.relay_http.specs.Lasting.{IsAddedBy, Lasts}
 use Rattle.relay_http.specs.Prepared.{to_question}
-use Rattle.relay_http.specs.declared.status.Status.TheVariants as status
+use Rattle.relay_http.specs.declared.status.ResponseStatus.TheVariants as status
 use Rattle.relay_http.specs.Responses.{IsFileResponse, IsResponse, IsServerFailure, Response, done, is_known_host, refusal, to_delivery}
 
 -- the two wants of a refusal, as responses

@@ -21,9 +21,9 @@ use Rattle.relay_http.specs.Responses.{Leaves, Response}
 use Rattle.relay_http.specs.Response.{written}
 use Rattle.relay_http.specs.RequestBytes.{IsHttpRequest, Dates, HasHead, request_from, front, is_head}
 use Rattle.relay_http.specs.declared.fault.RequestFault.TheVariants.{BadHead}
-use Rattle.relay_http.specs.declared.status.Status.{Status}
-use Rattle.relay_http.specs.declared.status.Status.TheVariants.{Done, BadRequest, Forbidden, NotFound, MethodNotAllowed}
-use Rattle.relay_http.specs.declared.status.Status.TheVariants.{LengthRequired, ContentTooLarge, ServiceUnavailable}
+use Rattle.relay_http.specs.declared.status.ResponseStatus.{ResponseStatus}
+use Rattle.relay_http.specs.declared.status.ResponseStatus.TheVariants.{Done, BadRequest, Forbidden, NotFound, MethodNotAllowed}
+use Rattle.relay_http.specs.declared.status.ResponseStatus.TheVariants.{LengthRequired, ContentTooLarge, ServiceUnavailable}
 use Rattle.relay_http.proofs.LawLemmas.{only_messages_deliver, only_post_delivers}
 use Rattle.relay_http.proofs.RequestLemmas.{one_request}
 
@@ -98,7 +98,7 @@ delivery_is_post bytes request relay body (inr x) e =
 
 -- ---- what an exchange leaves
 
-is_done : (s : Status) → (s ≡ Done) ⊎ (s ≢ Done)
+is_done : (s : ResponseStatus) → (s ≡ Done) ⊎ (s ≢ Done)
 is_done Done = inl refl
 is_done BadRequest = inr (λ e. cc)
 is_done Forbidden = inr (λ e. cc)
@@ -141,7 +141,7 @@ module _ (roster : Reading) (base : List Entry) (IsUp : Type 0) (old new : Messa
               (
                 x.response.body,
                 subst (λ (b : Bool). Wrote (written Done x.response.body b)) post.1
-                    (subst (λ (s : Status). Wrote (written s x.response.body request.with_body)) d.3 x.wrote),
+                    (subst (λ (s : ResponseStatus). Wrote (written s x.response.body request.with_body)) d.3 x.wrote),
               ),
             )
       ]

@@ -21,7 +21,7 @@ use Rattle.relay_http.specs.declared.route.Route.TheVariants.{Messages}
 use Rattle.relay_http.specs.declared.serving.ServeFault.{ServeFault}
 use Rattle.relay_http.specs.declared.serving.ServeFault.TheVariants.{ReadFailed}
 use Rattle.relay_http.specs.declared.serving.ServeFault.TheVariants.{WriteFailed, NoMemory}
-use Rattle.relay_http.specs.declared.status.Status.TheVariants.{Done}
+use Rattle.relay_http.specs.declared.status.ResponseStatus.TheVariants.{Done}
 
 -- The response of a desk of this roster and base to what is asked. `IsUp` says that the storage was
 -- honest and no failure has shut it, `old` and `new` which messages it holds before and then,

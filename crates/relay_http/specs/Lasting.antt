@@ -11,7 +11,7 @@ use Rattle.relay_http.specs.Request.{parked, host_file, host_file_after, report,
 use Rattle.relay_http.specs.Request.{requests, requests_after, named_request}
 use Rattle.relay_http.specs.Responses.{Response}
 use Rattle.relay_http.specs.Response.{written}
-use Rattle.relay_http.specs.declared.status.Status.TheVariants.{Done}
+use Rattle.relay_http.specs.declared.status.ResponseStatus.TheVariants.{Done}
 
 -- A delivery commits only its message, if that is to be acknowledged and the keeper was up. No
 -- other action commits anything.

@@ -7,8 +7,8 @@ use Rattle.relay_http.specs.RequestBytes.{IsHttpRequest, HasHead, most_head_byte
 use Rattle.relay_http.specs.Counting.{one_failure}
 use Rattle.relay_http.specs.declared.exchange.Need.{Need}
 use Rattle.relay_http.specs.declared.exchange.Need.TheVariants as need
-use Rattle.relay_http.specs.declared.exchange.ReadFault.{ReadFault}
-use Rattle.relay_http.specs.declared.exchange.ReadFault.TheVariants as fault
+use Rattle.relay_http.specs.declared.exchange.ReceiveFault.{ReceiveFault}
+use Rattle.relay_http.specs.declared.exchange.ReceiveFault.TheVariants as fault
 use Rattle.relay_http.specs.declared.fault.RequestFault.TheVariants.{ShortBody}
 
 -- The bytes are one request, whatever bytes follow.
@@ -49,7 +49,7 @@ HasRead left_before left_now before now n = (bytes : List ℕ)
     × Consumes left_before left_now bytes × (now ≡ before ++ bytes) × (length bytes ≡ n)
 
 -- the count of failures after a read: want of memory for what came is none of the reader's
-abbrev pub after_reading : Result ℕ ReadFault → ℕ → ℕ
+abbrev pub after_reading : Result ℕ ReceiveFault → ℕ → ℕ
 after_reading (Ok n) count = count
 after_reading (Err (fault.Failed kind)) count = one_failure count
 after_reading (Err fault.NoMemory) count = count

@@ -7,11 +7,11 @@ use Rattle.relay_http.specs.declared.fault.RequestFault.TheVariants.{BadMethod, 
 use Rattle.relay_http.specs.declared.fault.RequestFault.TheVariants.{BadLength, TooLong}
 use Rattle.relay_http.specs.declared.fault.RequestFault.TheVariants.{ShortBody, BadMoment}
 use Rattle.relay_http.specs.declared.route.Methods.TheVariants.{Post, GetOrHead}
-use Rattle.relay_http.specs.declared.status.Status.{Status}
-use Rattle.relay_http.specs.declared.status.Status.TheVariants as status
+use Rattle.relay_http.specs.declared.status.ResponseStatus.{ResponseStatus}
+use Rattle.relay_http.specs.declared.status.ResponseStatus.TheVariants as status
 
 -- the code of a status (RFC 9110, section 15)
-abbrev pub code_of : Status → ℕ
+abbrev pub code_of : ResponseStatus → ℕ
 code_of status.Done = 200
 code_of status.BadRequest = 400
 code_of status.Forbidden = 403
@@ -22,7 +22,7 @@ code_of status.ContentTooLarge = 413
 code_of status.ServiceUnavailable = 503
 
 -- and its phrase
-abbrev pub phrase_of : Status → List ℕ
+abbrev pub phrase_of : ResponseStatus → List ℕ
 phrase_of status.Done = codes "OK"
 phrase_of status.BadRequest = codes "Bad Request"
 phrase_of status.Forbidden = codes "Forbidden"
@@ -33,7 +33,7 @@ phrase_of status.ContentTooLarge = codes "Content Too Large"
 phrase_of status.ServiceUnavailable = codes "Service Unavailable"
 
 -- the three digits of the code, a space, and the phrase (RFC 9112, section 4)
-abbrev pub status_text : Status → List ℕ
+abbrev pub status_text : ResponseStatus → List ℕ
 status_text s = code_digits (code_of s) ++ codes " " ++ phrase_of s
 
 -- carriage return and newline
@@ -41,7 +41,7 @@ abbrev pub line_end : List ℕ
 line_end = 13 ∷ 10 ∷ []
 
 -- the methods of the route, where another was used (RFC 9110, section 15.5.6)
-abbrev pub allow_line : Status → List ℕ
+abbrev pub allow_line : ResponseStatus → List ℕ
 allow_line (status.MethodNotAllowed Post) = codes "Allow: POST" ++ line_end
 allow_line (status.MethodNotAllowed GetOrHead) = codes "Allow: GET, HEAD" ++ line_end
 allow_line status.Done = []
@@ -53,7 +53,7 @@ allow_line status.ContentTooLarge = []
 allow_line status.ServiceUnavailable = []
 
 -- the head of a response, whose body has so many bytes
-abbrev pub response_head : Status → ℕ → List ℕ
+abbrev pub response_head : ResponseStatus → ℕ → List ℕ
 response_head s size =
     codes "HTTP/1.1 " ++ status_text s ++ line_end
     ++ codes "Content-Type: text/plain" ++ line_end
@@ -63,7 +63,7 @@ response_head s size =
     ++ line_end
 
 -- the response: its head tells the body's length, and the body is there where it is wanted
-abbrev pub written : Status → List ℕ → (with_body : Bool) → List ℕ
+abbrev pub written : ResponseStatus → List ℕ → (with_body : Bool) → List ℕ
 written s body with_body = response_head s (length body) ++ (if with_body then body else [])
 
 -- the code and name of a fault
@@ -79,7 +79,7 @@ fault_text BadMoment = codes "T8 BadMoment"
 fault_text TooLong = codes "M1 TooLong"
 
 -- the status of a fault
-abbrev pub status_of : RequestFault → Status
+abbrev pub status_of : RequestFault → ResponseStatus
 status_of BadHead = status.BadRequest
 status_of BadTarget = status.BadRequest
 status_of NoRoute = status.NotFound

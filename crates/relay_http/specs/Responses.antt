@@ -38,12 +38,12 @@ use Rattle.relay_http.specs.Request.{Action, deliver, all_messages, count, grant
 use Rattle.relay_http.specs.Request.{host_file, host_file_after, report, refused}
 use Rattle.relay_http.specs.Request.{requests, requests_after, named_request}
 use Rattle.relay_http.specs.Response.{fault_line, status_of}
-use Rattle.relay_http.specs.declared.status.Status.{Status}
-use Rattle.relay_http.specs.declared.status.Status.TheVariants as status
+use Rattle.relay_http.specs.declared.status.ResponseStatus.{ResponseStatus}
+use Rattle.relay_http.specs.declared.status.ResponseStatus.TheVariants as status
 
 -- a response without its fields: its status, and its body
 pub record Response : Type 0 where
-  pub status : Status
+  pub status : ResponseStatus
   pub body : List ℕ
 
 -- ---- bodies
@@ -93,7 +93,7 @@ done body = record { status = status.Done; body = body }
 -- The status of a refusal of the desk (RFC 9110, section 15): 400 or 413 for the message's form,
 -- 403 for an unknown relay or a message that is not admitted, 404 for an unknown host, else 503,
 -- which is for now.
-abbrev pub refusal_status : Refusal → Status
+abbrev pub refusal_status : Refusal → ResponseStatus
 refusal_status UnknownRelay = status.Forbidden
 refusal_status UnknownHost = status.NotFound
 refusal_status TooLong = status.ContentTooLarge

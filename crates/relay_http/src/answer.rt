@@ -8,13 +8,13 @@ ghost use Rattle.relay_http.specs.Response.{fault_line, status_of};
 use crate::body::Body;
 use crate::fault::RequestFault;
 use crate::refusal_line::{refusal_line, refusal_status};
-use crate::status::Status;
+use crate::status::ResponseStatus;
 use desk::{Ack, Refusal};
 
 /// A response, before it is written: its status, its body, and the desk's refusal that it tells.
 #[derive(Debug, Drop)]
 pub struct Answer {
-    pub status: Status,
+    pub status: ResponseStatus,
     pub body: Body,
     pub refusal: Option<Refusal>,
 }
@@ -51,7 +51,7 @@ pub fn to_delivery(answer: Result<Ack, Refusal>) -> Answer
 {
     match answer {
         Ok(_) => Answer {
-            status: Status::Done,
+            status: ResponseStatus::Done,
             body: Body::Fixed(b"ack\n"),
             refusal: None,
         },
@@ -66,7 +66,7 @@ pub fn to_question(answer: Result<String, Refusal>) -> Answer
 {
     match answer {
         Ok(text) => Answer {
-            status: Status::Done,
+            status: ResponseStatus::Done,
             body: Body::Made(text),
             refusal: None,
         },

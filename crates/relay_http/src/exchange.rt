@@ -6,7 +6,7 @@ ghost use Rattle.std.specs.Io.KnownBytes.{IsAtEnd};
 ghost use Rattle.relay_http.specs.Request.{request_of};
 ghost use Rattle.relay_http.specs.Needs.{HasRead, IsNeed, IsSettled, after_reading};
 ghost use Rattle.relay_http.specs.Needs.{most_read, most_room};
-ghost use Rattle.relay_http.specs.declared.exchange.ReadFault.TheVariants as fault;
+ghost use Rattle.relay_http.specs.declared.exchange.ReceiveFault.TheVariants as fault;
 ghost use Rattle.relay_http.specs.Scan.{scanned};
 ghost use Rattle.relay_http.specs.Stages.{IsFound, IsStage};
 ghost use Rattle.relay_http.specs.RequestBytes.{IsHttpRequest};
@@ -40,7 +40,7 @@ pub enum Need {
 
 /// Why no more bytes of a request came.
 #[derive(Clone, Copy, Debug, PartialEq, Eq)]
-pub enum ReadFault {
+pub enum ReceiveFault {
     /// The read failed.
     Failed(ErrorKind),
     /// Bytes came, and there was no memory for them.
@@ -209,7 +209,7 @@ impl Exchange {
         routes: &Routes,
         reader: &mut Counted<R>,
         buffer: &mut ExchangeBuffer,
-    ) -> Result<usize, ReadFault>
+    ) -> Result<usize, ReceiveFault>
         ensures read { IfOk result (λ n. HasRead (R.remaining reader.old.inner)
             (R.remaining reader.new.inner) self.old.bytes self.new.bytes n) }
         ensures end { IfOk result (λ n. n ≡ 0 → IsAtEnd (R.remaining reader.new.inner)) }
@@ -222,11 +222,11 @@ impl Exchange {
     {
         let count = match reader.read(&mut buffer.bytes) {
             Ok(count) => count,
-            Err(error) => return Err(ReadFault::Failed(error.kind())),
+            Err(error) => return Err(ReceiveFault::Failed(error.kind())),
         };
         match self.take(routes, &buffer.bytes[..count]) {
             Ok(_) => Ok(count),
-            Err(NoMemory) => Err(ReadFault::NoMemory),
+            Err(NoMemory) => Err(ReceiveFault::NoMemory),
         }
     }
 

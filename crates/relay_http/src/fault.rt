@@ -1,7 +1,7 @@
 //! Why a request is refused by its bytes alone.
 
 use crate::route::Methods;
-use crate::status::Status;
+use crate::status::ResponseStatus;
 use desk::Refusal;
 use std::error::Error;
 use std::fmt;
@@ -50,7 +50,7 @@ impl RequestFault {
     ghost use Rattle.relay_http.specs.Response.{fault_line, status_of};
 
     /// The status of the refusal.
-    pub fn status(self) -> Status
+    pub fn status(self) -> ResponseStatus
         ensures { result ≡ status_of self }
     {
         match self {
@@ -58,11 +58,11 @@ impl RequestFault {
             | RequestFault::BadTarget
             | RequestFault::BadLength
             | RequestFault::ShortBody
-            | RequestFault::BadMoment => Status::BadRequest,
-            RequestFault::NoRoute => Status::NotFound,
-            RequestFault::BadMethod(methods) => Status::MethodNotAllowed(methods),
-            RequestFault::LengthRequired => Status::LengthRequired,
-            RequestFault::TooLong => Status::ContentTooLarge,
+            | RequestFault::BadMoment => ResponseStatus::BadRequest,
+            RequestFault::NoRoute => ResponseStatus::NotFound,
+            RequestFault::BadMethod(methods) => ResponseStatus::MethodNotAllowed(methods),
+            RequestFault::LengthRequired => ResponseStatus::LengthRequired,
+            RequestFault::TooLong => ResponseStatus::ContentTooLarge,
         }
     }
 

@@ -18,7 +18,7 @@ ghost use Rattle.relay_http.specs.RequestBytes.{action_by, front};
 ghost use Rattle.relay_http.specs.declared.fault.RequestFault.TheVariants.{ShortBody};
 ghost use Rattle.relay_http.specs.declared.route.Route.{Route};
 ghost use Rattle.relay_http.specs.declared.route.Route.TheVariants.{Messages};
-ghost use Rattle.relay_http.specs.declared.status.Status.{Status};
+ghost use Rattle.relay_http.specs.declared.status.ResponseStatus.{ResponseStatus};
 
 // worked requests and responses
 pub use crate::worked::{worked_refusals, worked_requests, worked_responses};
@@ -46,7 +46,7 @@ pub fn rest_ignored()
 pub fn head_is_get()
     ensures asks { (target : List ℕ) (minor : ℕ) (fields : Fields) (rest : List ℕ) → action_by
         (codes "HEAD") target minor fields rest ≡ action_by (codes "GET") target minor fields rest }
-    ensures response { (s : Status) (body : List ℕ)
+    ensures response { (s : ResponseStatus) (body : List ℕ)
         → written s body true ≡ written s body false ++ body }
 {}
 

@@ -35,7 +35,7 @@ mod worked;
 
 pub use action::{Action, HttpRequest};
 pub use counted::Counted;
-pub use exchange::{Exchange, Need, ReadFault};
+pub use exchange::{Exchange, Need, ReceiveFault};
 pub use fault::RequestFault;
 pub use outgoing::{ExchangeBuffer, Outgoing};
 pub use request::request_in;
@@ -44,4 +44,4 @@ pub use response::{refused, written};
 pub use route::Methods;
 pub use routes::Routes;
 pub use serving::{ServeFault, serve_one};
-pub use status::Status;
+pub use status::ResponseStatus;

@@ -10,7 +10,7 @@ ghost use Rattle.relay_http.specs.Response.{written};
 use crate::body::Body;
 use crate::counted::Counted;
 use crate::response_head::{BUFFER_SIZE, MOST_RESPONSE_HEAD, blank_buffer, put, put_head};
-use crate::status::Status;
+use crate::status::ResponseStatus;
 use std::alloc::Global;
 use std::io::{self, ErrorKind, Write};
 use std::marker::Model;
@@ -90,7 +90,7 @@ fn write_on<W: Write>(
 
 impl Outgoing {
     /// The response of a status with a body, or its head alone. It takes no memory.
-    pub fn new(status: Status, body: Body, with_body: bool) -> Outgoing
+    pub fn new(status: ResponseStatus, body: Body, with_body: bool) -> Outgoing
         ensures { result ≡ written status (body_bytes body) with_body }
     {
         let mut head = [0; MOST_RESPONSE_HEAD];

@@ -3,25 +3,25 @@
 ghost use Rattle.std.specs.Prelude.{◌≡◌};
 ghost use Rattle.relay_http.specs.Responses as responses;
 
-use crate::status::Status;
+use crate::status::ResponseStatus;
 use desk::Refusal;
 
 /// The status of a refusal.
-pub fn refusal_status(refusal: Refusal) -> Status
+pub fn refusal_status(refusal: Refusal) -> ResponseStatus
     ensures { result ≡ responses.refusal_status refusal }
 {
     match refusal {
-        Refusal::NotCanonical | Refusal::BadField => Status::BadRequest,
-        Refusal::UnknownRelay | Refusal::Denied(_) => Status::Forbidden,
-        Refusal::UnknownHost => Status::NotFound,
-        Refusal::TooLong => Status::ContentTooLarge,
+        Refusal::NotCanonical | Refusal::BadField => ResponseStatus::BadRequest,
+        Refusal::UnknownRelay | Refusal::Denied(_) => ResponseStatus::Forbidden,
+        Refusal::UnknownHost => ResponseStatus::NotFound,
+        Refusal::TooLong => ResponseStatus::ContentTooLarge,
         Refusal::TooManyRules
         | Refusal::RosterChanged
         | Refusal::NotADesk
         | Refusal::OldSchema
         | Refusal::Storage
         | Refusal::NoMemory
-        | Refusal::BaseTooLarge => Status::ServiceUnavailable,
+        | Refusal::BaseTooLarge => ResponseStatus::ServiceUnavailable,
     }
 }
 

@@ -5,7 +5,7 @@ ghost use Rattle.relay_http.specs.Response.{fault_line, status_of, written};
 
 use crate::fault::RequestFault;
 use crate::response_head::{MOST_RESPONSE_HEAD, put_head};
-use crate::status::Status;
+use crate::status::ResponseStatus;
 use std::alloc::{AllocError, Global};
 use sudo_words::NoMemory;
 
@@ -19,7 +19,7 @@ fn push(out: &mut Vec<u8>, bytes: &[u8]) -> Result<(), AllocError>
 /// where the body is left out, as in the response to HEAD.
 pub fn written(
     alloc: Global,
-    status: Status,
+    status: ResponseStatus,
     body: &[u8],
     with_body: bool,
 ) -> Result<Vec<u8>, NoMemory>

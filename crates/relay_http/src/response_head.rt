@@ -3,7 +3,7 @@
 ghost use Rattle.std.specs.Prelude.{◌≡◌, ◌≤◌, ◌+◌, ◌++◌, IfOk, decimal, length, take};
 ghost use Rattle.relay_http.specs.Response.{response_head, status_text};
 
-use crate::status::{Status, allow_line, phrase};
+use crate::status::{ResponseStatus, allow_line, phrase};
 use itoa::Buffer;
 use std::alloc::{AllocError, Global};
 
@@ -47,7 +47,7 @@ fn put_decimal(buffer: &mut [u8], at: usize, n: usize) -> usize
 }
 
 /// Puts the code of a status and its phrase after what is there.
-fn put_status(buffer: &mut [u8], at: usize, status: Status) -> usize
+fn put_status(buffer: &mut [u8], at: usize, status: ResponseStatus) -> usize
     requires { at + 40 ≤ length buffer.old }
     ensures len { length buffer.new ≡ length buffer.old }
     ensures end { result ≤ at + 40 }
@@ -60,7 +60,7 @@ fn put_status(buffer: &mut [u8], at: usize, status: Status) -> usize
 
 /// Puts the head of a response, whose body has so many bytes, at the beginning, and answers where
 /// it ends.
-pub fn put_head(buffer: &mut [u8], status: Status, size: usize) -> usize
+pub fn put_head(buffer: &mut [u8], status: ResponseStatus, size: usize) -> usize
     requires { length buffer.old ≡ 256 }
     ensures len { length buffer.new ≡ length buffer.old }
     ensures within { result ≤ length buffer.new }

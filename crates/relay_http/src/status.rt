@@ -8,7 +8,7 @@ use http::StatusCode;
 
 /// The status of a response.
 #[derive(Clone, Copy, Debug, PartialEq, Eq)]
-pub enum Status {
+pub enum ResponseStatus {
     /// 200: the desk's answer.
     Done,
     /// 400: the request, or the message in it, is malformed.
@@ -27,7 +27,7 @@ pub enum Status {
     ServiceUnavailable,
 }
 
-impl Status {
+impl ResponseStatus {
     ghost use Rattle.relay_http.specs.Response.{code_of};
 
     /// Its code.
@@ -35,43 +35,43 @@ impl Status {
         ensures { result ≡ code_of self }
     {
         match self {
-            Status::Done => StatusCode::OK,
-            Status::BadRequest => StatusCode::BAD_REQUEST,
-            Status::Forbidden => StatusCode::FORBIDDEN,
-            Status::NotFound => StatusCode::NOT_FOUND,
-            Status::MethodNotAllowed(_) => StatusCode::METHOD_NOT_ALLOWED,
-            Status::LengthRequired => StatusCode::LENGTH_REQUIRED,
-            Status::ContentTooLarge => StatusCode::PAYLOAD_TOO_LARGE,
-            Status::ServiceUnavailable => StatusCode::SERVICE_UNAVAILABLE,
+            ResponseStatus::Done => StatusCode::OK,
+            ResponseStatus::BadRequest => StatusCode::BAD_REQUEST,
+            ResponseStatus::Forbidden => StatusCode::FORBIDDEN,
+            ResponseStatus::NotFound => StatusCode::NOT_FOUND,
+            ResponseStatus::MethodNotAllowed(_) => StatusCode::METHOD_NOT_ALLOWED,
+            ResponseStatus::LengthRequired => StatusCode::LENGTH_REQUIRED,
+            ResponseStatus::ContentTooLarge => StatusCode::PAYLOAD_TOO_LARGE,
+            ResponseStatus::ServiceUnavailable => StatusCode::SERVICE_UNAVAILABLE,
         }
     }
 }
 
 /// The phrase of a status: that of RFC 9110, in which 413 is no longer the one that `http` has.
-pub(crate) fn phrase(status: Status) -> &'static [u8]
+pub(crate) fn phrase(status: ResponseStatus) -> &'static [u8]
     ensures text { result.now ≡ phrase_of status }
     ensures short { length result.now ≤ 30 }
 {
     match status {
-        Status::Done => b"OK",
-        Status::BadRequest => b"Bad Request",
-        Status::Forbidden => b"Forbidden",
-        Status::NotFound => b"Not Found",
-        Status::MethodNotAllowed(_) => b"Method Not Allowed",
-        Status::LengthRequired => b"Length Required",
-        Status::ContentTooLarge => b"Content Too Large",
-        Status::ServiceUnavailable => b"Service Unavailable",
+        ResponseStatus::Done => b"OK",
+        ResponseStatus::BadRequest => b"Bad Request",
+        ResponseStatus::Forbidden => b"Forbidden",
+        ResponseStatus::NotFound => b"Not Found",
+        ResponseStatus::MethodNotAllowed(_) => b"Method Not Allowed",
+        ResponseStatus::LengthRequired => b"Length Required",
+        ResponseStatus::ContentTooLarge => b"Content Too Large",
+        ResponseStatus::ServiceUnavailable => b"Service Unavailable",
     }
 }
 
 /// The line that names the methods of the route, where another was used.
-pub(crate) fn allow_line(status: Status) -> &'static [u8]
+pub(crate) fn allow_line(status: ResponseStatus) -> &'static [u8]
     ensures text { result.now ≡ allow_line status }
     ensures short { length result.now ≤ 40 }
 {
     match status {
-        Status::MethodNotAllowed(Methods::Post) => b"Allow: POST\r\n",
-        Status::MethodNotAllowed(Methods::GetOrHead) => b"Allow: GET, HEAD\r\n",
+        ResponseStatus::MethodNotAllowed(Methods::Post) => b"Allow: POST\r\n",
+        ResponseStatus::MethodNotAllowed(Methods::GetOrHead) => b"Allow: GET, HEAD\r\n",
         _ => b"",
     }
 }

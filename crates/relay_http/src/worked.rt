@@ -14,7 +14,7 @@ ghost use Rattle.relay_http.specs.declared.fault.RequestFault.TheVariants.{BadTa
 ghost use Rattle.relay_http.specs.declared.fault.RequestFault.TheVariants.{LengthRequired, NoRoute};
 ghost use Rattle.relay_http.specs.declared.fault.RequestFault.TheVariants.{ShortBody, TooLong};
 ghost use Rattle.relay_http.specs.declared.route.Methods.TheVariants.{GetOrHead, Post};
-ghost use Rattle.relay_http.specs.declared.status.Status.TheVariants as status;
+ghost use Rattle.relay_http.specs.declared.status.ResponseStatus.TheVariants as status;
 
 /// Requests that are answered by the desk: a delivery, one with zeros before its length, all
 /// messages, how many there are, what became of every request, of those after a moment and of one,

@@ -1,7 +1,7 @@
 use Rattle.std.specs.Prelude.{string_bytes}
 use Rattle.std.proofs.Common.{refl, subst, sym}
 use Rattle.desk_commands.specs.Comparing.{IsShown}
-use Rattle.desk_args.specs.declared.status.Status.TheVariants.{Done, Found}
+use Rattle.desk_args.specs.declared.status.ExitStatus.TheVariants.{Done, Found}
 use Rattle.desk_commands.proofs.comparing.shown.Goals as goal
 
 pub returns-in_ok-case_line-in-Some : goal.returns-in_ok-case_line-in-Some

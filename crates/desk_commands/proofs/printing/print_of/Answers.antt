@@ -9,7 +9,7 @@ use Rattle.desk_commands.specs.Taking.{HeldWith, Takes}
 use Rattle.desk_commands.specs.declared.refusal.Refusal.TheVariants as reasons
 use Rattle.desk_commands.specs.private.Outcomes.{EndsFile}
 use Rattle.desk_commands.proofs.PrintLemmas.{ends_file, prints}
-use Rattle.desk_args.specs.declared.status.Status.TheVariants.{Done}
+use Rattle.desk_args.specs.declared.status.ExitStatus.TheVariants.{Done}
 use Rattle.desk_commands.proofs.LeavingLemmas.{says, taken_stay}
 use Rattle.desk_store.proofs.ServingLemmas.{served_as, served_then}
 use Rattle.desk_commands.proofs.WantLemmas.{wanting_still}

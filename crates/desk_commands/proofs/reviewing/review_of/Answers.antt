@@ -7,7 +7,7 @@ use Rattle.desk_store.proofs.ServingLemmas.{failed_later}
 use Rattle.desk_commands.specs.Reviewing.{ReviewsDesk}
 use Rattle.desk_commands.specs.Taking.{HeldWith, Takes}
 use Rattle.desk_commands.proofs.PrintLemmas.{reviews, wants_end_report}
-use Rattle.desk_args.specs.declared.status.Status.TheVariants.{Done}
+use Rattle.desk_args.specs.declared.status.ExitStatus.TheVariants.{Done}
 use Rattle.desk_commands.proofs.LeavingLemmas.{says, taken_stay}
 use Rattle.desk_store.proofs.ServingLemmas.{served_as, served_then}
 use Rattle.desk_commands.proofs.WantLemmas.{wanting_still}
