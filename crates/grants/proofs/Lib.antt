@@ -18,6 +18,7 @@ pub mod StatusLaws
 pub mod CountingLaws
 pub mod WeightLaws
 pub mod ApprovalLemmas
+pub mod VerdictLists
 pub mod MemberCases
 pub mod NthSmallest
 pub mod MomentLaws

@@ -4,8 +4,8 @@ use Rattle.std.specs.Cmp.Lexicographic.{slice_cmp}
 use Rattle.std.specs.List.Sorted.{IsStrictlySortedBy}
 use Rattle.std.specs.Ordering.{nat_cmp, ordering_then}
 use Rattle.std.specs.declared.cmp.Ordering.{Ordering}
-use Rattle.messages.specs.Fields.{RequestFields}
-use Rattle.messages.specs.Names.{SameName}
+use Rattle.messages.specs.Fields.{RequestFields, VerdictFields}
+use Rattle.messages.specs.Names.{IsAbout, SameName}
 use Rattle.messages.specs.declared.message.Message.{Message}
 use Rattle.messages.specs.declared.message.Message.TheVariants.{Request, Verdict}
 use Rattle.messages.specs.declared.kind.VerdictKind.TheVariants.{Approve, Refuse, Revoke}
@@ -46,3 +46,10 @@ pub record AreApprovals (messages : List Message)
   pub in_order : IsStrictlySortedBy approval_cmp list
   pub each : (person : List ℕ) (moment : ℕ) → Contains list (person, moment) ↔ Contains messages
       (Verdict (record { at = moment; by = person; kind = Approve; no = q.no; of = q.by }))
+
+-- ---- all verdicts
+
+-- the set's verdicts on the request, whether they count or not
+abbrev pub AreVerdictsOn : List Message → RequestFields → List VerdictFields → Type 0
+AreVerdictsOn messages q list = (v : VerdictFields)
+    → Contains list v ↔ (Contains messages (Verdict v) × IsAbout q v)

@@ -1,8 +1,10 @@
 //! The moments at which people gave verdicts of one kind.
 
-ghost use Rattle.std.specs.Prelude.{◌≡◌, map, IfOk, OnOk, OnErr};
+ghost use Rattle.std.specs.Prelude.{◌≡◌, ◌++◌, map, IfOk, OnOk, OnErr};
+ghost use Rattle.grants.specs.Marks.{verdict_of};
 ghost use Rattle.grants.specs.private.Noting as spec;
 
+use messages::{Request, Verdict, VerdictKind};
 use std::alloc::{AllocError, Global};
 use std::collections::BTreeSet;
 use sudo_words::{Moment, Name, NoMemory};
@@ -55,4 +57,33 @@ pub(crate) fn shown(alloc: Global, marks: &BTreeSet<Mark>) -> Result<Vec<(Name, 
         list.push((mark.person.clone()?, mark.at))?;
     }
     Ok(list)
+}
+
+/// The verdict of the kind on the request that a mark keeps.
+fn verdict_about(request: &Request, kind: VerdictKind, mark: &Mark) -> Result<Verdict, NoMemory>
+    ensures { IfOk result (λ verdict. verdict ≡ verdict_of request.now kind mark.now) }
+{
+    let of = request.by().clone()?;
+    let by = mark.person.clone()?;
+    // The number is a request's, so there is such a verdict.
+    match Verdict::new(kind, of, request.no(), by, mark.at) {
+        Some(verdict) => Ok(verdict),
+        None => Err(NoMemory),
+    }
+}
+
+/// Adds the verdict of the kind on the request that each mark keeps, in the order of the marks.
+pub(crate) fn push_verdicts(
+    list: &mut Vec<Verdict>,
+    request: &Request,
+    kind: VerdictKind,
+    marks: &BTreeSet<Mark>,
+) -> Result<(), NoMemory>
+    ensures { OnOk result (list.new.items
+        ≡ list.old.items ++ map (verdict_of request.now kind) marks.now.keys) }
+{
+    for mark in marks {
+        list.push(verdict_about(request, kind, mark)?)?;
+    }
+    Ok(())
 }

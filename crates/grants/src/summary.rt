@@ -6,10 +6,10 @@ ghost use Rattle.messages.specs.Fields.{RequestFields};
 ghost use Rattle.messages.specs.Names.{SameName, IsAbout, name_of};
 ghost use Rattle.messages.specs.declared.message.Message.{Message as AnyMessage};
 ghost use Rattle.messages.specs.declared.message.Message.TheVariants as message_of;
-ghost use Rattle.grants.specs.Summaries.{AreApprovals, StandsFor};
+ghost use Rattle.grants.specs.Summaries.{AreApprovals, AreVerdictsOn, StandsFor};
 ghost use Rattle.grants.specs.Verdicts.{IsDisputed, StandsAlone};
 
-use crate::marks::{Mark, copied, note, shown};
+use crate::marks::{Mark, copied, note, push_verdicts, shown};
 use messages::{Request, Verdict, VerdictKind};
 use std::alloc::{AllocError, Global};
 use std::collections::BTreeSet;
@@ -66,6 +66,34 @@ impl Summary {
             → IfOk result (λ list. AreApprovals set self.now.request list.items) }
     {
         shown(self.alloc, &self.approvals)
+    }
+
+    /// Every verdict on the request, whether it counts or not: the approvals, then the refusals,
+    /// then the revocations.
+    pub fn verdicts(&self) -> Result<Vec<Verdict>, NoMemory>
+        ensures { (set : List AnyMessage) → StandsFor set self.now
+            → IfOk result (λ list. AreVerdictsOn set self.now.request list.items) }
+    {
+        let mut list = Vec::new(self.alloc);
+        push_verdicts(
+            &mut list,
+            &self.request,
+            VerdictKind::Approve,
+            &self.approvals,
+        )?;
+        push_verdicts(
+            &mut list,
+            &self.request,
+            VerdictKind::Refuse,
+            &self.refusals,
+        )?;
+        push_verdicts(
+            &mut list,
+            &self.request,
+            VerdictKind::Revoke,
+            &self.revocations,
+        )?;
+        Ok(list)
     }
 }
 

@@ -14,6 +14,7 @@ pub mod FileLemmas
 pub mod LiveLemmas
 pub mod SetLemmas
 pub mod ParkedLemmas
+pub mod AboutLemmas
 pub mod LawLemmas
 pub mod Existence
 pub mod SummaryLemmas

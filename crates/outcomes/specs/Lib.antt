@@ -6,6 +6,7 @@ pub mod Rights
 pub mod Outcomes
 pub mod Parked
 pub mod Summaries
+pub mod About
 -- what is known of the messages
 pub mod Gathered
 -- a host's lines and file, the whole or that after a moment

@@ -54,7 +54,10 @@ impl Model for Gathered {
 }
 
 /// The verdicts that wait under a name.
-fn waited<'a>(waiting: &'a BTreeMap<RequestName, Vec<Verdict>>, name: &RequestName) -> &'a [Verdict]
+pub(crate) fn waited<'a>(
+    waiting: &'a BTreeMap<RequestName, Vec<Verdict>>,
+    name: &RequestName,
+) -> &'a [Verdict]
     ensures { result.now ≡ verdicts_at waiting.now name.now }
 {
     match waiting.get(name) {

@@ -3,6 +3,7 @@
 //! file. And the laws of all that.
 #![tactic(auto)]
 
+mod about;
 mod base;
 mod by_host;
 mod gathering;
@@ -16,6 +17,7 @@ mod past_laws;
 mod summaries;
 mod worked;
 
+pub use about::messages_in;
 pub use base::Base;
 pub use gathering::Gathered;
 pub use host_file::host_file_in;
