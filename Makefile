@@ -20,11 +20,11 @@ demo:
 # The program on each case of cases/: files, words and inputs, with all that it answers. Both of the functions that decide, on 100,000 random invocations. Then reports of random sets of messages, beside a second
 # reading of the rules; and the same of desk-audit.
 cases: desk
-	python3 scripts/cases.py
-	python3 scripts/decisions.py
-	python3 scripts/random_reports.py
-	python3 scripts/cases_audit.py
-	/usr/bin/python3 scripts/random_audits.py
+	python3 -m tests.cases.cases
+	python3 -m tests.cases.decisions
+	python3 -m tests.cases.random_reports
+	python3 -m tests.cases.audit
+	/usr/bin/python3 -m tests.cases.random_audits
 
 # The whole gate (docs/change/GATE.md): `rt ci`, which proves everything from nothing, tries the edits that must be refused and runs the tests; then,
 # over the program that it left at build/desk, the demo, the cases, peers and faults. What it needs of Debian is installed where this is root; with
@@ -56,42 +56,42 @@ contracts:
 # What the desk decides beside what sudo itself answers (as root; Debian's packages sudo and faketime), and of 2,200 random policies; and what sudo reads of the files of 2,000
 # random requests of odd words; nothing of the machine changes. Then `desk serve` asked over loopback (curl), the file of a desk beside Debian's `sqlite3`, and a desk that is killed while it takes messages.
 peers: desk
-	python3 scripts/peers.py
-	python3 scripts/peers_policies.py
-	python3 scripts/peers_requests.py
-	python3 scripts/peers_http.py
-	python3 scripts/peers_socket.py
-	python3 scripts/peers_site.py
-	python3 scripts/peers_patience.py
-	python3 scripts/peers_crowd.py
-	python3 scripts/peers_store.py
-	python3 scripts/peers_front.py
-	python3 scripts/peers_front_certificates.py
-	python3 scripts/peers_authority.py
-	python3 scripts/peers_monitoring.py
+	python3 -m tests.peers.sudo
+	python3 -m tests.peers.policies
+	python3 -m tests.peers.peers_requests
+	python3 -m tests.peers.peers_http
+	python3 -m tests.peers.peers_socket
+	python3 -m tests.peers.peers_site
+	python3 -m tests.peers.patience
+	python3 -m tests.peers.crowd
+	python3 -m tests.peers.store
+	python3 -m tests.peers.fronts
+	python3 -m tests.peers.front_certificates
+	python3 -m tests.peers.authority
+	python3 -m tests.peers.monitoring
 
 # Time and memory: `check` and `decide` beside visudo (Debian's package sudo) on up to 16,001 rules, on 8,000 aliases with 8,000 rules, and on
 # the greatest weight; `print` on 800 and 8,000 requests; `beyond` on 1,000,000 cases; `serve` beside nginx (Debian's package nginx-light) and, over a file, beside `deliver`; `deliver` to a
 # file beside C SQLite (Python's `sqlite3`), and what it costs to open one; what is in force beside a million messages; how many messages a second reach three
 # desks (this needs root, as `several` does). All of it runs, also where a row fails.
 bench: desk
-	status=0; for part in bench bench_http bench_store bench_history; do python3 scripts/$$part.py || status=1; done; \
-	    bash scripts/several.sh --rate || status=1; exit $$status
+	status=0; for part in bench bench_http bench_store bench_history; do python3 -m tests.bench.$$part || status=1; done; \
+	    bash tests/several/several.sh --rate || status=1; exit $$status
 
 # The program with each request for memory refused in turn.
 faults: desk
-	python3 scripts/faults.py
-	python3 scripts/allocation_counts.py
+	python3 -m tests.cases.faults
+	python3 -m tests.cases.allocation_counts
 
 # Reads and writes of the program that fail, disks that fill and files that change under it, each place; the program killed 400 times over 20,000 messages; and
 # a million inputs changed at random, each answer beside a second reading. The last line has the counts. `make test` runs a short form of each.
 soak: desk
 	bash scripts/tools.sh
-	python3 scripts/peers_faults.py --whole
-	python3 scripts/peers_healing.py --whole
-	python3 scripts/peers_crowd.py --whole
-	python3 scripts/peers_kills.py
-	/usr/bin/python3 scripts/soak.py
+	python3 -m tests.soak.reads_and_writes --whole
+	python3 -m tests.soak.healing --whole
+	python3 -m tests.peers.crowd --whole
+	python3 -m tests.soak.kills
+	/usr/bin/python3 -m tests.soak.soak
 
 # The types and style of relays/, broker/ and tools/, by mypy and flake8 (it installs them where this is root).
 types:
@@ -110,7 +110,7 @@ tools-test:
 # in ~/.cache/steelnewt-hosts (as root; some 1.3 GB, and once a minute or two each), over build/desk or the program that DESK names.
 hosts:
 	bash scripts/tools.sh
-	/usr/bin/python3 scripts/hosts.py
+	/usr/bin/python3 -m tests.hosts.hosts
 
 # A grant's life by ssh: ann asks, bob approves, ann revokes.
 relays-demo:
@@ -133,22 +133,22 @@ deb: build/desk build/desk-audit
 
 pages: build/desk
 	python3 scripts/make_pages.py build/pages
-	python3 scripts/check_pages.py
-	python3 scripts/check_readme.py
-	python3 scripts/check_documents.py
-	python3 scripts/check_runbooks.py
-	python3 scripts/check_team.py
+	python3 -m tests.documents.check_pages
+	python3 -m tests.documents.check_readme
+	python3 -m tests.documents.check_documents
+	python3 -m tests.documents.check_runbooks
+	python3 -m tests.documents.check_team
 
 package-test: build/desk build/desk-audit
 	bash scripts/deb.sh
-	bash scripts/package_lint.sh
-	python3 scripts/package_test.py
+	bash tests/packages/lint.sh
+	python3 -m tests.packages.package_test
 
 # Several desks behind a broker (docs/SEVERAL.md): the broker's package by its own tests, then three nodes of RabbitMQ and three desks on loopback while
-# messages go on and each is killed (as root; what it needs of Debian is installed). At most six minutes; `bash scripts/several.sh --short` takes two.
-# `bash scripts/several.sh --rate` only measures how many messages a second go through.
+# messages go on and each is killed (as root; what it needs of Debian is installed). At most six minutes; `bash tests/several/several.sh --short` takes two.
+# `bash tests/several/several.sh --rate` only measures how many messages a second go through.
 several: desk
-	bash scripts/several.sh
+	bash tests/several/several.sh
 
 clean:
 	rm -rf build crates/*/out

@@ -20,8 +20,8 @@ from collections.abc import Iterator
 from typing import NamedTuple
 
 import contracts
-import desk
 import make_docs
+import repository
 
 DOCUMENT = "docs/proof/PROOFS.md"
 PART = "\n## Public calls\n"
@@ -68,7 +68,7 @@ class Call(NamedTuple):
 
 def exported(crate: str) -> set[str]:
     """The names that lib.rt re-exports of the crate's own modules."""
-    text = desk.read("crates", crate, "src", "lib.rt")
+    text = repository.read("crates", crate, "src", "lib.rt")
     modules = set(re.findall(rf"^(?:pub )?mod ({NAME});", text, re.MULTILINE))
     found: set[str] = set()
     for path, names in re.findall(EXPORT, text, re.MULTILINE):
@@ -79,10 +79,10 @@ def exported(crate: str) -> set[str]:
 
 def laws_at_root(crate: str) -> Iterator[str]:
     """The laws, of this crate or another, that lib.rt re-exports."""
-    text = desk.read("crates", crate, "src", "lib.rt")
+    text = repository.read("crates", crate, "src", "lib.rt")
     for path, names in re.findall(EXPORT, text, re.MULTILINE):
         owner = path if path in make_docs.crates() else crate
-        laws = {name for _, name in contracts.laws(desk.ROOT, owner)}
+        laws = {name for _, name in contracts.laws(repository.ROOT, owner)}
         yield from sorted(laws & set(re.findall(NAME, names)))
 
 
@@ -97,12 +97,12 @@ def clauses(head: str) -> dict[str, str]:
 
 
 def calls_of(crate: str) -> list[Call]:
-    names, laws, found = exported(crate), contracts.laws(desk.ROOT, crate), []
-    source = os.path.join(desk.ROOT, "crates", crate, "src")
+    names, laws, found = exported(crate), contracts.laws(repository.ROOT, crate), []
+    source = os.path.join(repository.ROOT, "crates", crate, "src")
     for path in sorted(glob.glob(os.path.join(source, "**", "*.rt"), recursive=True)):
         owner, is_trait = "", False
         module = os.path.relpath(path, source).removesuffix(".rt")
-        lines = desk.read(path).split("\n")
+        lines = repository.read(path).split("\n")
         for number, line in enumerate(lines):
             if line and not line[0].isspace() and (block := BLOCK.match(line)):
                 owner, is_trait = block[4], block[2] == "trait"
@@ -146,7 +146,7 @@ def head_of(lines: list[str], number: int, indent: str) -> tuple[str, bool]:
 
 def libraries() -> list[str]:
     """The crates with a lib.rt, lowest first."""
-    root = os.path.join(desk.ROOT, "crates")
+    root = os.path.join(repository.ROOT, "crates")
     return [
         crate
         for crate in make_docs.crates()
@@ -198,7 +198,7 @@ def told() -> (
     total: set[tuple[str, str]] = set()
     laws: set[tuple[str, str]] = set()
     crate = ""
-    for line in desk.read(DOCUMENT).partition(PART)[2].splitlines():
+    for line in repository.read(DOCUMENT).partition(PART)[2].splitlines():
         if heading := re.fullmatch(r"### `(\w+)`", line):
             crate = heading[1]
         elif cells := re.fullmatch(r"\| `([\w:]+)` \| (.*) \| (.*) \|", line):
@@ -247,7 +247,7 @@ def faults() -> list[str]:
 
 def skeleton() -> str:
     """The tables, with the rows that are there as they are."""
-    rows = told()[0] if os.path.exists(os.path.join(desk.ROOT, DOCUMENT)) else {}
+    rows = told()[0] if os.path.exists(os.path.join(repository.ROOT, DOCUMENT)) else {}
     parts = []
     by_crate: dict[str, list[Call]] = {}
     for call in all_calls():

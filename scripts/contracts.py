@@ -15,7 +15,7 @@ import re
 import sys
 from collections.abc import Iterator
 
-import desk
+import repository
 
 OWNER = re.compile(r"(?:pub )?(trait|impl)\b(?:<.*?>(?= ))? ?(.*?) ?\{")
 FUNCTION = re.compile(r"( *)(pub )?(?:const |unsafe )*fn (\w+)")
@@ -32,10 +32,10 @@ def laws(tree: str, crate: str) -> set[tuple[str, str]]:
     Some stand in `laws.rt`, which re-exports the others from the crate's other modules.
     """
     place = os.path.abspath(os.path.join(tree, "crates", crate, "src"))
-    text = desk.read(place, "lib.rt") if os.path.exists(os.path.join(place, "lib.rt")) else ""
+    text = repository.read(place, "lib.rt") if os.path.exists(os.path.join(place, "lib.rt")) else ""
     if not re.search(r"^pub mod laws;$", text, re.MULTILINE):
         return set()
-    text = desk.read(place, "laws.rt")
+    text = repository.read(place, "laws.rt")
     found = {("laws", name) for name in re.findall(r"^pub fn (\w+)", text, re.MULTILINE)}
     for module, names in re.findall(r"^pub use crate::(\w+)::([^;]+);", text, re.MULTILINE):
         found |= {(module, name) for name in re.findall(r"\w+", names)}
@@ -101,7 +101,7 @@ def listed(tree: str) -> list[Contract]:
 
 
 def main() -> None:
-    for name, crate, lines in listed(sys.argv[1] if sys.argv[1:] else desk.ROOT):
+    for name, crate, lines in listed(sys.argv[1] if sys.argv[1:] else repository.ROOT):
         print(f"{name} ({crate})", *(f"    {line}" for line in lines), sep="\n")
 
 

@@ -13,7 +13,7 @@ import os
 import sys
 import time
 
-import desk
+import repository
 
 
 def function_and_part(name: str) -> tuple[str, str]:
@@ -25,7 +25,7 @@ def function_and_part(name: str) -> tuple[str, str]:
 def main() -> None:
     crate, minutes = sys.argv[1], float(sys.argv[2]) if len(sys.argv) > 2 else 30
     files = glob.glob(
-        os.path.join(desk.ROOT, "crates", crate, "out", "incremental", "*", "*.oantt")
+        os.path.join(repository.ROOT, "crates", crate, "out", "incremental", "*", "*.oantt")
     )
     written = sorted((os.stat(file).st_mtime, os.path.basename(file)) for file in files)
     written = [(moment, name) for moment, name in written if moment >= time.time() - 60 * minutes]

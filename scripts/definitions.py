@@ -18,7 +18,7 @@ from collections.abc import Iterator
 from typing import NamedTuple
 
 import contracts
-import desk
+import repository
 
 HEADLINE = ("outcomes", "grant_laws.rt", "file_gives_rights")
 USE = re.compile(
@@ -75,10 +75,10 @@ def code_of(text: str) -> list[str]:
 @functools.cache
 def file_of(crate: str, path: str) -> File | None:
     """A file of definitions; None where there is none, as for the types that code declares."""
-    place = os.path.join(desk.ROOT, "crates", crate, "specs", f"{path}.antt")
+    place = os.path.join(repository.ROOT, "crates", crate, "specs", f"{path}.antt")
     if not os.path.isfile(place):
         return None
-    text = desk.read(place)
+    text = repository.read(place)
     texts: dict[str, list[str]] = collections.defaultdict(list)
     name = ""
     code = code_of(text)
@@ -137,13 +137,13 @@ def all_needed(first: list[Name]) -> list[Name]:
 
 def clauses() -> Iterator[tuple[str, str, list[str], dict[str, Name]]]:
     """Each public function: its crate, its name, its lines, and what its file's words mean."""
-    pattern = os.path.join(desk.ROOT, "crates", "*", "src", "**", "*.rt")
+    pattern = os.path.join(repository.ROOT, "crates", "*", "src", "**", "*.rt")
     for path in sorted(glob.glob(pattern, recursive=True)):
-        crate, _, inner = os.path.relpath(path, os.path.join(desk.ROOT, "crates")).partition(
+        crate, _, inner = os.path.relpath(path, os.path.join(repository.ROOT, "crates")).partition(
             "/src/"
         )
         if not inner.startswith("tests"):
-            means = imports(desk.read(path))
+            means = imports(repository.read(path))
             for name, _, lines in contracts.functions(crate, path):
                 yield crate, name, lines, means
 
@@ -161,9 +161,9 @@ def cited() -> dict[Name, set[str]]:
 def headline() -> list[Name]:
     """What the headline's clause needs."""
     crate, file, function = HEADLINE
-    path = os.path.join(desk.ROOT, "crates", crate, "src", file)
+    path = os.path.join(repository.ROOT, "crates", crate, "src", file)
     [lines] = [it for name, _, it in contracts.functions(crate, path) if name == function]
-    return all_needed(list(named_in("\n".join(lines[1:]), imports(desk.read(path)))))
+    return all_needed(list(named_in("\n".join(lines[1:]), imports(repository.read(path)))))
 
 
 class Needed(NamedTuple):
@@ -207,7 +207,7 @@ class Needed(NamedTuple):
 
 def words_above(name: Name) -> str:
     """The comment that stands directly above a definition, as one line."""
-    lines = desk.read("crates", name.crate, "specs", f"{name.file}.antt").splitlines()
+    lines = repository.read("crates", name.crate, "specs", f"{name.file}.antt").splitlines()
     for at, line in enumerate(lines):
         found = BEGINS.match(line)
         if found and found[1] == name.name:

@@ -17,16 +17,16 @@ import sys
 import tempfile
 from collections.abc import Iterable
 
-import desk
+import repository
 
-CRATES = os.path.join(desk.ROOT, "crates")
+CRATES = os.path.join(repository.ROOT, "crates")
 MOST = 24
 MEMORY = 4 << 30
 
 
 def listed() -> dict[str, list[str]]:
     """The crates, lowest first, each with the crates of the repository that it stands on."""
-    with open(os.path.join(desk.ROOT, "crates.txt")) as file:
+    with open(os.path.join(repository.ROOT, "crates.txt")) as file:
         lines = [line.partition(":") for line in file if ":" in line and not line.startswith("#")]
     names = [name for name, _, _ in lines]
     return {name: [word for word in words.split() if word in names] for name, _, words in lines}
@@ -59,7 +59,7 @@ def copy_crates(names: Iterable[str], room: str) -> None:
                 os.path.join(source, "out", "rlib"), os.path.join(target, "out", "rlib")
             )
     for file in ("crates.txt", "HANDLES"):
-        shutil.copy(os.path.join(desk.ROOT, file), room)
+        shutil.copy(os.path.join(repository.ROOT, file), room)
 
 
 def tried(name: str, edits: list[str]) -> tuple[int, list[str]]:

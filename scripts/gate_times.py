@@ -15,7 +15,7 @@ import sys
 import threading
 import time
 
-import desk
+import repository
 
 # a crate, and the kind of work
 Work = tuple[str, str]
@@ -131,7 +131,7 @@ def lanes() -> int:
 
 
 def main() -> None:
-    os.chdir(desk.ROOT)
+    os.chdir(repository.ROOT)
     meter = Meter()
     meter.start()
     os.environ.setdefault("RT_JOBS", str(lanes()))

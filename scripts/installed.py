@@ -9,7 +9,7 @@ import re
 import sys
 from collections.abc import Iterator
 
-import desk
+import repository
 from markdown_to_mdoc import INSTALLED, PAGES
 
 LINK = re.compile(r"\[([^\]]*)\]\(([^)#:]+)(#[^)]*)?\)")
@@ -37,14 +37,14 @@ def text_of(page: str) -> str:
         label = re.sub(r"^docs/(?:proof/)?(?=[A-Z])", "", found[1])
         return f"[{label}]({there}{found[3] or ''})"
 
-    return LINK.sub(link, desk.read(page))
+    return LINK.sub(link, repository.read(page))
 
 
 def faults() -> Iterator[str]:
     """Documents that a link takes for installed and scripts/install.sh does not install."""
-    script = desk.read("scripts/install.sh")
+    script = repository.read("scripts/install.sh")
     (texts,) = re.findall(r"^for text in (README\.md[^;]*);", script, re.MULTILINE)
-    pages = desk.run(["bash", "-c", f"echo {texts}"]).stdout.split()
+    pages = repository.run(["bash", "-c", f"echo {texts}"]).stdout.split()
     names = {os.path.basename(page) for page in pages}
     for page in pages:
         for _, path, _ in LINK.findall(text_of(page)):

@@ -20,7 +20,7 @@ from collections.abc import Iterator
 from typing import NamedTuple
 
 import definitions
-import desk
+import repository
 
 DEFINITIONS = "docs/proof/DEFINITIONS.md"
 PROMISES = "docs/proof/PROMISES.md"
@@ -52,7 +52,7 @@ class Edit(NamedTuple):
 
 def crates() -> list[str]:
     """The crates, lowest first."""
-    lines = desk.read("crates.txt").splitlines()
+    lines = repository.read("crates.txt").splitlines()
     return [line.partition(":")[0] for line in lines if ":" in line and line[0] != "#"]
 
 
@@ -67,11 +67,11 @@ def edits() -> list[Edit]:
 
 
 def edits_of(crate: str, folder: str) -> Iterator[Edit]:
-    place = os.path.join(desk.ROOT, "crates", crate, folder)
+    place = os.path.join(repository.ROOT, "crates", crate, folder)
     for file in sorted(os.listdir(place)) if os.path.isdir(place) else []:
         name, is_edit, _ = file.partition(".edit")
         if is_edit:
-            head = desk.read(place, file).partition("file: ")[0]
+            head = repository.read(place, file).partition("file: ")[0]
             wrong, promises = (
                 re.findall(rf"^# {key}: (.+)$", head, re.MULTILINE) for key in ("wrong", "promise")
             )
@@ -87,7 +87,7 @@ def cells_of(line: str) -> list[str]:
 
 def promises() -> Iterator[str]:
     """The first cell of each row of the promises."""
-    for line in desk.read(PROMISES).splitlines():
+    for line in repository.read(PROMISES).splitlines():
         cells = cells_of(line)
         if len(cells) > 2 and not line.startswith("|--"):
             yield cells[1].strip()
@@ -165,7 +165,7 @@ def with_headline(text: str) -> str:
 def made() -> dict[str, str]:
     """The documents of Git as they have to be."""
     refused()
-    return {DEFINITIONS: with_headline(desk.read(DEFINITIONS))}
+    return {DEFINITIONS: with_headline(repository.read(DEFINITIONS))}
 
 
 def main() -> None:
@@ -174,9 +174,9 @@ def main() -> None:
     except Fault as fault:
         sys.exit(str(fault))
     texts["build/definitions.md"] = definitions_text()
-    os.makedirs(os.path.join(desk.ROOT, "build"), exist_ok=True)
+    os.makedirs(os.path.join(repository.ROOT, "build"), exist_ok=True)
     for name, text in texts.items():
-        desk.write(desk.ROOT, name, text)
+        repository.write(repository.ROOT, name, text)
 
 
 if __name__ == "__main__":

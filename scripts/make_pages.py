@@ -11,8 +11,8 @@ import sys
 import tomllib
 
 import completions
-import desk
 import markdown_to_mdoc
+import repository
 from markdown_to_mdoc import escaped, guarded, sentences
 
 DOC = os.path.join(os.environ.get("PREFIX") or "/usr/local", "share", "doc", "steelnewt")
@@ -236,10 +236,10 @@ def desk_page(commands: list[dict]) -> str:
 
 def main() -> None:
     folder = sys.argv[1]
-    table = tomllib.loads(desk.read("packaging", "commands.toml"))
+    table = tomllib.loads(repository.read("packaging", "commands.toml"))
     made = {"desk.1": desk_page(table["command"])}
     for name, section, source, about in DOCUMENTS:
-        text = markdown_to_mdoc.page(name, section, about, desk.read("docs", source), DOC)
+        text = markdown_to_mdoc.page(name, section, about, repository.read("docs", source), DOC)
         made[f"{name}.{section}"] = text.replace("$Mdocdate$", DATE)
     made["desk.bash"] = completions.bash(table["command"], table["files"])
     made["_desk"] = completions.zsh(table["command"], table["files"])
@@ -248,7 +248,7 @@ def main() -> None:
         made[f"_{tool['name']}"] = completions.tool_zsh(tool)
         if "says" in tool:
             made[f"{tool['name']}.1"] = tool_page(tool)
-    made["desk-relay.toml.5"] = settings_page(desk.read("relays", "relay.example.toml"))
+    made["desk-relay.toml.5"] = settings_page(repository.read("relays", "relay.example.toml"))
     os.makedirs(folder, exist_ok=True)
     for name, text in made.items():
         with open(os.path.join(folder, name), "w", encoding="utf-8") as file:

@@ -15,8 +15,8 @@ import re
 from collections.abc import Iterator
 
 import contracts
-import desk
 import make_docs
+import repository
 
 PAGES = (
     "change/ARCHITECTURE",
@@ -29,7 +29,7 @@ PAGES = (
 QUOTED = re.compile(r"`([^`]+)`")
 FILE = re.compile(r"[\w/]+\.(?:rt|antt)")
 LAW = re.compile(r"(?:(\w+)::)?laws::(\w+)")
-CRATES = os.path.join(desk.ROOT, "crates")
+CRATES = os.path.join(repository.ROOT, "crates")
 
 
 @functools.cache
@@ -37,7 +37,7 @@ def files() -> dict[str, str]:
     """The text of each file of code, definitions or proofs, by its path from crates/."""
     paths = glob.glob(os.path.join(CRATES, "**", "*.*t"), recursive=True)
     return {
-        os.path.relpath(path, CRATES): desk.read(path)
+        os.path.relpath(path, CRATES): repository.read(path)
         for path in paths
         if path.endswith((".rt", ".antt"))
     }
@@ -45,7 +45,7 @@ def files() -> dict[str, str]:
 
 def rows(page: str, columns: int) -> Iterator[list[str]]:
     """The rows of so many columns in a page's tables."""
-    for line in desk.read("docs", f"{page}.md").splitlines():
+    for line in repository.read("docs", f"{page}.md").splitlines():
         cells = [cell.strip() for cell in make_docs.cells_of(line)[1:-1]]
         if line.startswith("| ") and len(cells) == columns:
             yield cells
@@ -53,7 +53,7 @@ def rows(page: str, columns: int) -> Iterator[list[str]]:
 
 def missing_files() -> Iterator[str]:
     for page in PAGES:
-        for name in dict.fromkeys(QUOTED.findall(desk.read("docs", f"{page}.md"))):
+        for name in dict.fromkeys(QUOTED.findall(repository.read("docs", f"{page}.md"))):
             if FILE.fullmatch(name) and not any(f"/{it}".endswith(f"/{name}") for it in files()):
                 yield f"docs/{page}.md: no crate has a file {name}"
 
@@ -68,7 +68,7 @@ def missing_crates() -> Iterator[str]:
     for crate in make_docs.crates():
         if crate not in told:
             yield f"docs/change/ARCHITECTURE.md: it has no row for {crate}"
-    for line in desk.read("crates.txt").splitlines():
+    for line in repository.read("crates.txt").splitlines():
         crate, _, below = line.partition(":")
         for name in set(below.split()) & set(make_docs.crates()):
             if name not in told.get(crate, [name]):
@@ -115,16 +115,17 @@ def missing_clauses() -> Iterator[str]:
 @functools.cache
 def laws() -> dict[str, set[str]]:
     """The laws of each crate."""
-    found = {crate: contracts.laws(desk.ROOT, crate) for crate in make_docs.crates()}
+    found = {crate: contracts.laws(repository.ROOT, crate) for crate in make_docs.crates()}
     return {crate: {name for _, name in named} for crate, named in found.items()}
 
 
 def missing_laws() -> Iterator[str]:
     """Laws that a page names and that are not there, or that it does not name with their crate."""
     every = set[str]().union(*laws().values())
-    for path in sorted(glob.glob(os.path.join(desk.ROOT, "docs", "**", "*.md"), recursive=True)):
-        page = os.path.relpath(path, desk.ROOT)
-        for name in dict.fromkeys(QUOTED.findall(desk.read(path))):
+    pattern = os.path.join(repository.ROOT, "docs", "**", "*.md")
+    for path in sorted(glob.glob(pattern, recursive=True)):
+        page = os.path.relpath(path, repository.ROOT)
+        for name in dict.fromkeys(QUOTED.findall(repository.read(path))):
             law = LAW.fullmatch(name)
             if law and law[2] not in (laws().get(law[1], set()) if law[1] else every):
                 yield f"{page}: there is no law {name}"

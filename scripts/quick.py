@@ -8,8 +8,8 @@ other; each file that a document names is there, and so are the crates, definiti
 the documents about the code name (names.py); no link of an installed document is dead
 (installed.py); README.md is no longer than a page or two; the program names the version of the
 packages, and the logic of the toolchain that is here; each crate has a README, which names what is
-there (readmes.py); no line of code, of definitions, of proofs or of a script is too wide, and
-pyflakes finds nothing in a script.
+there (readmes.py); no line of code, of definitions, of proofs, of a script or of a test is too
+wide; pyflakes finds nothing in a script or a test; each test that is started is there.
 Prints what is otherwise, and ends with 1 then.
 """
 
@@ -23,11 +23,11 @@ import tempfile
 from collections.abc import Iterator
 
 import calls
-import desk
 import installed
 import make_docs
 import names
 import readmes
+import repository
 
 MOST_EDITS = 10
 MOST_README = 6 * 1024
@@ -39,11 +39,15 @@ UNBROKEN = re.compile(r' *(#!?\[.*|[^"]{,30}"(\\.|[^"\\])*"[^"]{,10})')
 LINK = re.compile(r"\]\(([^)#:]+)(?:#[^)]*)?\)")
 # a file that is named from the repository's top
 NAMED = re.compile(
-    r"(?<![\w./-])((?:broker|cases|docs|examples|packaging|relays|scripts|tools)/[\w./*-]+\.\w+)"
+    r"(?<![\w./-])"
+    r"((?:broker|cases|docs|examples|packaging|relays|scripts|tests|tools)/[\w./*-]+\.\w+)"
 )
+# a test that is started
+STARTED = re.compile(r"python3 -m (tests(?:\.\w+)+)(?!\w|\.\$)")
 # a file of cases/ that a table of promises names
 CASES = re.compile(r"`([a-z-]+\.toml)`")
 VERSION = re.compile(r'const VERSION: &str = "([\w.]+)\\nproved with rattle logic (\w+)";')
+TOP_PAGES = ("README.md", "CONTRIBUTING.md", "cases/README.md")
 TABLES = ("docs/proof/PROMISES.md", "docs/proof/PROOFS.md", "docs/proof/WRONG_BODIES.md")
 
 
@@ -51,19 +55,19 @@ def edits(folder: str) -> dict[str, str]:
     """The edits of a crate's folder, by their names."""
     return {
         os.path.basename(it)[: -len(".edit")]: it
-        for it in sorted(glob.glob(os.path.join(desk.ROOT, "crates", folder, "*.edit")))
+        for it in sorted(glob.glob(os.path.join(repository.ROOT, "crates", folder, "*.edit")))
     }
 
 
 def badly_laid_out() -> Iterator[str]:
     """Lays out a copy of each crate, and tells what changed."""
     with tempfile.TemporaryDirectory() as room:
-        shutil.copy(os.path.join(desk.ROOT, "crates.txt"), room)
+        shutil.copy(os.path.join(repository.ROOT, "crates.txt"), room)
         for name in make_docs.crates():
             for part in ("src", "specs", "proofs"):
-                if os.path.isdir(os.path.join(desk.ROOT, "crates", name, part)):
+                if os.path.isdir(os.path.join(repository.ROOT, "crates", name, part)):
                     shutil.copytree(
-                        os.path.join(desk.ROOT, "crates", name, part),
+                        os.path.join(repository.ROOT, "crates", name, part),
                         os.path.join(room, "crates", name, part),
                     )
             ran = subprocess.run(
@@ -85,12 +89,12 @@ def badly_laid_out() -> Iterator[str]:
 def misfit(crate: str, edit: str) -> str | None:
     """Why an edit does not fit the crate's files; None where it does."""
     path, texts = "", dict[str, str]()
-    for line in desk.read(edit).splitlines():
+    for line in repository.read(edit).splitlines():
         if line.startswith("file: "):
             path = os.path.join("crates", crate, line[len("file: ") :].strip())
-            if not os.path.isfile(os.path.join(desk.ROOT, path)):
+            if not os.path.isfile(os.path.join(repository.ROOT, path)):
                 return f"there is no file {path}"
-            texts.setdefault(path, desk.read(path))
+            texts.setdefault(path, repository.read(path))
         elif line.startswith("old: "):
             found = texts[path].count(line[len("old: ") :])
             if found != 1:
@@ -108,7 +112,7 @@ def misfits() -> Iterator[str]:
         for path in [*sharp.values(), *more.values()]:
             why = misfit(crate, path)
             if why:
-                yield f"{os.path.relpath(path, desk.ROOT)}: {why}"
+                yield f"{os.path.relpath(path, repository.ROOT)}: {why}"
 
 
 def not_made() -> Iterator[str]:
@@ -119,26 +123,34 @@ def not_made() -> Iterator[str]:
         yield str(fault)
         return
     for name, text in texts.items():
-        if desk.read(name) != text:
+        if repository.read(name) != text:
             yield f"{name}: it is not what the definitions say: run make docs"
 
 
 def not_there() -> Iterator[str]:
-    """Files that a document names and that are not there, and a README that is too long."""
+    """Files that a document names and tests that are started, where they are not there; and a
+    README that is too long."""
     paths = [
-        *glob.glob(os.path.join(desk.ROOT, "docs", "**", "*.md"), recursive=True),
-        *glob.glob(os.path.join(desk.ROOT, "crates", "*", "README.md")),
+        *glob.glob(os.path.join(repository.ROOT, "docs", "**", "*.md"), recursive=True),
+        *glob.glob(os.path.join(repository.ROOT, "crates", "*", "README.md")),
     ]
-    pages = [os.path.relpath(path, desk.ROOT) for path in sorted(paths)]
-    for page in ("README.md", "CONTRIBUTING.md", "cases/README.md", *pages):
-        text, folder = desk.read(page), os.path.dirname(page)
+    pages = [os.path.relpath(path, repository.ROOT) for path in sorted(paths)]
+    for page in (*TOP_PAGES, *pages):
+        text, folder = repository.read(page), os.path.dirname(page)
         named = [*NAMED.findall(text), *(os.path.join(folder, it) for it in LINK.findall(text))]
         if page in TABLES:
             named += [os.path.join("cases", it) for it in CASES.findall(text)]
         for name in dict.fromkeys(named):
-            if not glob.glob(os.path.join(desk.ROOT, name)):
+            if not glob.glob(os.path.join(repository.ROOT, name)):
                 yield f"{page}: it names {name}, which is not there"
-    size = len(desk.read("README.md").encode())
+    folders = ("scripts/*.sh", "tests/**/*.py", "tests/**/*.sh", "Makefile", *pages, *TOP_PAGES)
+    for pattern in folders:
+        for path in sorted(glob.glob(os.path.join(repository.ROOT, pattern), recursive=True)):
+            page = os.path.relpath(path, repository.ROOT)
+            for name in dict.fromkeys(STARTED.findall(repository.read(path))):
+                if not os.path.isfile(os.path.join(repository.ROOT, *name.split(".")) + ".py"):
+                    yield f"{page}: it starts {name}, which is not there"
+    size = len(repository.read("README.md").encode())
     if size > MOST_README:
         yield f"README.md: {size} bytes, more than {MOST_README}"
 
@@ -146,19 +158,19 @@ def not_there() -> Iterator[str]:
 def misnamed() -> Iterator[str]:
     """What `desk --version` says, where it is not what the packages and the toolchain say."""
     path = "crates/desk_args/src/command.rt"
-    [(version, logic)] = VERSION.findall(desk.read(path))
-    [package] = re.findall(r"\A\w+ \(([\w.]+)\)", desk.read("packaging/debian/changelog"))
+    [(version, logic)] = VERSION.findall(repository.read(path))
+    [package] = re.findall(r"\A\w+ \(([\w.]+)\)", repository.read("packaging/debian/changelog"))
     if version != package:
         yield f"{path}: version {version}, and packaging/debian/changelog has {package}"
-    said = desk.run(["rt", "version"]).stdout
+    said = repository.run(["rt", "version"]).stdout
     if logic not in said.split():
         yield f"{path}: it names the logic {logic}, and rt version says {said.strip()}"
 
 
 def too_wide(path: str, width: int) -> Iterator[tuple[str, str]]:
     """Where a file has a line that is too wide, and how wide; and the line."""
-    name = os.path.relpath(path, desk.ROOT)
-    for number, line in enumerate(desk.read(path).splitlines(), 1):
+    name = os.path.relpath(path, repository.ROOT)
+    for number, line in enumerate(repository.read(path).splitlines(), 1):
         if len(line) > width:
             yield f"{name}:{number}: {len(line)} columns, more than {width}", line
 
@@ -166,7 +178,8 @@ def too_wide(path: str, width: int) -> Iterator[tuple[str, str]]:
 def unwrapped() -> Iterator[str]:
     """Lines of code, of definitions and of proofs that are too wide and could be wrapped."""
     for part, width in WIDTHS.items():
-        paths = glob.glob(os.path.join(desk.ROOT, "crates", "*", part, "**", "*"), recursive=True)
+        pattern = os.path.join(repository.ROOT, "crates", "*", part, "**", "*")
+        paths = glob.glob(pattern, recursive=True)
         for path in sorted(path for path in paths if path.endswith((".rt", ".antt"))):
             for where, line in too_wide(path, width):
                 if not UNBROKEN.fullmatch(line):
@@ -174,15 +187,16 @@ def unwrapped() -> Iterator[str]:
 
 
 def untidy() -> Iterator[str]:
-    """Lines of scripts that are too wide, and what pyflakes says of the scripts, if it is there."""
-    folder = os.path.join(desk.ROOT, "scripts")
-    paths = glob.glob(os.path.join(folder, "**", "*.*"), recursive=True)
-    for path in sorted(path for path in paths if path.endswith((".py", ".sh", ".c"))):
-        for where, _ in too_wide(path, WIDTH):
-            yield where
+    """Lines of scripts and tests that are too wide, and what pyflakes says, if it is there."""
+    folders = [os.path.join(repository.ROOT, name) for name in ("scripts", "tests")]
+    for folder in folders:
+        paths = glob.glob(os.path.join(folder, "**", "*.*"), recursive=True)
+        for path in sorted(path for path in paths if path.endswith((".py", ".sh", ".c"))):
+            for where, _ in too_wide(path, WIDTH):
+                yield where
     python = "/usr/bin/python3"  # Debian's own has Debian's packages
-    if desk.run([python, "-c", "import pyflakes"]).returncode == 0:
-        said = desk.run([python, "-m", "pyflakes", folder])
+    if repository.run([python, "-c", "import pyflakes"]).returncode == 0:
+        said = repository.run([python, "-m", "pyflakes", *folders])
         yield from (said.stdout + said.stderr).splitlines()
 
 
@@ -196,7 +210,8 @@ def main() -> int:
     print(
         "\n".join(wrong)
         if wrong
-        else "the layout and widths, the edits, the public calls, the documents and the scripts fit"
+        else "the layout and widths, the edits, the public calls, the documents, the scripts and"
+        " the tests fit"
     )
     return 1 if wrong else 0
 

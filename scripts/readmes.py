@@ -13,9 +13,9 @@ import re
 from collections.abc import Iterator
 
 import calls
-import desk
 import make_docs
 import names
+import repository
 
 MOST_LINES = 20
 MOST_COLUMNS = 160
@@ -33,7 +33,7 @@ DECLARED = re.compile(
 
 def libraries(crate: str) -> list[str]:
     """What crates.txt says that the crate stands on."""
-    for line in desk.read("crates.txt").splitlines():
+    for line in repository.read("crates.txt").splitlines():
         name, _, below = line.partition(":")
         if name == crate:
             return below.split()
@@ -58,9 +58,10 @@ def called() -> frozenset[tuple[str, str]]:
 
 def is_there(crate: str, around: list[str], name: str) -> bool:
     """Whether a name of the crate's page is there: among the crates that the page names, too."""
-    if "/" in name or os.path.exists(os.path.join(desk.ROOT, "crates", crate, name)):
-        inside = os.path.join(desk.ROOT, "crates", crate, name)
-        return os.path.isfile(inside) or os.path.isfile(os.path.join(desk.ROOT, "crates", name))
+    if "/" in name or os.path.exists(os.path.join(repository.ROOT, "crates", crate, name)):
+        inside = os.path.join(repository.ROOT, "crates", crate, name)
+        other = os.path.join(repository.ROOT, "crates", name)
+        return os.path.isfile(inside) or os.path.isfile(other)
     if place := PLACE.fullmatch(name):
         owners = [place[1]] if place[1] else [crate, *around]
         call = place[2]
@@ -78,10 +79,10 @@ def is_there(crate: str, around: list[str], name: str) -> bool:
 
 def faults_of(crate: str) -> Iterator[str]:
     page = f"crates/{crate}/README.md"
-    if not os.path.isfile(os.path.join(desk.ROOT, page)):
+    if not os.path.isfile(os.path.join(repository.ROOT, page)):
         yield f"{page}: it is not there"
         return
-    text = desk.read(page)
+    text = repository.read(page)
     lines = text.splitlines()
     if lines[:1] != [f"# {crate}"]:
         yield f"{page}: its first line is not the crate's name"
@@ -92,7 +93,7 @@ def faults_of(crate: str) -> Iterator[str]:
     every, quoted = make_docs.crates(), dict.fromkeys(names.QUOTED.findall(text))
     around = list(dict.fromkeys([it for it in quoted if it in every] + libraries(crate)))
     outside = {crate, "desk", *every, *around}
-    codes, targets = desk.read("docs/CODES.md"), desk.read("Makefile")
+    codes, targets = repository.read("docs/CODES.md"), repository.read("Makefile")
     for name in quoted:
         known = name in outside or not re.search(r"\w", name)
         if CODE.fullmatch(name):

@@ -59,44 +59,44 @@ demo() {
 }
 
 cases() {
-    python3 scripts/cases.py && python3 scripts/decisions.py &&
-        python3 scripts/random_reports.py && python3 scripts/cases_audit.py &&
-        /usr/bin/python3 scripts/random_audits.py
+    python3 -m tests.cases.cases && python3 -m tests.cases.decisions &&
+        python3 -m tests.cases.random_reports && python3 -m tests.cases.audit &&
+        /usr/bin/python3 -m tests.cases.random_audits
 }
 
 peers() {
-    python3 scripts/peers.py && python3 scripts/peers_policies.py &&
-        python3 scripts/peers_requests.py && python3 scripts/peers_http.py &&
-        python3 scripts/peers_socket.py &&
-        python3 scripts/peers_patience.py && python3 scripts/peers_crowd.py &&
-        python3 scripts/peers_store.py && python3 scripts/peers_site.py &&
-        python3 scripts/peers_monitoring.py
+    python3 -m tests.peers.sudo && python3 -m tests.peers.policies &&
+        python3 -m tests.peers.peers_requests && python3 -m tests.peers.peers_http &&
+        python3 -m tests.peers.peers_socket &&
+        python3 -m tests.peers.patience && python3 -m tests.peers.crowd &&
+        python3 -m tests.peers.store && python3 -m tests.peers.peers_site &&
+        python3 -m tests.peers.monitoring
 }
 
 faults() {
-    python3 scripts/faults.py && python3 scripts/allocation_counts.py
+    python3 -m tests.cases.faults && python3 -m tests.cases.allocation_counts
 }
 
 # the short form of `make soak`
 soak() {
-    python3 scripts/peers_faults.py && python3 scripts/peers_healing.py &&
-        RUNS=20 HELD=600 SENT=100 python3 scripts/peers_kills.py &&
-        /usr/bin/python3 scripts/soak.py --short
+    python3 -m tests.soak.reads_and_writes && python3 -m tests.soak.healing &&
+        RUNS=20 HELD=600 SENT=100 python3 -m tests.soak.kills &&
+        /usr/bin/python3 -m tests.soak.soak --short
 }
 
 front() {
-    python3 scripts/peers_front.py && python3 scripts/peers_front_certificates.py &&
-        python3 scripts/peers_authority.py
+    python3 -m tests.peers.fronts && python3 -m tests.peers.front_certificates &&
+        python3 -m tests.peers.authority
 }
 
 pages() {
-    python3 scripts/make_pages.py build/pages && python3 scripts/check_pages.py &&
-        python3 scripts/check_readme.py && python3 scripts/check_documents.py &&
-        python3 scripts/check_runbooks.py && python3 scripts/check_team.py
+    python3 scripts/make_pages.py build/pages && python3 -m tests.documents.check_pages &&
+        python3 -m tests.documents.check_readme && python3 -m tests.documents.check_documents &&
+        python3 -m tests.documents.check_runbooks && python3 -m tests.documents.check_team
 }
 
 package_test() {
-    bash scripts/deb.sh && bash scripts/package_lint.sh && python3 scripts/package_test.py
+    bash scripts/deb.sh && bash tests/packages/lint.sh && python3 -m tests.packages.package_test
 }
 
 bash scripts/tools.sh
@@ -126,13 +126,13 @@ part_with types root apt-get -- bash scripts/types.sh
 part_with relays-test root apt-get -- bash relays/test.sh
 part_with tools-test root apt-get -- bash tools/test.sh
 part_with hosts root debootstrap unshare sudo visudo faketime ip -- \
-    /usr/bin/python3 scripts/hosts.py --short
+    /usr/bin/python3 -m tests.hosts.hosts --short
 part_with pages root mandoc zsh unshare ip visudo sudo faketime curl jq sqlite3 nginx openssl -- \
     pages
 part_with peers nginx haproxy openssl sqlite3 strace flock -- front
 part_with package-test root dpkg-buildpackage dh lintian systemd-analyze sudo faketime unshare ip \
     nginx haproxy openssl strace epmd -- package_test
-part_with several root unshare mount -- bash scripts/several.sh --short
+part_with several root unshare mount -- bash tests/several/several.sh --short
 cat "$failures"
 echo "$passed passed, $failed failed"
 [ "$failed" = 0 ]

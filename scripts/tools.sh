@@ -39,7 +39,7 @@ command -v ip >/dev/null || wanted+=(iproute2)
 command -v debootstrap >/dev/null || wanted+=(debootstrap)
 /usr/bin/python3 -c 'import pexpect' 2>/dev/null || wanted+=(python3-pexpect)
 # The broker that the package's consumer is tried with; it is not started.
-[ -d /usr/lib/rabbitmq ] || bash scripts/several_tools.sh
+[ -d /usr/lib/rabbitmq ] || bash tests/several/tools.sh
 command -v systemd-analyze >/dev/null || wanted+=(systemd)
 command -v adduser >/dev/null || wanted+=(adduser)
 if [ "${#wanted[@]}" -gt 0 ] && [ "$(id -u)" = 0 ] && command -v apt-get >/dev/null; then

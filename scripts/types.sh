@@ -25,18 +25,21 @@ typed() {
 }
 
 mapfile -t relays < <(python_of relays)
-mapfile -t others < <(python_of broker tools)
+mapfile -t broker < <(python_of broker)
+mapfile -t tools < <(python_of tools)
 mkdir -p build/types
-# (two at once: the tests of the relays and of the others name the scripts in two ways)
+# (apart, for the tests of the broker and of the tools both have a conftest.py; two at once)
 typed relays "${relays[@]}" > build/types/relays.said 2>&1 &
 relays_ended=$!
 status=0
-MYPYPATH=broker:broker/tests:scripts:tools typed others "${others[@]}" || status=1
+MYPYPATH=broker:broker/tests typed broker "${broker[@]}" || status=1
+MYPYPATH=tools:tools/tests typed tools "${tools[@]}" || status=1
 wait "$relays_ended" || status=1
 cat build/types/relays.said
 # (a line may have more than flake8's 79 columns, and a slice a blank before its colon)
-/usr/bin/python3 -m flake8 --extend-ignore=E203,E501 "${relays[@]}" "${others[@]}" || status=1
-count=$((${#relays[@]} + ${#others[@]}))
+/usr/bin/python3 -m flake8 --extend-ignore=E203,E501 "${relays[@]}" "${broker[@]}" \
+    "${tools[@]}" || status=1
+count=$((${#relays[@]} + ${#broker[@]} + ${#tools[@]}))
 if [ "$status" != 0 ] || [ "$count" -lt 100 ]; then
     echo "$count programs and modules: FAILED"
     exit 1

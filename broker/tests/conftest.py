@@ -1,4 +1,4 @@
-"""Where the package and the scripts' ports are, and a desk that answers as it was told."""
+"""Where the package and the tests' ports are, and a desk that answers as it was told."""
 
 from __future__ import annotations
 
@@ -14,7 +14,7 @@ from typing import Any
 import pytest
 
 ROOT = pathlib.Path(__file__).resolve().parents[2]
-sys.path[:0] = [str(ROOT / "broker"), str(ROOT / "scripts")]
+sys.path[:0] = [str(ROOT / "broker"), str(ROOT)]
 
 
 class Scripted(http.server.ThreadingHTTPServer):

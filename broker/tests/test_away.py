@@ -14,7 +14,7 @@ from desk_broker.desk import Desk
 from desk_broker.outbox import NotConfirmed
 from desk_broker.publish import Publisher
 from desk_broker.settings import Broker
-from ports import free_port
+from tests.common.ports import free_port
 
 
 @pytest.fixture(params=["nobody", "silent", "no name"])

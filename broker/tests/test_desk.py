@@ -10,7 +10,7 @@ from pathlib import Path
 import pytest
 from conftest import Scripted
 from desk_broker.desk import Desk, Kind, judge
-from ports import free_port
+from tests.common.ports import free_port
 
 
 @pytest.mark.parametrize(

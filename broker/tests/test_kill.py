@@ -1,5 +1,5 @@
 """A desk is killed with as many posts in flight as there can be: nothing is lost, and while it is
-away one post alone asks for it. (Its place has scripts/several/stub.py.)"""
+away one post alone asks for it. (Its place has tests/several/stub.py.)"""
 
 from __future__ import annotations
 
@@ -15,8 +15,8 @@ from desk_broker.desk import Answer
 from desk_broker.desk import Desk as Address
 from desk_broker.flight import POSTS, Delivery, Flight
 from desk_broker.tally import Tally
-from several import stub
-from several.desks import Desk
+from tests.several import stub
+from tests.several.desks import Desk
 
 PATIENCE = 60
 

@@ -18,7 +18,7 @@ from contextlib import contextmanager, suppress
 from pathlib import Path
 
 from relays.tests.site import RELAY, ROOT, SECRET, Site, wait_for_port
-from scripts.ports import free_port
+from tests.common.ports import free_port
 
 APACHE, MODULES = "/usr/sbin/apache2", Path("/etc/apache2/mods-available")
 AUTHORITY = str(ROOT / "examples" / "front-ca.sh")

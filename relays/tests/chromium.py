@@ -1,5 +1,5 @@
 """A browser for tests: Debian's chromium, driven by selenium. It needs nothing else of this folder:
-scripts/check_team.py puts it on a machine that has the packages alone."""
+tests/documents/check_team.py puts it on a machine that has the packages alone."""
 
 from pathlib import Path
 

@@ -8,7 +8,7 @@ import subprocess
 from pathlib import Path
 
 from relays.tests.site import ROOT, SECRET, Site, wait_for_port
-from scripts.ports import free_port
+from tests.common.ports import free_port
 
 NGINX = "/usr/sbin/nginx"
 AUTHORITY = str(ROOT / "examples" / "front-ca.sh")

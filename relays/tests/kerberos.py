@@ -8,7 +8,7 @@ import subprocess
 from pathlib import Path
 
 from relays.tests.site import wait_for_port
-from scripts.ports import free_port
+from tests.common.ports import free_port
 
 OURS, OTHER = "EXAMPLE.COM", "OTHER.EXAMPLE"
 PASSWORD = "only for this test"

@@ -18,7 +18,7 @@ import requests
 from authlib.jose import JsonWebKey, jwt
 
 from relays.tests.site import wait_for_port
-from scripts.ports import free_port
+from tests.common.ports import free_port
 
 TABLES = Path("/usr/share/dbconfig-common/data/glewlwyd/install/sqlite3")
 MODULES = "/usr/lib/glewlwyd"

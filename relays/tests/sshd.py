@@ -6,7 +6,7 @@ import subprocess
 from pathlib import Path
 
 from relays.tests.site import RELAY, ROOT, Site, wait_for_port
-from scripts.ports import free_port
+from tests.common.ports import free_port
 
 SSHD = "/usr/sbin/sshd"
 PERSON = str(ROOT / "relays" / "desk-relay-person")

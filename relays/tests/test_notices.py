@@ -29,7 +29,7 @@ from relays.tests.front import AUTHORITY
 from relays.tests.site import ROOT, Site
 from relays.tests.test_fuzz import answer
 from relays.tests.test_outbox import AT, WISH
-from scripts.ports import free_port
+from tests.common.ports import free_port
 
 ASK = "ask db-care --on db1 --as root --for 1h --yes --again --why disk full /usr/bin/id"
 MAIL, WEBHOOK = (str(ROOT / "relays" / f"notify-{it}") for it in ("mail", "webhook"))

@@ -11,7 +11,7 @@ import pytest
 
 from relays.config import BadConfig, read_config
 from relays.tests.site import ROOT, Site, wait_for_port
-from scripts.ports import free_port
+from tests.common.ports import free_port
 
 FRONT = ROOT / "examples" / "nginx" / "desk.conf"
 AUTHORITY = str(ROOT / "examples" / "front-ca.sh")

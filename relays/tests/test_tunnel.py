@@ -16,7 +16,7 @@ import pytest
 
 from relays.tests.site import ROOT, Site, wait_for_port
 from relays.tests.sshd import CONFIG, SSHD, keygen
-from scripts.ports import free_port, free_ports
+from tests.common.ports import free_port, free_ports
 
 PAGE = (ROOT / "docs" / "HTTP.md").read_text(encoding="utf-8")
 SOCKET = "/run/desk/desk.sock"

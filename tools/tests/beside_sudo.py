@@ -1,5 +1,5 @@
 #!/usr/bin/env python3
-"""Asks sudo itself about what desk-import made (scripts/sudo_peer.py says how sudo is asked).
+"""Asks sudo itself about what desk-import made (tests/common/sudo_peer.py says how sudo is asked).
 
 Of each sudoers file a base is made, and random invocations of its words are asked: of sudo by the base, which has to answer as the desk does; and of sudo
 by the file itself, which has to allow all that the desk allows, and nothing else where nothing was left out. The files are those that are named,
@@ -20,11 +20,11 @@ import tempfile
 from collections.abc import Sequence
 
 ROOT = os.path.dirname(os.path.dirname(os.path.dirname(os.path.abspath(__file__))))
-sys.path[:0] = [os.path.join(ROOT, "tools"), os.path.join(ROOT, "scripts")]
+sys.path[:0] = [os.path.join(ROOT, "tools"), ROOT]
 sys.dont_write_bytecode = True
 
-import desk  # noqa: E402
-import sudo_peer  # noqa: E402
+from tests.common import desk  # noqa: E402
+from tests.common import sudo_peer  # noqa: E402
 
 from desk_tools.cvtsudoers import BadSudoers, text_read  # noqa: E402
 

@@ -2,7 +2,7 @@
 """Two hosts on which the real sudo runs commands by the desk's own files, and logs them in each of
 its ways; desk-used has to tell of each way what was really run, and by what right.
 
-It is done in a mount namespace of its own (scripts/sudo_peer.py). beside_sudo_logs.py
+It is done in a mount namespace of its own (tests/common/sudo_peer.py). beside_sudo_logs.py
 """
 
 from __future__ import annotations
@@ -20,11 +20,11 @@ from collections.abc import Iterator
 from typing import Any
 
 ROOT = os.path.dirname(os.path.dirname(os.path.dirname(os.path.abspath(__file__))))
-sys.path[:0] = [os.path.join(ROOT, "tools"), os.path.join(ROOT, "scripts")]
+sys.path[:0] = [os.path.join(ROOT, "tools"), ROOT]
 sys.dont_write_bytecode = True
 
-import desk  # noqa: E402
-import sudo_peer  # noqa: E402
+from tests.common import desk  # noqa: E402
+from tests.common import sudo_peer  # noqa: E402
 
 DESK = os.environ.get("DESK", os.path.join(ROOT, "build", "desk"))
 AUDIT = os.path.join(os.path.dirname(DESK), os.path.basename(DESK).replace("desk", "desk-audit", 1))

@@ -8,7 +8,7 @@ import tarfile
 import tempfile
 from fnmatch import fnmatch
 
-from tests.conftest import ROOT
+from conftest import ROOT
 
 FOLDER = os.path.join(ROOT, "build", "sudoers-peers")
 PACKAGES = ("sudo", "freedombox", "nova-common", "neutron-common", "cinder-common", "manila-common")

@@ -1,6 +1,6 @@
 #!/usr/bin/env python3
 """Asks sudo itself whether a base that desk-import made gives more than the file it was made of
-(scripts/sudo_peer.py says how sudo is asked).
+(tests/common/sudo_peer.py says how sudo is asked).
 
 The files are those of wideners.py, of each of which a base was made once that gave more, and random
 ones: with comments, continuations, included files of all modes and owners, Defaults of every scope,
@@ -20,14 +20,14 @@ import tempfile
 from collections.abc import Callable
 
 ROOT = os.path.dirname(os.path.dirname(os.path.dirname(os.path.abspath(__file__))))
-sys.path[:0] = [os.path.join(ROOT, "tools"), os.path.join(ROOT, "scripts")]
+sys.path[:0] = [os.path.join(ROOT, "tools"), ROOT]
 sys.dont_write_bytecode = True
 
-import desk  # noqa: E402
-import sudo_peer  # noqa: E402
+from tests.common import desk  # noqa: E402
+from tests.common import sudo_peer  # noqa: E402
 
-from tests import odd_sudoers  # noqa: E402
-from tests.wideners import MORE, WIDENERS, File, Widener  # noqa: E402
+import odd_sudoers  # noqa: E402
+from wideners import MORE, WIDENERS, File, Widener  # noqa: E402
 
 DESK = os.environ.get("DESK", os.path.join(ROOT, "build", "desk"))
 IMPORT = os.environ.get("DESK_IMPORT", os.path.join(ROOT, "tools", "desk-import"))

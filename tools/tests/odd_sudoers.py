@@ -4,7 +4,7 @@ in a backslash, included files that sudo passes over, Defaults of every scope, w
 import random
 import re
 
-from tests.wideners import MORE, File, Widener
+from wideners import MORE, File, Widener
 
 USERS = ("ann", "bob", "eve", "kim", "op")
 PASSWD = "first:x:2101:2101::/:/bin/sh\ntwin:x:2101:2101::/:/bin/sh\n"

@@ -14,7 +14,7 @@ from contextlib import closing
 from pathlib import Path
 from typing import Any
 
-from tests.conftest import ROOT
+from conftest import ROOT
 
 sys.path.insert(0, ROOT)
 

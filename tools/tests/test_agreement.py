@@ -17,8 +17,8 @@ import pytest
 from desk_tools import admission, base_faults, message_faults, roster_faults, toml_text
 from desk_tools.found import coded, first_code
 from desk_tools.site import Site
-from tests import texts
-from tests.conftest import ROOT
+import texts
+from conftest import ROOT
 
 BASE_WORDS = "ann ALL %wheel +net #1000 Db1 db1.example.org 10.0.0.1 /bin/ls /bin/l* sudoedit NOEXEC: NOTAFTER=2026 OPS (root) (: op) list".split()
 BASE_MARKS = ["\\\n", " \\\n", "\n", ",", "=", "!", ":", "#", "\\", '"', "(", ")", "\r", "\x1b", "é", "Defaults x\n", "@include x\n", " "]

@@ -18,7 +18,7 @@ from typing import Any
 import pytest
 
 from desk_tools import changes
-from tests.running import Running, until
+from running import Running, until
 
 # a person is struck out, and another one joins
 WITHOUT_CAROL = ('carol = ["approve-db", "operate-db"]\n', "")

@@ -10,7 +10,7 @@ from pathlib import Path
 
 import pytest
 
-from tests.conftest import ROOT
+from conftest import ROOT
 
 EXAMPLES = os.path.join(ROOT, "examples")
 SPAN = ("20260101000000Z", "20260331235959Z")

@@ -14,8 +14,8 @@ from pathlib import Path
 import pytest
 
 from desk_tools import machine
-from tests import fetch
-from tests.conftest import ROOT, Run
+import fetch
+from conftest import ROOT, Run
 
 BESIDE = os.path.join(ROOT, "tools", "tests", "beside_sudo.py")
 NEVER_WIDER = os.path.join(ROOT, "tools", "tests", "never_wider.py")

@@ -16,7 +16,7 @@ import pytest
 from desk_tools import schema, toml_text
 from desk_tools.site import command, lies_inside
 from desk_tools.warnings import risk, table
-from tests.conftest import ROOT, Run
+from conftest import ROOT, Run
 
 EXAMPLES = os.path.join(ROOT, "examples")
 ROSTER = os.path.join(EXAMPLES, "roster.toml")

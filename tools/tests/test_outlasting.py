@@ -15,7 +15,7 @@ from typing import Any
 import pytest
 
 from desk_tools.message_faults import written
-from tests.conftest import ROOT, Run
+from conftest import ROOT, Run
 
 ON = "20260101"
 ROSTER = """\

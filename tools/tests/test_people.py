@@ -17,8 +17,8 @@ import pytest
 
 from desk_tools import people
 from desk_tools.directory import Ldap
-from tests.conftest import ROOT
-from tests.running import until
+from conftest import ROOT
+from running import until
 
 TODAY = "20260310"
 SLAPD = """\

@@ -21,7 +21,7 @@ import pytest
 from desk_tools.decisions import Desk, Invocation, Question
 from desk_tools.sudo_logs import Logs, Run, read_log, without_exits
 from desk_tools.use import Done, done_of, grants_of, seconds
-from tests.conftest import ROOT, Run as Program
+from conftest import ROOT, Run as Program
 
 BESIDE = os.path.join(ROOT, "tools", "tests", "beside_sudo_logs.py")
 EXAMPLES = os.path.join(ROOT, "examples")

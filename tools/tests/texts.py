@@ -8,7 +8,7 @@ import re
 import tomllib
 from typing import Any
 
-from tests.conftest import ROOT
+from conftest import ROOT
 
 DATED = """\
 hosts = ['db1', "db2", "web-1"]   # three

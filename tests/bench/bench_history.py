@@ -1,0 +1,227 @@
+#!/usr/bin/env python3
+"""What a long history costs a desk that is asked for what is in force.
+
+- **A host's file** of 20 live lines (`/v1/hosts/HOST/sudoers/MOMENT`) of a desk that holds these
+  messages alone, and of one that holds a million others beside: a half of them of other hosts and
+  live, a half of this host and of the past. A later question is counted, not the first.
+- **A report** of 100 live grants alone, and beside 100,000 that have ended.
+- **An opening and the first file**: of 100,000 messages the instructions, beside what it costs to
+  read the messages alone (`deliver` of them over a roster that lists nobody, which keeps none); and
+  of a million messages the processor time, and the most memory, less what a desk without messages
+  takes.
+
+Instructions are counted by valgrind's callgrind: they do not depend on the machine's load. While
+a desk opens a long history its instructions are not counted, so that this takes no quarter of an
+hour. A part whose tools are missing is left out, and said to be. Each line that judges ends with
+`holds` or `FAILS`, and the status is 1 where one fails.
+
+`python3 -m tests.bench.bench_history [--others N] [--ended N] [--opened N] [--counted N] WORDS..`;
+WORDS run another program than build/desk, and the numbers are for smaller histories.
+"""
+
+import argparse
+import os
+import re
+import subprocess
+import sys
+import tempfile
+import time
+from collections.abc import Iterator, Sequence
+
+from tests.bench.bench_store import judged
+from tests.common import desk, store_files
+
+LIVE, GRANTS = 20, 100
+OTHERS, ENDED, OPENED, COUNTED = 1_000_000, 100_000, 1_000_000, 100_000
+HOSTS = ["db1", *(f"web{n}" for n in range(40))]
+ASKERS = [f"user{n}" for n in range(500)]
+MOMENT = "20260105093000Z"
+FILE = f"/v1/hosts/db1/sudoers/{MOMENT}".encode()
+REPORT = f"/v1/reviews/{MOMENT}".encode()
+# 0.65 of what it was while the first question read what the opening had read: 8.5 times
+MOST_BESIDE_READING = 5.5
+# a window that has ended before that moment
+PAST = {"at": "20250105060000Z", "from": "20250105090000Z", "until": "20250105110000Z"}
+PAST_APPROVAL = {"at": "20250105083000Z"}
+NOBODY = 'relays = ["web"]\nhosts = ["db1"]\nduties = []\nconflicts = []\n[people]\n[ceilings]\n'
+
+
+def roster() -> str:
+    """Under which all may ask for what they ask for, and the boss may approve it."""
+    people = {"boss": ["approve-db"]} | {name: ["operate-db"] for name in ASKERS}
+    ceiling = desk.ceiling("db-care", hosts=HOSTS, commands=["/usr/bin/id"])
+    return desk.roster(people, [ceiling], hosts=HOSTS)
+
+
+def granted(first: int, count: int, host: str | None, is_past: bool = False) -> Iterator[str]:
+    """So many messages, a request and its approval in turn; of one host, or of the others."""
+    for number in range(first, first + count // 2):
+        asker = ASKERS[number % len(ASKERS)]
+        hosts = [host or HOSTS[1 + number % (len(HOSTS) - 1)]]
+        yield desk.request(number, by=asker, hosts=hosts, **(PAST if is_past else {}))
+        more = PAST_APPROVAL if is_past else {}
+        yield desk.approval(number, by="boss", of=asker, **more)
+
+
+def others(count: int, first: int = 1_000_000) -> Iterator[str]:
+    """Messages that give the host nothing after the moment."""
+    yield from granted(first, count // 2, None)
+    yield from granted(first + count, count // 2, "db1", is_past=True)
+
+
+class Site:
+    """The files of a roster and of a base, and stores of messages under them."""
+
+    def __init__(self, folder: str, program: Sequence[str]) -> None:
+        self.folder, self.program = folder, program
+        self.roster = desk.write(folder, "roster.toml", roster())
+        self.base = desk.write(folder, "base.sudo", "root ALL = (ALL) ALL\n")
+
+    def store(self, name: str, *parts: Iterator[str]) -> str:
+        path = os.path.join(self.folder, f"{name}.db")
+        bodies = [body for part in parts for body in part]
+        store_files.make_desk(path, desk.read(self.roster), bodies)
+        return path
+
+    def serving(
+        self, store: str, *more: str, before: Sequence[str] = (), stderr: int = subprocess.DEVNULL
+    ) -> desk.Server:
+        return desk.Server(
+            store, *more, program=self.program, roster=self.roster, base=self.base, before=before,
+            stderr=stderr,
+        )
+
+
+def answer(server: desk.Server, target: bytes, patience: float = 3_600) -> bytes:
+    """The body of the reply, which is not refused."""
+    with server.connect(seconds=patience) as peer:
+        peer.sendall(desk.asked(b"GET", target))
+        head, _, body = desk.received(peer).partition(b"\r\n\r\n")
+    if not head.startswith(b"HTTP/1.1 200 "):
+        sys.exit(f"bench_history: {target!r}: {head[:80]!r}")
+    return body
+
+
+def collected(server: desk.Server) -> int:
+    """What valgrind has counted of a desk that has ended by itself."""
+    said = server.error.read().decode()
+    server.wait(600)
+    found = re.search(r"Collected : (\d+)", said)
+    return int(found[1]) if found else 0
+
+
+def later(site: Site, store: str, target: bytes) -> tuple[int, bytes]:
+    """The instructions of the second question over a store, and its answer."""
+    before = [*desk.counting(), "--instr-atstart=no"]
+    with site.serving(
+        store, "--requests", "2", before=before, stderr=subprocess.PIPE
+    ) as server:
+        answer(server, target)
+        words = ["callgrind_control", "--instr=on", str(server.process.pid)]
+        subprocess.run(
+            words, check=True, stdout=subprocess.DEVNULL, stderr=subprocess.DEVNULL, timeout=600
+        )
+        body = answer(server, target)
+        return collected(server), body
+
+
+def from_start(site: Site, store: str, target: bytes) -> int:
+    """The instructions of an opening and a first question."""
+    with site.serving(
+        store, "--requests", "1", before=desk.counting(), stderr=subprocess.PIPE
+    ) as server:
+        answer(server, target)
+        return collected(server)
+
+
+def beside(site: Site, what: str, target: bytes, most: float, few: str, many: str) -> bool:
+    """A later question over two stores, which is answered alike."""
+    (least, first), (all_of_it, second) = (later(site, store, target) for store in (few, many))
+    if first != second:
+        sys.exit(f"bench_history: {what}: the answers differ")
+    print(f"{what}: {least:,} instructions alone, {all_of_it:,} beside the others")
+    return judged(what, all_of_it / least, most)
+
+
+def files(site: Site, count: int) -> bool:
+    few = site.store("few", granted(0, 2 * LIVE, "db1"))
+    many = site.store("many", granted(0, 2 * LIVE, "db1"), others(count))
+    what = f"a host's file of {LIVE} live lines, beside {count:,} other messages"
+    return beside(site, what, FILE, 1.5, few, many)
+
+
+def reports(site: Site, count: int) -> bool:
+    few = site.store("live", granted(0, 2 * GRANTS, "db1"))
+    ended = granted(1_000_000, 2 * count, None, is_past=True)
+    many = site.store("ended", granted(0, 2 * GRANTS, "db1"), ended)
+    what = f"a report of {GRANTS} live grants, beside {count:,} that have ended"
+    return beside(site, what, REPORT, 3.0, few, many)
+
+
+def opening_counted(site: Site, count: int) -> bool:
+    """An opening and the first file, beside reading the messages, in instructions."""
+    bodies = [*granted(0, 2 * LIVE, "db1"), *others(count - 2 * LIVE)]
+    store = site.store("counted", iter(bodies))
+    given = desk.write(site.folder, "given", "".join(body + "\n" for body in bodies))
+    nobody = desk.write(site.folder, "nobody.toml", NOBODY)
+    reading = [*site.program, "deliver", nobody, site.base, "-", "web"]
+    opened, read = from_start(site, store, FILE), desk.instructions(reading, given)
+    print(
+        f"in millions of instructions: opening {count:,} messages and the first file"
+        f" {opened / 1e6:,.0f}, reading the messages {read / 1e6:,.0f}"
+    )
+    what = f"opening {count:,} messages and the first file, beside reading them"
+    return judged(what, opened / read, MOST_BESIDE_READING)
+
+
+def opening(site: Site, count: int) -> bool:
+    """What an opening and the first file take of the processor and of memory."""
+    peaks: dict[str, int] = {}
+    parts: dict[str, list[Iterator[str]]] = {
+        "none": [], "opened": [granted(0, 2 * LIVE, "db1"), others(count - 2 * LIVE)]
+    }
+    for name, bodies in parts.items():
+        store = site.store(name, *bodies)
+        begun = time.perf_counter()
+        with site.serving(store) as server:
+            opened = time.perf_counter() - begun
+            answer(server, FILE)
+            first = time.perf_counter() - begun - opened
+            answer(server, FILE)
+            last = time.perf_counter() - begun - opened - first
+            peaks[name] = server.memory()[1] * 1024
+        if name == "opened":
+            print(
+                f"{count:,} messages: opening {opened:.2f} s, the first file {first * 1e3:.1f} ms,"
+                f" a later one {last * 1e3:.1f} ms; {peaks[name] / 2**20:,.0f} MiB, of which"
+                f" {peaks['none'] / 2**20:.0f} for a desk without messages"
+            )
+    each = (peaks["opened"] - peaks["none"]) / count
+    return judged(f"opening {count:,} messages and the first file, bytes a message", each, 1_000)
+
+
+def arguments() -> argparse.Namespace:
+    parser = argparse.ArgumentParser(description="What a long history costs.")
+    for name, number in (
+        ("others", OTHERS), ("ended", ENDED), ("opened", OPENED), ("counted", COUNTED)
+    ):
+        parser.add_argument(f"--{name}", type=int, default=number, metavar="N")
+    parser.add_argument("words", nargs="*", default=desk.PROGRAM)
+    return parser.parse_args()
+
+
+def main() -> int:
+    given, wrong = arguments(), 0
+    with tempfile.TemporaryDirectory(dir=desk.MEMORY) as folder:
+        site = Site(folder, given.words)
+        if desk.found("valgrind"):
+            wrong += files(site, given.others) + reports(site, given.ended)
+            wrong += opening_counted(site, given.counted)
+        else:
+            print("instructions: left out, for valgrind is not there")
+        wrong += opening(site, given.opened)
+    return 1 if wrong else 0
+
+
+if __name__ == "__main__":
+    sys.exit(main())

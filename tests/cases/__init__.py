@@ -1,0 +1,1 @@
+"""What the programs answer: the cases of cases/, random reports and audits, refused memory."""

@@ -1,0 +1,265 @@
+#!/usr/bin/env python3
+"""Follows docs/TEAM.md line by line over build/desk, or the program that DESK names, and compares
+what the page says of it: from the packages to a grant on a host, its audit and a new roster. Then
+people come from a table, by the lines of docs/PEOPLE.md; and what comes after that in a team's life
+is in check_team_rest.py.
+
+It is done in a root of its own, as check_runbooks.py does. `apt install` puts in place what the
+packages would, by their lists of files and their scripts; with `--packages` dpkg installs those of
+build/deb (package_test.py's end). `systemctl` and `ssh prod1` are stand-ins, and `prod1` is the
+same machine. The people have accounts of their own, call a real sshd, and have a browser. Needs
+root; what it needs of Debian it installs.
+"""
+
+from __future__ import annotations
+
+import os
+import re
+import shutil
+import subprocess
+import sys
+import tempfile
+import time
+
+from tests.common import desk
+from tests.documents import check_runbooks, check_team_rest
+from tests.documents.check_runbooks import BOOK, PROGRAM, STAND_INS, Room
+from tests.packages.package_test import furnish
+
+TEXT = desk.read("docs", "TEAM.md")
+MOST = 12 * 1024
+DEBIAN = os.path.join(desk.ROOT, "packaging", "debian")
+TREES = "/packages"
+NEEDED = "adduser curl nginx-light openssl openssh-client openssh-server python3-flask"
+NEEDED += " python3-itsdangerous python3-jsonschema python3-requests python3-requests-unixsocket"
+NEEDED += " python3-waitress sqlite3 sudo"
+PEOPLE = ("ann", "ben", "carol")
+SSH = "Host desk\n    HostName desk.example\n    User desk-relay\n"
+UNITS = """case $* in
+    'enable --now desk') start ;;
+    'enable --now desk-relay-post') relay post ;;
+    'enable --now desk-fetch@prod1.timer' | 'start desk-fetch@prod1') desk-host fetch prod1 ;;
+"""
+UNITS += check_team_rest.UNITS
+APT = f"""#!/bin/bash
+# each package's files, and its script; what is Debian's is there
+for word; do
+    case $word in ./steelnewt*_*.deb) ;; *) continue ;; esac
+    name=${{word#./}} name=${{name%%_*}}
+    tar -C {TREES}/$name -c . | tar -C / -x --keep-directory-symlink
+    [ ! -e {TREES}/$name.postinst ] || sh {TREES}/$name.postinst configure ''
+done
+"""
+# the packages themselves; what they need of Debian is there
+DPKG = """#!/bin/bash
+for word; do
+    case $word in ./steelnewt*_*.deb) files+=("$word") ;; esac
+done
+[ -z "$files" ] || dpkg --force-unsafe-io --no-triggers -i "${files[@]}"
+"""
+
+
+def built(room: Room) -> None:
+    """The packages of build/deb, where their administrator has them."""
+    folder = os.path.join(desk.BUILD, "deb")
+    found = [it for it in os.listdir(folder) if it.endswith(".deb")]
+    room.holds("the packages are built: bash scripts/deb.sh", len(found) == 5, found)
+    for name in found:
+        shutil.copy(os.path.join(folder, name), room.path("/root"))
+
+
+def packages(room: Room) -> None:
+    """What each package has, by the list of its files, in a folder of its own."""
+    tree = room.path("/tree")
+    words = ["bash", os.path.join(desk.ROOT, "scripts", "install.sh")]
+    environment = {**os.environ, "PREFIX": "/usr", "DESTDIR": tree}
+    subprocess.run(words, env=environment, stdout=subprocess.DEVNULL, check=True)
+    shutil.copy(PROGRAM, f"{tree}/usr/bin/desk")
+    for name in ("steelnewt", "steelnewt-host", "steelnewt-relay", "steelnewt-tools"):
+        os.makedirs(room.path(f"{TREES}/{name}"))
+        with open(f"{DEBIAN}/{name}.install", encoding="utf-8") as file:
+            listed = " ".join(file.read().split())
+        room.run(f"cd /tree && tar -c {listed} | tar -C {TREES}/{name} -x --no-same-owner")
+        if os.path.exists(f"{DEBIAN}/{name}.postinst"):
+            shutil.copy(f"{DEBIAN}/{name}.postinst", room.path(TREES))
+
+
+def prepare(room: Room, is_built: bool) -> None:
+    """A machine on which nothing of the desk is installed, and the accounts of its people."""
+    os.mkdir(room.path(BOOK))
+    units = STAND_INS["systemctl"].replace("case $* in\n", UNITS)
+    units = units.replace("/usr/local/bin/desk-serve", "/usr/libexec/steelnewt/desk-serve")
+    stand_ins = {"systemctl": units, "ssh": STAND_INS["ssh"].replace("db1", "prod1")}
+    if is_built:
+        stand_ins["apt"] = DPKG
+    else:
+        stand_ins |= {"apt": APT, "py3compile": "#!/bin/sh\n", "pam-auth-update": "#!/bin/sh\n"}
+        packages(room)
+    for name, text in stand_ins.items():
+        room.write(f"{BOOK}/{name}", text.replace("/usr/local/bin/desk-relay", "desk-relay"), 0o755)
+    room.write("/etc/hosts", "127.0.0.1 localhost desk.example\n")
+    made = room.run("ssh-keygen -A && mkdir -p /run/sshd && /usr/sbin/sshd; mkdir -p /root")
+    room.holds("an sshd", made.returncode == 0, made)
+    room.run("rm -rf /var/lib/desk-relay /etc/desk /etc/nginx/conf.d/* /root/*")
+    if is_built:
+        built(room)
+    for person in PEOPLE:
+        config = f"{SSH}    StrictHostKeyChecking accept-new\n    ConnectionAttempts 20\n"
+        room.run(f"id {person} || useradd {person}; usermod --home /home/{person} {person}")
+        home = f"/home/{person}/.ssh"
+        room.run(f"install -d -m 0700 {home}; ssh-keygen -q -t ed25519 -N '' -f {home}/id_ed25519")
+        room.write(f"{home}/config", config)
+        room.run(f"chown -R {person} /home/{person}; cp {home}/id_ed25519.pub /root/{person}.pub")
+
+
+class Page:
+    """The page, whose blocks are run one after the other."""
+
+    def __init__(self, room: Room) -> None:
+        self.room = room
+        self.blocks = re.findall(r"^```(\w*)\n(.*?)^```$", TEXT, re.MULTILINE | re.DOTALL)
+
+    def next(self, kind: str, says_yes: bool = False) -> desk.Run:
+        """The next block, which is of that kind: run, or written where the page says."""
+        its_kind, block = self.blocks.pop(0)
+        self.room.holds(f"the next block is {kind}", its_kind == kind, block)
+        if kind == "toml":
+            self.room.write("/etc/desk/roster.toml", block)
+            return self.room.run("true")
+        given = "yes | " if says_yes else ""
+        lines = f"{given}bash -euc \"$BLOCK\"" if given else block
+        before = "umask 022; cd /root; set -e\n"
+        return self.room.run(before + lines, BLOCK=block)
+
+    def people(self) -> list[desk.Run]:
+        """The next block, each line of which a person types."""
+        its_kind, block = self.blocks.pop(0)
+        self.room.holds("the next block is typed by people", its_kind == "", block)
+        ran = []
+        for line in block.splitlines():
+            person, _, words = line.partition("$ ")
+            account = f"setpriv --reuid {person} --regid {person} --init-groups"
+            # (the real ssh)
+            typed = f"env HOME=/home/{person} PATH=/usr/bin:/bin {words}"
+            ran.append(self.room.run(f"{account} {typed}"))
+        return ran
+
+
+def install(page: Page, room: Room) -> None:
+    done = page.next("sh")
+    room.holds("it is installed", done.returncode == 0 and "ok" not in done.stderr, done)
+    page.next("toml")
+    done = page.next("sh")
+    linted = "nobody can get 2 approvals: only ben and carol" in done.stdout
+    linted = linted and len(done.stdout.splitlines()) == 2
+    room.holds("desk-lint, and the desk", done.returncode == 0 and linted, done)
+    room.holds("it answers", len(room.text("/v1/count").split()) == 3)
+
+
+def host(page: Page, room: Room) -> None:
+    done = page.next("sh")
+    room.holds("the front", done.returncode == 0, done)
+    copied = room.run(
+        "cd /etc/desk/front && cp host-prod1.pem ../host.pem && cp ca.pem .. &&"
+        " install -m 0400 host-prod1.key ../host.key"
+    )
+    room.holds("the host's files", copied.returncode == 0, copied)
+    done = page.next("sh")
+    room.holds("the host fetches", done.returncode == 0 and "parsed OK" in done.stdout, done)
+    room.holds("its file", "dba ALL" in room.read("/etc/sudoers.d/desk"))
+
+
+def asked(page: Page, room: Room) -> None:
+    done = page.next("sh")
+    room.holds("people's keys", done.returncode == 0 and "ben may call" in done.stdout, done)
+    room.holds("the lines of ~/.ssh/config", all(it.strip() in TEXT for it in SSH.splitlines()))
+    ceilings, ask, waiting, approved = page.people()
+    names = ("dev", "test", "prod", "emergency")
+    may = [it for it in names if f"\n{it}\n" in f"\n{ceilings.stdout}"]
+    room.holds("what ann may ask", may == ["dev", "test", "prod"], ceilings)
+    room.holds("ann asks", ask.returncode == 0 and "Kept as ann 1." in ask.stdout, ask)
+    room.holds("why", "ticket OPS-7" in waiting.stdout, waiting)
+    room.holds("ben approves", "It is in force from" in approved.stdout, approved)
+    done = page.next("sh")
+    if "start it again" in done.stdout:
+        # (desk-host takes it for one from before the file, by a clock of whole seconds)
+        time.sleep(3)
+        done = room.run("ssh prod1 sudo -l -U ann /usr/bin/id")
+    room.holds("sudo on the host", done.stdout.endswith("/usr/bin/id\n"), done)
+    refused = room.run("ssh prod1 sudo -l -U ann /usr/bin/env")
+    room.holds("and no more", refused.returncode == 1, refused)
+
+
+def audited(page: Page, room: Room) -> None:
+    done = page.next("sh")
+    told = re.search(r"ann 1  granted (?s:.*)approve +\d+Z ben counts\n", done.stdout)
+    room.holds("the audit", done.returncode == 0 and told is not None, done)
+    live = re.search(r"\nLIVE\nann +1 +prod .* needed\n", done.stdout)
+    room.holds("what is in force", live is not None, done)
+    done = page.next("sh", True)
+    changed = "No grant changes" in done.stdout and "serves the new roster" in done.stdout
+    room.holds("the change", done.returncode == 0 and changed, done)
+    room.holds("eric", '\neric = ["operate"]\n' in room.read("/etc/desk/roster.toml"))
+    kept = room.run("ls /etc/desk/rosters")
+    room.holds("both rosters are kept", len(kept.stdout.split()) == 2, kept)
+    room.holds("no block is left", not page.blocks, page.blocks)
+    size = len(TEXT.encode())
+    room.holds(f"it has at most {MOST} bytes", size <= MOST, size)
+
+
+def from_a_table(room: Room) -> None:
+    """The lines of docs/PEOPLE.md: fred joins, and lena is not in the table any more."""
+    names = ("ann", "ben", "carol", "eric", "fred")
+    room.write("/etc/desk/people.csv", "person,duty\n" + "".join(f"{it},operate\n" for it in names))
+    room.write("/etc/desk/people.toml", '[duties.operate]\ncsv = "/etc/desk/people.csv"\n')
+    (block,) = re.findall(r"^```sh\n(.*?)^```$", desk.read("docs", "PEOPLE.md"), re.M | re.S)
+    today = time.strftime("%Y%m%d", time.gmtime())
+    done = room.run('yes | bash -c "$BLOCK"', BLOCK=block)
+    shown = f'+fred = [{{ duty = "operate", from = "{today}", until = "20991231" }}]' in done.stdout
+    room.holds("a diff, and the grants", shown and "No grant changes" in done.stdout, done)
+    served = room.read("/etc/desk/roster.toml")
+    left = f'lena = [{{ duty = "operate", from = "20260101", until = "{today}" }}]\n' in served
+    room.holds("who left, and who joined", left and "\nfred = " in served, served)
+    room.holds("the rest", "# development: half a day of everything\n" in served, served)
+    digest = room.run("sha256sum < /etc/desk/roster.toml").stdout.split()[0]
+    room.holds("the desk has it", room.text("/v1/count").split()[1] == digest, done)
+
+
+def inside(is_built: bool) -> None:
+    subprocess.run(["ip", "link", "set", "lo", "up"], check=True)
+    with tempfile.TemporaryDirectory() as folder:
+        room = Room(furnish(folder, ""))
+        try:
+            prepare(room, is_built)
+            page = Page(room)
+            for part in (install, host, asked, audited):
+                began = time.monotonic()
+                part(page, room)
+                print(f"{part.__name__}: {time.monotonic() - began:.1f} s", flush=True)
+            from_a_table(room)
+            for part in check_team_rest.PARTS:
+                began = time.monotonic()
+                part(room)
+                print(f"{part.__name__}: {time.monotonic() - began:.1f} s", flush=True)
+            room.run("systemctl stop desk; systemctl stop nginx; kill $(cat /run/relay-*.pid)")
+        finally:
+            subprocess.run(["umount", "--lazy", folder], check=True)
+    over = "the packages" if is_built else "what they have"
+    pages = f"docs/TEAM.md, PEOPLE.md and RELAYS.md over {over}"
+    print(f"{pages}: {room.tried} checks, {room.wrong} wrong")
+    sys.exit(1 if room.wrong else 0)
+
+
+def main() -> None:
+    if os.geteuid() != 0:
+        sys.exit("check_team.py needs root: it follows the page in a root of its own")
+    installs = ["bash", os.path.join(desk.ROOT, "relays", "install.sh"), *NEEDED.split()]
+    installs += check_team_rest.NEEDED.split()
+    subprocess.run(installs, check=True)
+    sys.exit(check_runbooks.in_a_root(*sys.argv[1:]))
+
+
+if __name__ == "__main__":
+    if sys.argv[1:2] == ["--inside"]:
+        inside(sys.argv[2:] == ["--packages"])
+    main()

@@ -1,0 +1,1 @@
+"""desk-host and the real sudo of each Debian: `make hosts`."""

@@ -1,0 +1,1 @@
+"""Debian's packages in a root of their own: `make package-test`."""

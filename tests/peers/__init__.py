@@ -1,0 +1,1 @@
+"""The desk beside sudo, HTTP clients, sockets, stores, fronts and monitoring."""

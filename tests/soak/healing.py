@@ -1,0 +1,240 @@
+#!/usr/bin/env python3
+"""A served desk whose storage fails and comes back: nobody restarts it, and it goes on.
+
+The package's `desk-serve` runs the desk. While peers post and ask, a call on the store's file fails
+(a write, a read, a sync), once or for a while; another program locks the file while the desk is
+opened again; the file is gone. Each time the desk answers posts and questions again at most 5 s
+after the fault's end, and what it acknowledged is there. A store that is gone is never begun anew.
+`python3 -m tests.soak.healing WORDS..` runs another program than build/desk; `--only PART..` before
+them tries some of the parts, and `--whole` more places.
+"""
+
+from __future__ import annotations
+
+import contextlib
+import os
+import signal
+import sqlite3
+import subprocess
+import sys
+import tempfile
+import threading
+import time
+from collections.abc import Callable, Iterator
+
+from tests.common import desk, store_files
+from tests.common.tally import PATIENCE, Count, program, try_parts
+from tests.soak.failing import CALL, CALLS, Plan
+
+SERVE = os.path.join(desk.ROOT, "packaging", "desk-serve")
+LISTED = desk.asked(b"GET", b"/v1/messages")
+ACK = b"\r\n\r\nack\n"
+MOST = 5.0 * PATIENCE / 20  # seconds after a fault's end
+LASTS = 1.5  # seconds of a fault
+
+
+class Service:
+    """`desk-serve` over a store and a desk whose calls on files fail as planned."""
+
+    def __init__(self, words: list[str], folder: str) -> None:
+        self.plan = Plan(folder)
+        self.store = os.path.join(folder, "desk.db")
+        self.address = f"unix:{folder}/desk.sock"
+        shim = self.plan.environment
+        held = "".join(f"export {name}='{shim[name]}'\n" for name in ("LD_PRELOAD", "FAIL_IO"))
+        text = f"#!/bin/sh\n{held}exec {' '.join(words)} \"$@\"\n"
+        name = desk.write(folder, "failing-desk", text)
+        os.chmod(name, 0o755)
+        held_by = {"DESK": name, "ROSTER": desk.ROSTER, "BASE": desk.BASE}
+        self.log = open(os.path.join(folder, "log"), "w+", encoding="utf-8")
+        self.process = subprocess.Popen(
+            [SERVE],
+            env={**os.environ, **held_by, "STORE": self.store, "ADDR": self.address},
+            stdout=self.log,
+            stderr=subprocess.STDOUT,
+        )
+
+    def ask(self, given: bytes) -> bytes:
+        """The reply; nothing where nobody answers."""
+        with contextlib.suppress(OSError), desk.connected(self.address, PATIENCE) as peer:
+            peer.sendall(given)
+            return desk.received(peer)
+        return b""
+
+    def post(self, body: str) -> bool:
+        return self.ask(desk.posted(b"chat", body.encode())).endswith(ACK)
+
+    def said(self) -> str:
+        self.log.flush()
+        with open(self.log.name, encoding="utf-8") as file:
+            return file.read()
+
+    def last(self) -> str:
+        """The end of what it said."""
+        return self.said()[-400:]
+
+    def end(self) -> int:
+        self.process.send_signal(signal.SIGTERM)
+        return self.process.wait(PATIENCE)
+
+    def close(self) -> None:
+        if self.process.poll() is None:
+            self.end()
+        self.log.close()
+
+
+@contextlib.contextmanager
+def serving(words: list[str]) -> Iterator[Service]:
+    with tempfile.TemporaryDirectory(dir=desk.MEMORY) as folder:
+        service = Service(words, folder)
+        try:
+            yield service
+        finally:
+            service.close()
+
+
+def comes(holds: Callable[[], bool], seconds: float) -> float | None:
+    """How long it took until this held; None where it did not in time."""
+    begun = time.monotonic()
+    while (gone := time.monotonic() - begun) <= seconds:
+        if holds():
+            return gone
+        time.sleep(0.02)
+    return None
+
+
+class Load:
+    """Peers that post and ask all the time; `acked` is what was acknowledged to them."""
+
+    def __init__(self, service: Service) -> None:
+        self.service, self.acked = service, list[str]()
+        self._ended = threading.Event()
+        self._threads = [threading.Thread(target=self._post), threading.Thread(target=self._ask)]
+
+    def __enter__(self) -> Load:
+        for each in self._threads:
+            each.start()
+        return self
+
+    def __exit__(self, *_: object) -> None:
+        self._ended.set()
+        for each in self._threads:
+            each.join()
+
+    def _post(self) -> None:
+        number = 100
+        while not self._ended.is_set():
+            body = desk.request(number)
+            if self.service.post(body):
+                self.acked.append(body)
+                number += 1
+            else:
+                time.sleep(0.05)
+
+    def _ask(self) -> None:
+        while not self._ended.is_set():
+            self.service.ask(desk.asked(b"GET", b"/v1/parked"))
+            time.sleep(0.02)
+
+
+def heals(count: Count, title: str, service: Service, acked: list[str], number: int) -> None:
+    """It answers again in time, without a person, and what was acknowledged is there."""
+    body = desk.approval(number)
+    took = comes(lambda: service.post(body), MOST)
+    count.holds(f"{title}: posts are taken again in {MOST:.0f} s", took is not None, service.last())
+    listed = service.ask(LISTED)
+    found = {*listed.partition(b"\r\n\r\n")[2].decode().splitlines()}
+    is_whole = listed.startswith(b"HTTP/1.1 200 OK\r\n") and {*acked, body} <= found
+    count.holds(f"{title}: what was acknowledged", is_whole, listed[:80])
+
+
+def begin(count: Count, service: Service) -> str:
+    """The message that it holds, once it serves."""
+    body = desk.request(7)
+    took = comes(lambda: service.post(body), PATIENCE)
+    count.holds("it serves", took is not None, service.last())
+    return body
+
+
+def fail_calls(count: Count, words: list[str], step: int) -> None:
+    """A call on the file fails under load, once, or all calls do for a while."""
+    restarts = 0
+    with serving(words) as service:
+        acked = [begin(count, service)]
+        for number, place in enumerate(range(1, 25, step), 1):
+            for what in (CALL, CALLS):
+                with Load(service) as load:
+                    time.sleep(0.1)
+                    service.plan.set(what, place)
+                    comes(lambda: service.plan.failures() > 0, PATIENCE)
+                    time.sleep(LASTS if what == CALLS else 0)
+                    service.plan.clear()
+                    title = f"call {place} fails, {'once' if what == CALL else 'and all after it'}"
+                    heals(count, title, service, [*acked, *load.acked], 8 + 2 * number + what)
+                acked += load.acked
+        restarts = service.said().count("it is opened again in ")
+        count.same("the service ends", service.end(), 0)
+        held = store_files.read(service.store)[1]
+        count.holds("the file has what was acknowledged", {*acked} <= {*held}, len(held))
+    count.holds("it was opened again", restarts > 0, restarts)
+    print(f"{len(acked)} messages were acknowledged; it was opened again {restarts} times")
+
+
+def shut(count: Count, service: Service) -> None:
+    """All calls on files fail from one on that shuts the store; it cannot be opened again."""
+    for place in range(1, 25):
+        service.plan.set(CALLS, place)
+        service.post(desk.approval(100 + place))
+        if comes(lambda: "it is opened again in " in service.said(), LASTS) is not None:
+            return
+        service.plan.clear()
+    count.holds("the desk ends", False, service.last())
+
+
+def lock(count: Count, words: list[str], _: int) -> None:
+    """Another program locks the file while the desk is to be opened again."""
+    with serving(words) as service:
+        acked = [begin(count, service)]
+        shut(count, service)
+        other = sqlite3.connect(service.store, isolation_level=None)
+        other.execute("BEGIN EXCLUSIVE")
+        service.plan.clear()
+        refused = comes(lambda: "F1 FileFailed: " in service.said(), PATIENCE)
+        count.holds("it cannot be opened", refused is not None, service.last())
+        other.execute("ROLLBACK")
+        other.close()
+        heals(count, "the lock is gone", service, acked, 8)
+
+
+def gone(count: Count, words: list[str], _: int) -> None:
+    """The file is gone while the desk is to be opened again: no other is begun in its place."""
+    with serving(words) as service:
+        begin(count, service)
+        shut(count, service)
+        for end in ("", "-wal", "-shm"):
+            with contextlib.suppress(FileNotFoundError):
+                os.unlink(service.store + end)
+        service.plan.clear()
+        count.same("it ends, for a person to look", service.process.wait(PATIENCE), 2)
+        count.same("a new store", os.path.exists(service.store), False)
+        count.holds("it says so", f"{service.store} is gone" in service.said(), service.last())
+
+
+PARTS = (fail_calls, lock, gone)
+
+
+def main() -> int:
+    words = sys.argv[1:]
+    is_whole = "--whole" in words[:1]
+    parts, words = try_parts(PARTS, words[is_whole:])
+    count = Count()
+    for part in parts:
+        begun = time.monotonic()
+        part(count, program(words) or desk.PROGRAM, 1 if is_whole else 5)
+        print(f"{part.__name__}: {time.monotonic() - begun:.0f} seconds", flush=True)
+    print(f"{count.tried} things were tried of a storage that heals: {count.wrong} went otherwise")
+    return 1 if count.wrong else 0
+
+
+if __name__ == "__main__":
+    sys.exit(main())
