@@ -9,8 +9,14 @@ trap 'rm -f "$there"' EXIT
 mapfile -t wanted < <(printf '%s\n' "$@" | sort | comm -23 - "$there")
 if [ "${#wanted[@]}" -gt 0 ] && [ "$(id -u)" = 0 ] && command -v apt-get >/dev/null; then
     echo "(installing from Debian: ${wanted[*]})" >&2
-    apt-get -o DPkg::Lock::Timeout=120 update -qq
-    # (a machine that is tested starts no service of these packages: the tests start their own)
-    RUNLEVEL=1 DEBIAN_FRONTEND=noninteractive apt-get -o DPkg::Lock::Timeout=120 install -y -qq \
-        --no-install-recommends "${wanted[@]}" > /dev/null
+    # (a mirror may fail once, and another apt may be at work. A machine that is tested starts no
+    # service of these packages: the tests start their own)
+    patient=(-o DPkg::Lock::Timeout=600 -o Acquire::Retries=3)
+    for try in 1 2 3; do
+        apt-get "${patient[@]}" update -qq &&
+            RUNLEVEL=1 DEBIAN_FRONTEND=noninteractive apt-get "${patient[@]}" install -y -qq \
+                --no-install-recommends "${wanted[@]}" > /dev/null && break
+        [ "$try" -lt 3 ] || exit 1
+        sleep 10
+    done
 fi

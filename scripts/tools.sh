@@ -4,6 +4,7 @@
 # and what the packages, their front and their pages are made and tried with. Where this is not
 # root, or there is no apt-get, nothing is installed.
 set -euo pipefail
+cd "$(dirname "$0")/.."
 export PATH="$PATH:/usr/sbin:/sbin"
 wanted=()
 command -v sudo >/dev/null && command -v visudo >/dev/null || wanted+=(sudo)
@@ -43,6 +44,5 @@ command -v debootstrap >/dev/null || wanted+=(debootstrap)
 command -v systemd-analyze >/dev/null || wanted+=(systemd)
 command -v adduser >/dev/null || wanted+=(adduser)
 if [ "${#wanted[@]}" -gt 0 ] && [ "$(id -u)" = 0 ] && command -v apt-get >/dev/null; then
-    apt-get update -qq
-    DEBIAN_FRONTEND=noninteractive apt-get install -y -qq --no-install-recommends "${wanted[@]}"
+    bash relays/install.sh "${wanted[@]}"
 fi

@@ -16,6 +16,9 @@ from desk_broker.publish import Publisher
 from desk_broker.settings import Broker
 from tests.common.ports import free_port
 
+# a resolver that does not answer takes its time to say so
+PATIENCE = 120
+
 
 @pytest.fixture(params=["nobody", "silent", "no name"])
 def broker(request: pytest.FixtureRequest) -> Iterator[Broker]:
@@ -35,12 +38,12 @@ def test_a_consumer_goes_on_trying_and_ends_when_asked(
     with caplog.at_level(logging.INFO):
         thread = threading.Thread(target=consumer.run)
         thread.start()
-        until = time.monotonic() + 10
+        until = time.monotonic() + PATIENCE
         while caplog.text.count("the broker is away") < 2 and time.monotonic() < until:
             time.sleep(0.02)
         assert thread.is_alive()
         consumer.stop()
-        thread.join(5)
+        thread.join(PATIENCE)
     assert not thread.is_alive()
     assert caplog.text.count("the broker is away") >= 2
     assert "desk a: ended" in caplog.text

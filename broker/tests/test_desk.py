@@ -96,7 +96,7 @@ class Raw:
                 peer.sendall(piece)
                 time.sleep(0.02)
             if self.stays:
-                self.over.wait(10)
+                self.over.wait(120)
 
 
 @pytest.mark.parametrize(
@@ -124,7 +124,7 @@ def test_replies_by_their_bytes(pieces: list[bytes], kind: Kind, said: str) -> N
 
 def test_it_does_not_wait_for_the_end_of_a_whole_reply() -> None:
     peer = Raw(b"HTTP/1.1 200 OK\r\nContent-Length: 4\r\n\r\nack\n", stays=True)
-    assert Desk(peer.address, patience=5).post("web", b"{}").kind is Kind.TAKEN
+    assert Desk(peer.address, patience=60).post("web", b"{}").kind is Kind.TAKEN
     peer.over.set()
 
 

@@ -66,9 +66,12 @@ def answers(flight: Flight, count: int) -> dict[int, Answer | None]:
 
 
 def answered(flight: Flight) -> dict[int, Answer]:
-    """What is answered at once."""
-    flight.go_on(0.01)
-    return {given.tag: answer for given, answer in flight.done()}
+    """What is answered at once. (A machine that stands still takes the whole time of a round.)"""
+    found: dict[int, Answer] = {}
+    for _ in range(3):
+        flight.go_on(0.01)
+        found |= {given.tag: answer for given, answer in flight.done()}
+    return found
 
 
 def test_so_many_are_posted_at_once() -> None:
@@ -167,10 +170,11 @@ def test_one_that_is_never_answered_holds_up_those_behind_it() -> None:
 
 def test_a_reply_that_does_not_come_is_waited_for_so_long() -> None:
     desk = Sockets(lambda number, body: b"" if number == 1 else ACK, patience=0.2)
-    flight = started(desk, 1)
-    assert answered(flight) == {}
+    flight, begun = started(desk, 1), time.monotonic()
+    early = answered(flight)
+    assert early == {} or time.monotonic() - begun >= 0.2
     first = desk.peers[b"1"]
-    assert answers(flight, 1) == {1: TAKEN}
+    assert early | answers(flight, 1 - len(early)) == {1: TAKEN}
     assert desk.posted == [b"1", b"1"]
     assert first.recv(1) == b"", "the first is given up, and its connection closed"
     flight.end()
@@ -229,7 +233,8 @@ class Fails(Sockets):
 def test_one_at_which_it_fails_holds_up_none(
     often: int, monkeypatch: pytest.MonkeyPatch, caplog: pytest.LogCaptureFixture
 ) -> None:
-    monkeypatch.setattr(module, "PAUSE", 0.3)
+    # (longer than a machine stands still: the others are to be answered before)
+    monkeypatch.setattr(module, "PAUSE", 3.0)
     flight = started(Fails(b"3", often), 10)
     with caplog.at_level(logging.ERROR):
         assert answers(flight, 9) == {tag: TAKEN for tag in range(1, 11) if tag != 3}

@@ -30,11 +30,12 @@ listen = "unix:{folder}/page.sock"
 secret = "{folder}/page.secret"
 signing_key = "{folder}/page.key"
 """
+PATIENCE = 120.0  # seconds: the machine may be busy
 SECRET = "0123456789abcdef0123456789abcdef"
 SIGNING_KEY = "fedcba9876543210fedcba9876543210"
 
 
-def wait_for_port(port: int, seconds: float = 120.0) -> None:
+def wait_for_port(port: int, seconds: float = PATIENCE) -> None:
     """Waits until something listens."""
     until = time.monotonic() + seconds
     while time.monotonic() < until:
@@ -95,7 +96,7 @@ class Site:
     def stop_desk(self) -> None:
         if self.desk:
             self.desk.send_signal(signal.SIGTERM)
-            self.desk.wait(timeout=20)
+            self.desk.wait(timeout=PATIENCE)
             assert self.desk.stdout
             self.desk.stdout.close()
             self.desk = None
@@ -114,7 +115,7 @@ class Site:
 
     def start_page(self) -> subprocess.Popen[bytes]:
         """The page, once it listens."""
-        job, until = self.start("page"), time.monotonic() + 60
+        job, until = self.start("page"), time.monotonic() + PATIENCE
         while time.monotonic() < until:
             with socket.socket(socket.AF_UNIX) as peer:
                 if peer.connect_ex(str(self.socket)) == 0:
@@ -132,7 +133,7 @@ class Site:
     def close(self) -> None:
         for job in self.started:
             job.terminate()
-            job.wait(timeout=20)
+            job.wait(timeout=PATIENCE)
         self.stop_desk()
 
     def words(self, person: str) -> list[str]:
@@ -169,6 +170,13 @@ class Site:
         """The outbox's messages and their states."""
         with closing(sqlite3.connect(self.folder / "outbox.db")) as base:
             return list(base.execute("SELECT body, state FROM messages ORDER BY id"))
+
+    def wait_until_said(self, job: str, piece: str) -> None:
+        """Waits for a piece of a job's log, which says what was done once it is done."""
+        until = time.monotonic() + PATIENCE
+        while piece not in (said := (self.folder / f"{job}.log").read_text()):
+            assert time.monotonic() < until, said
+            time.sleep(0.1)
 
     def wait_until_posted(self, seconds: float = 180.0) -> None:
         until = time.monotonic() + seconds

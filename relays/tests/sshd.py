@@ -68,7 +68,7 @@ class Sshd:
 
     def stop(self) -> None:
         self.daemon.terminate()
-        self.daemon.wait(timeout=20)
+        self.daemon.wait(timeout=60)
 
     def client(self, key: str, *options: str) -> list[str]:
         """The words of ssh with somebody's key."""

@@ -132,7 +132,10 @@ def live(page: str) -> str:
 def test_kept_for_nobody_else_and_no_longer(site: Site) -> None:
     site.start_page()
     front = Front(site, ["ann", "bob", "dave", "eve"])
-    begins = now() + timedelta(seconds=12)
+    # (a slow machine takes longer until what is granted is looked at, before it begins)
+    began = time.monotonic()
+    assert site.run("ann", "mine").returncode == 0
+    begins = now() + timedelta(seconds=12 + 10 * int(time.monotonic() - began))
     try:
         assert "ann 1: It needs 1 approval" in ask(front, begins=stamp(begins))
         assert site.run("bob", "approve ann 1 --yes").returncode == 0

@@ -26,6 +26,7 @@ from relays.tests.front import Front
 from relays.tests.site import BASE, DESK, Site
 from relays.tests.test_page import ASKED, token
 from relays.tests.test_tls import READER, fronted
+from scripts.stalls import Machine, Mark
 
 SECONDS = float(os.environ.get("CROWD", "0"))
 IS_WHOLE = SECONDS > 0
@@ -73,18 +74,24 @@ def opened(site: Site, count: int, at: datetime) -> list[str]:
 class Seen:
     """What the people of a crowd saw."""
 
+    machine: Machine
     took: list[tuple[float, str]] = field(default_factory=list)
     wrong: list[str] = field(default_factory=list)
     sent: int = 0
 
     def timed(self, name: str, ask: Callable[[], requests.Response]) -> str:
-        began = time.monotonic()
+        began = self.machine.mark()
         reply = ask()
-        self.took.append((time.monotonic() - began, name))
+        self.took.append((self.seconds(began), name))
         is_told = "does not answer" not in reply.text and "answers 429" not in reply.text
         if reply.status_code != 200 or not is_told:
             self.wrong.append(f"{name}: {reply.status_code} {reply.text[:2000]}")
         return str(reply.text)
+
+    def seconds(self, began: Mark) -> float:
+        """How long an answer took; in the gate's short form, without the time for which the people
+        themselves stood still."""
+        return time.monotonic() - began.at if IS_WHOLE else self.machine.since(began)
 
 
 def one(front: Front, person: str, seen: Seen, ended: threading.Event, seed: int) -> None:
@@ -123,17 +130,18 @@ def caller(site: Site, seen: Seen, ended: threading.Event, seed: int) -> None:
         person, line = chance.choice(
             [(askers[0], "mine"), (approvers[0], "waiting"), (askers[0], "live")]
         )
-        began = time.monotonic()
+        began = seen.machine.mark()
         ran = site.run(person, line)
-        seen.took.append((time.monotonic() - began, line))
+        seen.took.append((seen.seconds(began), line))
         if ran.returncode != 0:
             seen.wrong.append(f"{line}: {ran}")
         ended.wait(chance.uniform(*PAUSE))
 
 
-def at_once(site: Site, front: Front, seconds: float) -> Seen:
+def at_once(site: Site, front: Front, seconds: float, machine: Machine) -> Seen:
     """All of them, for a while."""
-    seen, ended, everybody = Seen(), threading.Event(), [it for part in names() for it in part]
+    seen, ended = Seen(machine), threading.Event()
+    everybody = [it for part in names() for it in part]
     people: list[threading.Thread] = []
     for number, person in enumerate(everybody):
         given = (front, person, seen, ended, number)
@@ -184,7 +192,8 @@ def test_a_crowd(quiet_site: Site) -> None:
         everybody = [it for part in names() for it in part]
         front = Front(site, everybody, certified=everybody[:1])
         try:
-            seen = at_once(site, front, seconds)
+            with Machine() as machine:
+                seen = at_once(site, front, seconds, machine)
             busy, slow = processor(page.pid), slowness(page.pid)
             site.wait_until_posted()
         finally:

@@ -36,23 +36,30 @@ def down(tmp_path_factory: pytest.TempPathFactory) -> Iterator[tuple[Site, float
     site.close()
 
 
-def killed(site: Site, person: str, chance: random.Random, whole: float) -> str:
-    """What a call printed before it was killed: anywhere, or shortly after it kept the message."""
+def killed(
+    site: Site, person: str, chance: random.Random, whole: float, is_held: bool
+) -> str:
+    """What a call printed before it was killed: anywhere, or shortly after it kept the message; and
+    where the desk is held meanwhile, before that answered."""
     environment = os.environ | {"SSH_ORIGINAL_COMMAND": LINE}
+    assert site.desk
+    if is_held:
+        site.desk.send_signal(signal.SIGSTOP)
     call = subprocess.Popen(
         site.words(person), stdout=subprocess.PIPE, stdin=subprocess.DEVNULL, env=environment
     )
     assert call.stdout
     said = b""
-    if chance.random() < 0.5:
+    if not is_held and chance.random() < 0.5:
         time.sleep(chance.uniform(0, whole))
     else:
         while not said.endswith(b".\n") and (line := call.stdout.readline()):
             said += line
         time.sleep(chance.uniform(0, 0.03))
     call.send_signal(signal.SIGKILL)
+    site.desk.send_signal(signal.SIGCONT)
     said += call.stdout.read()
-    call.wait(timeout=20)
+    call.wait(timeout=60)
     call.stdout.close()
     return said.decode("utf-8")
 
@@ -68,14 +75,14 @@ def test_killed_between_a_word_and_the_ack(site: Site) -> None:
     whole, confirmed, after, poster = whole_time(site), [], 0, site.start("post", "--every", "0.2")
     for number in range(ROUNDS):
         person = chance.choice(["ann", "carol"])
-        said = killed(site, person, chance, whole)
+        said = killed(site, person, chance, whole, number % 10 == 0)
         found = re.search(r"Kept as ([a-z]+) ([0-9]+)\.", said)
         if found:
             confirmed.append((found[1], int(found[2])))
             after += "To approve it" not in said
         if number % 10 == 5:
             poster.kill()
-            poster.wait(timeout=20)
+            poster.wait(timeout=60)
             poster = site.start("post", "--every", "0.2")
     site.wait_until_posted()
     site.stop_desk()
@@ -104,7 +111,7 @@ def test_the_page_is_killed(site: Site) -> None:
             )
             sent += first.status_code == 303
             timer.join()
-            page.wait(timeout=20)
+            page.wait(timeout=60)
             page = site.start_page()
             again = requests.post(
                 f"{front.url('ann')}/send", data, timeout=60, allow_redirects=False
@@ -133,7 +140,8 @@ def test_the_desk_is_down_for_a_minute(down: tuple[Site, float, str]) -> None:
     site.start_desk()
     site.wait_until_posted()
     assert "nobody approved it yet" in site.run("ann", "mine").stdout
+    site.wait_until_said("post", "ann asks, ann 1: ack")
     log = (Path(site.folder) / "post.log").read_text()
-    assert log.count("cannot be reached") == 1 and "ann asks, ann 1: ack" in log
+    assert log.count("cannot be reached") == 1
     site.stop_desk()
     assert site.stored() == [body for body, _ in site.kept()]

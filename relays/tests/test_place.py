@@ -13,6 +13,7 @@ from itsdangerous import BadSignature, URLSafeTimedSerializer
 from relays.config import BadConfig, read_config
 from relays.page import check_place
 from relays.tests.site import RELAY, ROOT, SECRET, SIGNING_KEY, Site
+from scripts.ports import free_port
 
 
 def changed(site: Site, old: str, new: str) -> str:
@@ -73,17 +74,12 @@ def test_a_port_that_somebody_has(quiet_site: Site) -> None:
 
 
 def test_an_address_is_warned_of(quiet_site: Site) -> None:
-    with socket.create_server(("127.0.0.1", 0)) as other:
-        port = other.getsockname()[1]
     text = quiet_site.config.read_text()
-    quiet_site.config.write_text(text.replace(f"unix:{quiet_site.socket}", f"127.0.0.1:{port}"))
-    page = quiet_site.start("page")
-    for _ in range(200):
-        if "the page is at" in (log := (quiet_site.folder / "page.log").read_text()):
-            break
-        with pytest.raises(subprocess.TimeoutExpired):
-            page.wait(0.1)
-    assert "EVERY ACCOUNT OF THIS MACHINE REACHES THE PAGE" in log
+    place = f"127.0.0.1:{free_port()}"
+    quiet_site.config.write_text(text.replace(f"unix:{quiet_site.socket}", place))
+    quiet_site.start("page")
+    quiet_site.wait_until_said("page", "the page is at")
+    quiet_site.wait_until_said("page", "EVERY ACCOUNT OF THIS MACHINE REACHES THE PAGE")
 
 
 def test_settings_with_one_key(quiet_site: Site) -> None:

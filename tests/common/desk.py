@@ -179,7 +179,7 @@ class Server:
         self.process.send_signal(how)
         return self.wait()
 
-    def wait(self, seconds: float = 20) -> int:
+    def wait(self, seconds: float = 60) -> int:
         """The status with which it ends by itself."""
         return self.process.wait(seconds)
 
@@ -203,7 +203,7 @@ class Server:
         return peer
 
 
-def connected(address: str, seconds: float = 20) -> socket.socket:
+def connected(address: str, seconds: float = 60) -> socket.socket:
     """A connection to a desk at its address, as `127.0.0.1:8080` or `unix:/PATH`."""
     path = address.removeprefix("unix:")
     if path == address:
@@ -225,7 +225,7 @@ def place(address: str) -> tuple[str, int]:
 
 def exchange(port: int, given: bytes, closes: bool = False) -> bytes:
     """The whole reply to these bytes, over a connection of their own, behind which it may close."""
-    with socket.create_connection(("127.0.0.1", port), timeout=20) as peer:
+    with socket.create_connection(("127.0.0.1", port), timeout=60) as peer:
         peer.sendall(given)
         if closes:
             peer.shutdown(socket.SHUT_WR)

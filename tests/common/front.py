@@ -11,7 +11,7 @@ import subprocess
 import sys
 import threading
 import time
-from collections.abc import Iterator
+from collections.abc import Callable, Iterator
 
 from tests.common import desk
 
@@ -136,18 +136,21 @@ def front(words: list[str], port: int) -> Iterator[None]:
         words, stdout=subprocess.DEVNULL, stderr=subprocess.PIPE, text=True
     ) as server:
         try:
-            for _ in range(100):
+            until = time.monotonic() + 60
+            while True:
                 with contextlib.suppress(OSError), socket.create_connection(
                     ("127.0.0.1", port), timeout=1
                 ):
                     break
                 if server.poll() is not None and server.stderr is not None:
                     sys.exit(f"the front does not start: {server.stderr.read()}")
+                if time.monotonic() > until:
+                    sys.exit("the front does not listen")
                 time.sleep(0.05)
             yield
         finally:
             server.terminate()
-            server.wait(timeout=20)
+            server.wait(timeout=60)
 
 
 def context(folder: str, name: str | None) -> ssl.SSLContext:
@@ -160,17 +163,23 @@ def context(folder: str, name: str | None) -> ssl.SSLContext:
 
 
 def exchange(
-    client: ssl.SSLContext, port: int, given: bytes, pause: float = 0, patience: float = 20
+    client: ssl.SSLContext,
+    port: int,
+    given: bytes,
+    pause: Callable[[], float] | None = None,
+    patience: float = 20,
+    before: Callable[[], object] = lambda: None,
 ) -> bytes:
-    """The bytes that come back for these bytes, which are sent at once or, with a pause, one after
-    the other."""
+    """The bytes that come back for these bytes, which are sent at once or, with pauses, one after
+    the other; `before` is called when the connection is made."""
     whole = b""
     with contextlib.suppress(ConnectionError, ssl.SSLError, TimeoutError):
         with socket.create_connection(("127.0.0.1", port), timeout=patience) as plain:
             with client.wrap_socket(plain, server_hostname="127.0.0.1") as peer:
+                before()
                 for piece in [given[at : at + 1] for at in range(len(given))] if pause else [given]:
                     peer.sendall(piece)
-                    time.sleep(pause)
+                    time.sleep(pause() if pause else 0)
                 while piece := peer.recv(65536):
                     whole += piece
                     # (a front that keeps the connection says no more once each request is answered)

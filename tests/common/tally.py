@@ -11,7 +11,7 @@ from collections.abc import Callable, Sequence
 from tests.common import desk
 
 # the seconds after which a run hangs; a machine that is busy with other things takes more
-PATIENCE = float(os.environ.get("PATIENCE", "20"))
+PATIENCE = float(os.environ.get("PATIENCE", "60"))
 MOST_SHOWN = 20
 
 

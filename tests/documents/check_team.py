@@ -213,12 +213,15 @@ def from_a_table(room: Room) -> None:
     room.write("/etc/desk/people.csv", "person,duty\n" + "".join(f"{it},operate\n" for it in names))
     room.write("/etc/desk/people.toml", '[duties.operate]\ncsv = "/etc/desk/people.csv"\n')
     (block,) = re.findall(r"^```sh\n(.*?)^```$", desk.read("docs", "PEOPLE.md"), re.M | re.S)
-    today = time.strftime("%Y%m%d", time.gmtime())
+    days = {check_team_rest.today()}
     done = room.run('yes | bash -c "$BLOCK"', BLOCK=block)
-    shown = f'+fred = [{{ duty = "operate", from = "{today}", until = "20991231" }}]' in done.stdout
+    days.add(check_team_rest.today())
+    joined = [f'+fred = [{{ duty = "operate", from = "{it}", until = "20991231" }}]' for it in days]
+    shown = any(it in done.stdout for it in joined)
     room.holds("a diff, and the grants", shown and "No grant changes" in done.stdout, done)
     served = room.read("/etc/desk/roster.toml")
-    left = f'lena = [{{ duty = "operate", from = "20260101", until = "{today}" }}]\n' in served
+    ended = [f'lena = [{{ duty = "operate", from = "20260101", until = "{it}" }}]\n' for it in days]
+    left = any(it in served for it in ended)
     room.holds("who left, and who joined", left and "\nfred = " in served, served)
     room.holds("the rest", "# development: half a day of everything\n" in served, served)
     digest = room.run("sha256sum < /etc/desk/roster.toml").stdout.split()[0]

@@ -51,13 +51,16 @@ def made_root(name: str) -> str | None:
     if os.path.exists(os.path.join(folder, ".whole")):
         return folder
     began = time.monotonic()
-    shutil.rmtree(folder, ignore_errors=True)
     os.makedirs(CACHE, exist_ok=True)
     packages = PACKAGES + (",sudo-rs" if name in ("13", "sid") else "")
     words = ["debootstrap", "--variant=minbase", f"--include={packages}"]
     words += [f"--arch={architecture}"] if architecture else []
     words += [suite, folder, MIRROR]
-    ran = subprocess.run(words, stdout=subprocess.PIPE, stderr=subprocess.STDOUT, text=True)
+    for _ in range(3):  # (a mirror may fail once)
+        shutil.rmtree(folder, ignore_errors=True)
+        ran = subprocess.run(words, stdout=subprocess.PIPE, stderr=subprocess.STDOUT, text=True)
+        if not ran.returncode:
+            break
     if ran.returncode:
         print(f"debootstrap {suite}: {ran.stdout.strip()[-600:]}")
         return None

@@ -64,6 +64,17 @@ class Terminal:
         self.child.expect(["READY> ", pexpect.TIMEOUT], timeout=seconds)
         return self.child.before or ""
 
+    def answers(self) -> str:
+        """Gives its password, again where nobody hears it: a sudo that goes on drops what was typed
+        before it reads. What is said then."""
+        said = ""
+        for _ in range(9):
+            self.send(self.user)
+            said += self.said(20)
+            if self.child.after == "READY> ":
+                break
+        return said
+
 
 def line(user: str, seconds: float, command: str = "/usr/local/sbin/granted") -> str:
     """A line with a window from an hour ago to so many seconds from now."""
@@ -121,8 +132,7 @@ def old_prompts(host: Host) -> None:
                     terminal.send("fg")
                     terminal.child.expect("granted|password")
                     time.sleep(0.3)
-                terminal.send(terminal.user)
-                said = terminal.said()
+                said = terminal.answers()
             is_told = "sudo was started too long ago" in said
             what = f"a prompt that waited, {how}, for a grant that ended {ends}"
             host.check(what, RAN not in said and is_told, said)

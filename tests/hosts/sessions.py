@@ -133,7 +133,7 @@ def all_end(
         host.check(f"{what} is ended", there(host, mark or "7122", False), said)
         if mark == "7111":  # (the terminal that sudo made for it is gone with its sudo)
             continue
-        is_warned = terminal.child.expect([f"it is ended in {GRACE} seconds", TIMEOUT], 5) == 0
+        is_warned = terminal.child.expect([f"it is ended in {GRACE} seconds", TIMEOUT], 60) == 0
         host.check(f"{what} is warned", is_warned, str(terminal.child.before))
     again = ended(host)
     host.check("nothing is left", not again, again)
@@ -206,10 +206,11 @@ def settings(host: Host) -> None:
             host.conf("http://127.0.0.1:1", SESSIONS=setting, GRACE="0")
             said = host.does(f"SESSIONS={setting}", "desk-host", "end-sessions", says=says)
             host.check(f"SESSIONS={setting} ends nothing", there(host, "7301"), said)
-        host.conf("http://127.0.0.1:1", GRACE="4")
+        host.conf("http://127.0.0.1:1", GRACE="6")
         with host.running("desk-host", "end-sessions"):
-            time.sleep(2)
+            is_warned = terminal.child.expect(["it is ended in 6 seconds", TIMEOUT], 60) == 0
             host.put("desk", line("ann", 3600, "ALL"))
+            host.check("it is warned before its right comes back", is_warned)
         host.check("a right that comes back", there(host, "7301"))
         terminal.send("\x03")
     host.drop("password")
@@ -230,7 +231,7 @@ def second(host: Host) -> None:
         host.conf("http://127.0.0.1:1", GRACE="60")
         host.put("desk", rights["bob"])
         with host.running("desk-host", "end-sessions"):
-            is_warned = first.child.expect(["it is ended in 60 seconds", TIMEOUT], 30) == 0
+            is_warned = first.child.expect(["it is ended in 60 seconds", TIMEOUT], 60) == 0
             host.check("the first is warned", is_warned)
             host.drop("desk")
             is_warned = later.child.expect(["it is ended in 60 seconds", TIMEOUT], 30) == 0

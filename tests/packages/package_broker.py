@@ -26,7 +26,7 @@ STORE, SOCKET = "/var/lib/desk/desk.db", "unix:/run/desk/desk.sock"
 EXAMPLES = "/usr/share/doc/steelnewt/examples"
 TRACES = "/var/lib/consume-traces"
 COLUMNS = ("name", "messages", "consumers", "online", "--formatter", "json")
-PATIENCE = 60
+PATIENCE = 180  # seconds: the machine may be busy
 
 
 def installed(trial: "Trial") -> None:

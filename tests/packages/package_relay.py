@@ -21,7 +21,7 @@ NOTIFY = """
 [notify]
 program = ["/usr/bin/tee", "-a", "/var/lib/desk-relay/told"]
 """
-PATIENCE = 60
+PATIENCE = 180  # seconds: the machine may be busy
 
 
 def modes(trial: "Trial", *names: str) -> str:

@@ -15,6 +15,7 @@ import os
 import re
 import shutil
 import signal
+import socket
 import subprocess
 import sys
 import tempfile
@@ -587,6 +588,11 @@ def while_it_is_down(trial: Trial) -> None:
     taken_over(trial, "killed")
 
 
+def listens(port: int) -> bool:
+    with socket.socket() as peer:
+        return peer.connect_ex(("127.0.0.1", port)) == 0
+
+
 def through_haproxy(trial: Trial) -> None:
     """The other front, as its own account, with the desk's group: a host fetches."""
     trial.run("nginx", "-s", "stop")
@@ -597,7 +603,9 @@ def through_haproxy(trial: Trial) -> None:
     said = by_curl(trial, "host-db1", "/v1/hosts/db1/sudoers")
     trial.check("a host fetches through haproxy", said.endswith("\n 200"), said)
     os.kill(int(trial.read("/run/haproxy.pid")), signal.SIGTERM)
-    time.sleep(0.5)
+    until = time.monotonic() + PATIENCE
+    while listens(443) and time.monotonic() < until:
+        time.sleep(0.1)
     trial.does("nginx again", "nginx")
 
 

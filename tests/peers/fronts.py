@@ -10,6 +10,8 @@ log says, and the store has to hold what the log says was acknowledged, and noth
 
 import collections
 import concurrent.futures
+import contextlib
+import itertools
 import os
 import re
 import shutil
@@ -254,14 +256,16 @@ def fetch_all(folder: str, port: int) -> list[str]:
 
 def stand_beside(folder: str, port: int) -> tuple[int, int]:
     """A client that sends a byte at a time, and 200 fetches beside it: these are done long before
-    that."""
+    that. (Its head comes in time; it sends the rest slowly until they are done.)"""
     slow: list[tuple[float, bytes]] = []
     given = request("POST", "/v1/relays/slow/messages", message(4))
+    sent, are_done = itertools.count(1), threading.Event()
+
+    def pause() -> float:
+        return 0.05 if next(sent) < given.index(b"\r\n\r\n") + 4 or are_done.is_set() else 0.3
 
     def dawdle() -> None:
-        reply = front.exchange(
-            front.context(folder, "relay-slow"), port, given, pause=0.05, patience=60
-        )
+        reply = front.exchange(front.context(folder, "relay-slow"), port, given, pause, 60)
         slow.append((time.monotonic(), reply))
 
     dawdler = threading.Thread(target=dawdle)
@@ -269,6 +273,7 @@ def stand_beside(folder: str, port: int) -> tuple[int, int]:
     time.sleep(0.5)
     replies = fetch_all(folder, port)
     done = time.monotonic()
+    are_done.set()
     dawdler.join()
     # (the roster has neither these hosts nor this relay, so the desk's answers are its own 404 and
     # 403)
@@ -290,16 +295,24 @@ def slow_body(folder: str, port: int) -> tuple[int, int]:
     once; the message is taken when the rest has come."""
     given, asked = request("POST", "/v1/relays/chat/messages", message(1)), ROUTES[2]
     client = front.context(folder, "relay-chat")
-    with socket.create_connection(("127.0.0.1", port), timeout=20) as plain:
-        with client.wrap_socket(plain, server_hostname="127.0.0.1") as peer:
-            peer.sendall(given[:-9])
-            time.sleep(0.5)
-            begun = time.monotonic()
-            host = front.context(folder, "host-db1")
-            other = status(front.exchange(host, port, request(asked[0], asked[1]), patience=8))
-            took = time.monotonic() - begun
-            peer.sendall(given[-9:])
-            reply = peer.recv(65536)
+    for _ in range(5):
+        with socket.create_connection(("127.0.0.1", port), timeout=60) as plain:
+            with client.wrap_socket(plain, server_hostname="127.0.0.1") as peer:
+                stopped = time.monotonic()
+                peer.sendall(given[:-9])
+                time.sleep(0.5)
+                begun = time.monotonic()
+                host = front.context(folder, "host-db1")
+                other = status(front.exchange(host, port, request(asked[0], asked[1]), patience=8))
+                took = time.monotonic() - begun
+                late, reply = time.monotonic() - stopped, b""
+                with contextlib.suppress(OSError):
+                    peer.sendall(given[-9:])
+                    reply = peer.recv(65536)
+        # (where this machine is slow, the front's two seconds with a body that stops are over)
+        if late < 1.5:
+            break
+        print(f"a body that stops: {late:.1f} s went by; again")
     if (other, status(reply)) != ("200", "200") or took > BESIDE:
         print(f"beside a body that stops: {other} after {took:.1f} s; then {reply!r}")
         return 2, 1
@@ -311,12 +324,20 @@ def crowd(folder: str, port: int) -> tuple[int, int]:
     client = front.context(folder, "host-db9")
     replies: list[str] = []
     given = request("GET", "/v1/hosts/db9/sudoers")
-    threads = [
-        threading.Thread(target=lambda: replies.append(status(front.exchange(client, port, given))))
-        for _ in range(CROWD)
-    ]
+    # (all are connected before the first asks: on a slow machine they would come too slowly)
+    ready = threading.Barrier(CROWD + 1, timeout=60)
+
+    def wait() -> None:
+        with contextlib.suppress(threading.BrokenBarrierError):
+            ready.wait()
+
+    def ask() -> None:
+        replies.append(status(front.exchange(client, port, given, patience=60, before=wait)))
+
+    threads = [threading.Thread(target=ask) for _ in range(CROWD)]
     for thread in threads:
         thread.start()
+    wait()
     other = status(
         front.exchange(
             front.context(folder, "host-db1"), port, request("GET", "/v1/hosts/db1/sudoers")

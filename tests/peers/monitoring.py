@@ -348,7 +348,7 @@ def fronts(folder: str) -> Iterator[Row]:
 
 
 def wait_until(holds: Callable[[], bool]) -> None:
-    for _ in range(100):
+    for _ in range(1_200):
         if holds():
             return
         time.sleep(0.1)

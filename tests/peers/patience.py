@@ -22,8 +22,10 @@ import sys
 import tempfile
 import threading
 import time
+from typing import Any, Self
 
 from tests.common import desk
+from tests.common.stalls import Machine, Mark
 
 IDLE = 1_000
 # the seconds in which an honest peer is answered, beside any other and beside the idle ones
@@ -67,17 +69,30 @@ class Count:
 
 
 class Server(desk.Server):
-    """A desk that is served, and is asked by an honest peer."""
+    """A desk that is served, and is asked by an honest peer. What a busy machine adds to a time is
+    left out: for how long this process stood still, and the desk waited for a processor."""
+
+    def __init__(self, store: str = "-", **more: Any) -> None:
+        super().__init__(store, **more)
+        self.machine = Machine(self.process.pid)
+
+    def __enter__(self) -> Self:
+        self.machine.__enter__()
+        return super().__enter__()
+
+    def __exit__(self, *given: object) -> None:
+        self.machine.__exit__()
+        super().__exit__(*given)
 
     def reply(self, given: bytes) -> tuple[bytes, float]:
         """The whole reply to a peer that sends and reads at once, and after how many seconds it
         came."""
-        begun, whole = time.monotonic(), b""
+        begun, whole = self.machine.mark(), b""
         with contextlib.suppress(OSError), self.connect() as peer:
             peer.sendall(given)
             while piece := peer.recv(65536):
                 whole += piece
-        return whole, time.monotonic() - begun
+        return whole, self.machine.since(begun)
 
     def is_honest(self, count: Count, what: str, most: float) -> None:
         """An honest peer is answered in so many seconds."""
@@ -89,22 +104,25 @@ class Server(desk.Server):
         )
 
 
-def closed_after(peer: socket.socket, begun: float, most: float) -> float | None:
-    """After how many seconds the peer is let go; None where it is not."""
-    peer.settimeout(most)
+def closed_after(
+    server: Server, peer: socket.socket, begun: Mark, most: float
+) -> tuple[float, float] | None:
+    """After how many seconds the peer is let go, without those that the machine took and with them;
+    None where it is not."""
+    peer.settimeout(2 * most)
     with contextlib.suppress(ConnectionError):
         try:
             while peer.recv(65536):
                 pass
         except TimeoutError:
             return None
-    return time.monotonic() - begun
+    return server.machine.since(begun), time.monotonic() - begun.at
 
 
 def drip(count: Count, words: list[str]) -> None:
     """A byte every nine seconds: it is let go ten seconds after it connected."""
     with Server(program=words) as server, server.connect() as slow:
-        begun, stop = time.monotonic(), threading.Event()
+        begun, stop = server.machine.mark(), threading.Event()
 
         def send() -> None:
             for byte in PARKED:
@@ -117,10 +135,10 @@ def drip(count: Count, words: list[str]) -> None:
         sender.start()
         time.sleep(0.5)
         server.is_honest(count, "one byte every nine seconds", SOON)
-        took = closed_after(slow, begun, TO_ASK + OFF + 10)
+        took = closed_after(server, slow, begun, TO_ASK + OFF + 10)
         count.holds(
             "one byte every nine seconds is let go",
-            took is not None and TO_ASK - OFF < took < TO_ASK + OFF,
+            took is not None and TO_ASK - OFF < took[1] and took[0] < TO_ASK + OFF,
             took,
         )
         stop.set()
@@ -131,17 +149,18 @@ def idle(count: Count, words: list[str]) -> None:
     """A thousand that send nothing: they are let go after ten seconds, and cost nobody a second."""
     with Server(program=words) as server, contextlib.ExitStack() as kept:
         peers = [kept.enter_context(server.connect()) for _ in range(IDLE)]
-        begun = time.monotonic()
+        begun = server.machine.mark()
         for _ in range(3):
             server.is_honest(count, f"{IDLE} idle ones", AT_ONCE)
-        took = closed_after(peers[-1], begun, TO_ASK + OFF + 2)
-        count.holds("the last idle one is let go", took is not None and took < TO_ASK + OFF, took)
+        took = closed_after(server, peers[-1], begun, TO_ASK + OFF + 2)
+        is_right = took is not None and took[0] < TO_ASK + OFF
+        count.holds("the last idle one is let go", is_right, took)
         server.is_honest(count, "idle ones that were let go", AT_ONCE)
 
 
 def idle_with_few_descriptors(count: Count, words: list[str]) -> None:
     """The same where the desk may open few descriptors: messages are kept meanwhile."""
-    with tempfile.TemporaryDirectory() as folder:
+    with tempfile.TemporaryDirectory(dir=desk.MEMORY) as folder:
         before = ["prlimit", "--nofile=40:40"]
         with Server(
             os.path.join(folder, "desk.db"), program=words, before=before
@@ -183,7 +202,7 @@ def slow_reader(count: Count, words: list[str]) -> None:
             )
             with contextlib.ExitStack() as kept:
                 peers = [kept.enter_context(server.connect(room=4096)) for _ in range(4)]
-                begun = time.monotonic()
+                begun = server.machine.mark()
                 for peer in peers:
                     peer.sendall(desk.asked(b"GET", b"/v1/hosts/db1/sudoers"))
                 time.sleep(1)
@@ -194,7 +213,7 @@ def slow_reader(count: Count, words: list[str]) -> None:
                     again == whole and took < SOON,
                     f"{took:.1f} s, {len(again)} bytes",
                 )
-                came = read_slowly(peers[0], begun)
+                came = read_slowly(server, peers[0], begun)
                 count.holds(
                     "a slow reader is let go",
                     came < len(whole),
@@ -202,12 +221,12 @@ def slow_reader(count: Count, words: list[str]) -> None:
                 )
 
 
-def read_slowly(peer: socket.socket, begun: float) -> int:
+def read_slowly(server: Server, peer: socket.socket, begun: Mark) -> int:
     """Reads a little each second until past the time in which a reply has to go out, and then what
     is still there; answers how much came."""
     came = 0
     with contextlib.suppress(ConnectionError):
-        while time.monotonic() - begun < TO_ANSWER + OFF:
+        while server.machine.since(begun) < TO_ANSWER + OFF:
             came += len(peer.recv(256))
             time.sleep(1)
         while piece := peer.recv(65536):
@@ -256,7 +275,10 @@ def unread_error(count: Count, words: list[str]) -> None:
         count.holds("what nobody read is full", len(said) > 60_000, len(said))
         leave_rudely(server)
         server.reply(PARKED)
-        more = server.error.read() or b""
+        more, until = server.error.read() or b"", time.monotonic() + 60
+        while b" lines were dropped" not in more and time.monotonic() < until:
+            time.sleep(0.05)
+            more += server.error.read() or b""
         count.holds(
             "the lines that were dropped are told", b" lines were dropped" in more, more[:300]
         )
@@ -390,10 +412,19 @@ def said_at(words: list[str], store: str, before: list[str], address: str) -> li
     asked = [*before, *words, "serve", desk.ROSTER, desk.BASE, store, address]
     with subprocess.Popen(asked, stdout=subprocess.PIPE, stderr=subprocess.PIPE) as process:
         assert process.stdout is not None and process.stderr is not None
+        hangs = threading.Timer(120, process.kill)
+        hangs.start()
         process.stdout.readline()
+        said = []
+        while line := process.stderr.readline():
+            said.append(line)
+            if line.startswith(b"serving "):
+                break
         time.sleep(0.5)
         process.terminate()
-        return process.stderr.read().decode().splitlines(keepends=True)
+        said += process.stderr.readlines()
+        hangs.cancel()
+        return [it.decode() for it in said]
 
 
 def full_disk(count: Count, words: list[str]) -> None:
@@ -416,7 +447,7 @@ def full_disk(count: Count, words: list[str]) -> None:
             "--requests",
             "1",
         ]
-        done = subprocess.run(given, capture_output=True, timeout=20, check=False)
+        done = subprocess.run(given, capture_output=True, timeout=120, check=False)
         count.holds(
             "a new store on a full disk",
             (done.returncode, done.stdout, done.stderr) == (2, b"", b"K4 Storage\n"),

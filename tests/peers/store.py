@@ -24,6 +24,7 @@ import sqlite3
 import subprocess
 import sys
 import tempfile
+import threading
 import time
 from collections.abc import Iterable, Iterator
 
@@ -77,7 +78,7 @@ def serving(store: str, *words: str) -> desk.Server:
 def replied(
     server: desk.Server, method: str, target: str, body: str | None = None
 ) -> tuple[int, str]:
-    peer = http.client.HTTPConnection("127.0.0.1", server.port, timeout=20)
+    peer = http.client.HTTPConnection("127.0.0.1", server.port, timeout=60)
     peer.request(method, target, body)
     reply = peer.getresponse()
     return reply.status, reply.read().decode()
@@ -357,13 +358,19 @@ def kill_delivering(count: Count, folder: str) -> None:
     chance.shuffle(lines)
     begun = time.monotonic()
     ask("deliver", os.path.join(folder, "whole.db"), "chat", lines)
-    longest = time.monotonic() - begun
+    # (the moments stay about the end of a run, however much else the machine does)
+    longest, lock = [time.monotonic() - begun], threading.Lock()
+
+    def one(number: int) -> tuple[bool, int, list[str]]:
+        with lock:
+            delay = chance.random() * longest[0]
+        found = kill(folder, number, delay, lines)
+        with lock:
+            longest[0] *= 1.05 if found[0] else 0.9
+        return found
+
     with concurrent.futures.ThreadPoolExecutor(os.cpu_count()) as workers:
-        runs = [
-            workers.submit(kill, folder, number, chance.random() * longest, lines)
-            for number in range(KILLS)
-        ]
-        ended = [run.result() for run in runs]
+        ended = list(workers.map(one, range(KILLS)))
     for _, held, faults in ended:
         count.same(f"a run killed with {held} messages", faults, [])
     killed = sum(was_killed for was_killed, _, _ in ended)

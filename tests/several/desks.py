@@ -87,7 +87,7 @@ class Desk:
     def start(self) -> None:
         """Starts it, and again where it ends at once, as a unit with Restart=always does."""
         self.program.start()
-        until = time.monotonic() + 60
+        until = time.monotonic() + 180
         while not self.is_listening():
             if not self.program.is_running():
                 time.sleep(0.3)

@@ -49,7 +49,7 @@ def kill_nodes_at_once(bench: Bench, numbers: list[int], what: str) -> None:
     for number in range(COUNT):
         bench.cluster.wait_for(number)
     # the next kill must not take the majority away
-    wait_until("all nodes have every queue", lambda: is_whole(bench), 120, 1.0)
+    wait_until("all nodes have every queue", lambda: is_whole(bench), 300, 1.0)
     bench.tell(f"{names} is back, and has every queue")
 
 
@@ -160,7 +160,7 @@ def hold_queue(bench: Bench, _: random.Random) -> None:
         bench.tell("the queue of desk c is held")
         time.sleep(bench.plan.held)
         told(bench, "while a queue is held", 1)
-        wait_until("desk-check-queues finds the held queue", lambda: finds_held(bench), 120, 1.0)
+        wait_until("desk-check-queues finds the held queue", lambda: finds_held(bench), 300, 1.0)
         consumer.start()
     bench.tell("the queue of desk c is delivered")
 

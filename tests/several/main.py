@@ -82,7 +82,7 @@ def drain(bench: Bench, wanted: verdict.Wanted) -> None:
     said = bench.fill("a", lacking.encode())
     bench.tell(f"what desk a lacks after it lost its disk comes from the others: {said}")
     verdict.wait_for_queues(bench)
-    wait_for_stores(list(bench.desks.values()), wanted.kept, 20)
+    wait_for_stores(list(bench.desks.values()), wanted.kept, PATIENCE)
     bench.tell("the queues are empty")
 
 

@@ -123,7 +123,7 @@ class Cluster:
     def wait_for(self, number: int) -> float:
         """Waits until the node takes connections."""
         port = self.ports[number]
-        return wait_until(f"b{number + 1} listens", lambda: is_listening(port), 90)
+        return wait_until(f"b{number + 1} listens", lambda: is_listening(port), 300)
 
     def kill(self, number: int) -> None:
         self.nodes[number].end(signal.SIGKILL)

@@ -21,7 +21,7 @@ from tests.several.verdict import Refusal, read_refused
 CONTENT_TYPE, HEADERS, EXPIRATION, USER = 1 << 15, 1 << 13, 1 << 8, 1 << 4
 MORE_FLAGS = 1  # says that another word of flags follows
 DEEP = 3_000
-PATIENCE = 30.0  # seconds
+PATIENCE = 180.0  # seconds: the machine may be busy
 # A consumer that fails at one message, wherever the fault would be.
 FAILING = """
 import sys

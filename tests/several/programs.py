@@ -64,7 +64,7 @@ class Program:
     def is_running(self) -> bool:
         return self._process is not None and self._process.poll() is None
 
-    def end(self, how: signal.Signals, patience: float = 30.0) -> int:
+    def end(self, how: signal.Signals, patience: float = 120.0) -> int:
         """Sends its process the signal, and gives the status that it ended with."""
         if self._process is None:
             return 0

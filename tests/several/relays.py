@@ -42,7 +42,7 @@ class Relay(threading.Thread):
             reader.start()
             try:
                 self._feed(process)
-                reader.join(120)
+                reader.join(300)
             except OSError as error:
                 self.fault = f"relay {self.relay}: {error}"
             finally:
@@ -57,7 +57,7 @@ class Relay(threading.Thread):
             self._give(process, post)
             if self._pace:
                 time.sleep(max(0.0, begun + number / self._pace - time.monotonic()))
-        until = time.monotonic() + 120
+        until = time.monotonic() + 300
         while (self._waiting or self._again) and time.monotonic() < until:
             while self._again:
                 self._give(process, self._again.popleft())

@@ -3,6 +3,7 @@
 # for Debian's own Python. The broker of the system is not started: the test runs brokers of its
 # own. Where this is not root, or there is no apt-get, nothing is installed.
 set -euo pipefail
+cd "$(dirname "$0")/.."
 export PATH="$PATH:/usr/sbin:/sbin"
 wanted=()
 [ -d /usr/lib/rabbitmq ] || wanted+=(rabbitmq-server)
@@ -19,9 +20,7 @@ if [ "${#wanted[@]}" -gt 0 ] && [ "$(id -u)" = 0 ] && command -v apt-get >/dev/n
         chmod 0755 "$policy"
         trap 'rm -f "$policy"' EXIT
     fi
-    apt-get update -qq
-    DEBIAN_FRONTEND=noninteractive apt-get install -y -qq --no-install-recommends \
-        python3 "${wanted[@]}"
+    bash relays/install.sh python3 "${wanted[@]}"
     # nor at the next start of the machine
     if command -v systemctl >/dev/null; then
         systemctl disable --quiet rabbitmq-server 2>/dev/null || true

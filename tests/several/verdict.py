@@ -125,7 +125,7 @@ def wait_for_queues(bench: Bench) -> None:
         queues = bench.cluster.queues()
         return not any(queues[f"desk.{name}"].messages for name in bench.desks)
 
-    wait_until("the queues of all desks are empty", are_empty, 120, 0.5)
+    wait_until("the queues of all desks are empty", are_empty, 300, 0.5)
 
 
 def check_queues(bench: Bench) -> None:

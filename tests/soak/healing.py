@@ -4,9 +4,9 @@
 The package's `desk-serve` runs the desk. While peers post and ask, a call on the store's file fails
 (a write, a read, a sync), once or for a while; another program locks the file while the desk is
 opened again; the file is gone. Each time the desk answers posts and questions again at most 5 s
-after the fault's end, and what it acknowledged is there. A store that is gone is never begun anew.
-`python3 -m tests.soak.healing WORDS..` runs another program than build/desk; `--only PART..` before
-them tries some of the parts, and `--whole` more places.
+after the fault's end, without what a busy machine adds, and what it acknowledged is there. A store
+that is gone is never begun anew. `python3 -m tests.soak.healing WORDS..` runs another program than
+build/desk; `--only PART..` before them tries some of the parts, and `--whole` more places.
 """
 
 from __future__ import annotations
@@ -23,13 +23,14 @@ import time
 from collections.abc import Callable, Iterator
 
 from tests.common import desk, store_files
+from tests.common.stalls import Machine
 from tests.common.tally import PATIENCE, Count, program, try_parts
 from tests.soak.failing import CALL, CALLS, Plan
 
 SERVE = os.path.join(desk.ROOT, "packaging", "desk-serve")
 LISTED = desk.asked(b"GET", b"/v1/messages")
 ACK = b"\r\n\r\nack\n"
-MOST = 5.0 * PATIENCE / 20  # seconds after a fault's end
+MOST = 5.0 * max(1.0, PATIENCE / 60)  # seconds after a fault's end
 LASTS = 1.5  # seconds of a fault
 
 
@@ -93,10 +94,16 @@ def serving(words: list[str]) -> Iterator[Service]:
             service.close()
 
 
-def comes(holds: Callable[[], bool], seconds: float) -> float | None:
-    """How long it took until this held; None where it did not in time."""
+def comes(
+    holds: Callable[[], bool], seconds: float, machine: Machine | None = None
+) -> float | None:
+    """How long it took until this held; None where it did not in time. Given a machine, what that
+    took is left out."""
     begun = time.monotonic()
-    while (gone := time.monotonic() - begun) <= seconds:
+    mark = machine.mark() if machine else None
+    while (
+        gone := machine.since(mark) if machine and mark else time.monotonic() - begun
+    ) <= seconds:
         if holds():
             return gone
         time.sleep(0.02)
@@ -140,12 +147,21 @@ class Load:
 def heals(count: Count, title: str, service: Service, acked: list[str], number: int) -> None:
     """It answers again in time, without a person, and what was acknowledged is there."""
     body = desk.approval(number)
-    took = comes(lambda: service.post(body), MOST)
+    with Machine(service.process.pid, *children(service.process.pid)) as machine:
+        took = comes(lambda: service.post(body), MOST, machine)
     count.holds(f"{title}: posts are taken again in {MOST:.0f} s", took is not None, service.last())
     listed = service.ask(LISTED)
     found = {*listed.partition(b"\r\n\r\n")[2].decode().splitlines()}
     is_whole = listed.startswith(b"HTTP/1.1 200 OK\r\n") and {*acked, body} <= found
     count.holds(f"{title}: what was acknowledged", is_whole, listed[:80])
+
+
+def children(process: int) -> list[int]:
+    """The processes that this one has started, and that are there."""
+    with contextlib.suppress(OSError):
+        with open(f"/proc/{process}/task/{process}/children", encoding="ascii") as file:
+            return [int(word) for word in file.read().split()]
+    return []
 
 
 def begin(count: Count, service: Service) -> str:
@@ -185,7 +201,9 @@ def shut(count: Count, service: Service) -> None:
     for place in range(1, 25):
         service.plan.set(CALLS, place)
         service.post(desk.approval(100 + place))
-        if comes(lambda: "it is opened again in " in service.said(), LASTS) is not None:
+        with Machine(service.process.pid, *children(service.process.pid)) as machine:
+            is_shut = comes(lambda: "it is opened again in " in service.said(), LASTS, machine)
+        if is_shut is not None:
             return
         service.plan.clear()
     count.holds("the desk ends", False, service.last())

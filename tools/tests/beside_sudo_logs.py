@@ -185,12 +185,12 @@ def served(way: str) -> "subprocess.Popen[bytes] | None":
     lines += ["path = /mnt/log/server", "[iolog]", "iolog_dir = /mnt/iolog"]
     desk.write("/mnt", "server.conf", "\n".join(lines) + "\n")
     found = subprocess.Popen([desk.tool("sudo_logsrvd"), "-n", "-f", "/mnt/server.conf"])
-    for _ in range(100):
+    for _ in range(1200):
         with socket.socket() as probe:
             if probe.connect_ex(("127.0.0.1", 30343)) == 0:
-                break
+                return found
         time.sleep(0.1)
-    return found
+    sys.exit("sudo_logsrvd does not listen")
 
 
 def told(folder: str, rows: Rows, printed: dict[str, str], way: str) -> Told:

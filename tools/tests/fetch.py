@@ -21,6 +21,8 @@ Components: main
 Signed-By: /usr/share/keyrings/debian-archive-keyring.gpg
 """
 PATIENCE = 240
+# (a mirror that fails once is no reason to do without)
+RETRIED = ("-o", "Acquire::Retries=3")
 
 
 class NoNetwork(Exception):
@@ -29,7 +31,7 @@ class NoNetwork(Exception):
 
 def apt(folder: str, *words: str) -> None:
     try:
-        ran = subprocess.run(["apt-get", "-qq", *words], cwd=folder, capture_output=True, text=True, check=False, timeout=PATIENCE)
+        ran = subprocess.run(["apt-get", "-qq", *RETRIED, *words], cwd=folder, capture_output=True, text=True, check=False, timeout=PATIENCE)
     except (FileNotFoundError, subprocess.TimeoutExpired) as fault:
         raise NoNetwork(str(fault)) from None
     if ran.returncode:

@@ -241,6 +241,7 @@ def test_a_relay_posts_meanwhile(running: Running) -> None:
             if number % 2:
                 assert running.change(new, "--yes").returncode == 0
             assert running.serves() == digest(new)
+        until(lambda: len(confirmed) > 5, "nobody asks")
     finally:
         is_over.set()
         thread.join(timeout=300)

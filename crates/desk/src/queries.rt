@@ -6,6 +6,7 @@ ghost use Rattle.std.specs.Prelude.{IfOk, IfErr, MatchResult, Err, string_bytes}
 ghost use Rattle.messages.specs.declared.message.Message.{Message as AnyMessage};
 ghost use Rattle.roster.specs.Rules.{is_among};
 ghost use Rattle.store_tables.specs.Sets.{Lists, SameSet};
+ghost use Rattle.outcomes.specs.About.{AreTold};
 ghost use Rattle.outcomes.specs.HostFile.{Line, AreLines, IsHostFile, IsHostFileAfter, lines_after};
 ghost use Rattle.outcomes.specs.LinesLeft as left;
 ghost use Rattle.outcomes.specs.Outcomes.{AreLive, ComesTo};
@@ -22,7 +23,10 @@ use crate::loading::known_of;
 use crate::refusal::Refusal;
 use desk_store::Keeper;
 use grants::{Status, Summary};
-use outcomes::{Live, RequestName, host_file_in, live_in, parked_in, status_in, summaries_in};
+use messages::Message;
+use outcomes::{
+    Live, RequestName, host_file_in, live_in, messages_in, parked_in, status_in, summaries_in,
+};
 use sudo_words::{HostName, Moment};
 
 impl<K: Keeper> Desk<K> {
@@ -42,6 +46,27 @@ impl<K: Keeper> Desk<K> {
         let status = status_in(&self.roster, &known.gathered, name);
         self.known = Some(known);
         Ok(status)
+    }
+
+    /// The messages about the asker's request under the number, in no order that is promised; none
+    /// exactly if different requests have the name, so that all messages have to be read. It costs
+    /// what the name has.
+    pub fn messages_about(&mut self, asker: &str, no: u32) -> Result<Option<Vec<Message>>, Refusal>
+        ensures about { (set : List AnyMessage)
+            → K.is_up self.new.keeper → Lists (K.holds self.old.keeper) set
+            → IfOk result (AreTold set (record { by = asker.now; no = no })) }
+        ensures err { IfErr result IsWant }
+        ensures desk { K.is_up self.new.keeper → K.is_desk self.new.keeper }
+        ensures unchanged { K.is_up self.new.keeper → K.is_same self.old.keeper self.new.keeper }
+        ensures roster { self.new.roster ≡ self.old.roster }
+        ensures base { self.new.base ≡ self.old.base }
+        ensures served { ServesAnswer K.Keeper self.old.keeper self.new.keeper result }
+        ensures asks { OnlyAsks K.Keeper self.old.keeper self.new.keeper result }
+    {
+        let known = known_of(self.known.take(), &mut self.keeper)?;
+        let list = messages_in(self.alloc, &known.gathered, asker, no);
+        self.known = Some(known);
+        Ok(list?)
     }
 
     /// The grants that are in force at the moment, by the asker in byte order, then by the number.

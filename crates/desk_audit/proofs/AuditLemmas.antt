@@ -12,29 +12,34 @@ use Rattle.std.proofs.lemmas.Map.Keys.{sorted_head, sorted_tail}
 use Rattle.std.proofs.lemmas.Map.Lookups.{exact_bytes, exact_pairs, exact_unsigned}
 use Rattle.std.proofs.lemmas.Map.Views.{btree_map_get_iff}
 use Rattle.sudo_words.specs.declared.cmnd.Cmnd.{Cmnd}
-use Rattle.messages.specs.Names.{NamePrecedes, name_cmp}
+use Rattle.messages.specs.Names.{NamePrecedes, SameMessages, name_cmp}
 use Rattle.messages.specs.Order.{AreInOrder}
 use Rattle.messages.specs.declared.message.Message.{Message}
+use Rattle.messages.specs.declared.message.Message.TheVariants.{Request, Verdict}
 use Rattle.messages.specs.declared.request_name.RequestName.{RequestName}
-use Rattle.messages.proofs.NameOrder.{lower_from_less}
+use Rattle.messages.proofs.NameOrder.{lower_from_less, not_precede_same}
 use Rattle.roster.specs.Fields.{RosterFields}
 use Rattle.desk_store.specs.Left.{AddsOnly}
 use Rattle.desk_store.specs.Sets.{Lists, SameSet}
 use Rattle.desk_store.specs.declared.keeper.Keeper.{Ghosts}
 use Rattle.desk.specs.Serving.{OnlyAsks}
 use Rattle.desk.specs.declared.refusal.Refusal.{Refusal}
+use Rattle.outcomes.specs.About.{AreAbout}
 use Rattle.outcomes.specs.Outcomes.{ComesTo}
 use Rattle.outcomes.specs.private.ByName.{at_name}
 use Rattle.outcomes.proofs.GivenLists.{turn_split}
-use Rattle.outcomes.proofs.Membership.{no_member, Contains-cases}
+use Rattle.outcomes.proofs.Membership.{no_member, Contains-behind, Contains-cases, Contains-head}
 use Rattle.outcomes.proofs.NameMaps.{at_entry, names_total}
 use Rattle.outcomes.proofs.Orders.{behind_from_each}
-use Rattle.desk_audit.specs.Audit.{IsAudit}
-use Rattle.desk_audit.specs.Told.{name_in}
+use Rattle.desk_audit.specs.Audit.{IsAudit, TellsName}
+use Rattle.desk_audit.specs.Documents.{AreOfName}
+use Rattle.desk_audit.specs.Told.{TellsMessages, name_in}
 use Rattle.findings.specs.declared.entry.Entry.{Entry}
 use Rattle.findings.specs.declared.entry.About.{About}
 use Rattle.desk_audit.specs.private.ByName.{Gathers, IsToldAt}
+use Rattle.desk_audit.specs.private.Entries.{AreEntriesOf, IsEntryOf}
 use Rattle.desk_audit.proofs.ByNameLemmas.{Abouts, IsAt}
+use Rattle.desk_audit.proofs.ByTextLemmas.{told_same}
 use Rattle.desk_audit.proofs.ListLemmas.{from_mapped, to_mapped}
 
 -- A list of one set is a list of each set with the same messages.
@@ -93,24 +98,25 @@ exact_names a b h =
 
 -- ---- all of them
 
-module _ (f : RosterFields Cmnd) (set : List Message) (all : Abouts) (g : Gathers set all) (entries : List Entry) (same : map keyed entries ≡ all.entries) where
-  at_its_name : (e : Entry) → Contains entries e → IsToldAt set e.name e.about
+module _ (f : RosterFields Cmnd) (set list : List Message) (all : Abouts) (g : Gathers list all) (entries : List Entry)
+    (same : map keyed entries ≡ all.entries) where
+  at_its_name : (e : Entry) → Contains entries e → IsToldAt list e.name e.about
   at_its_name e among =
       let there : Contains all.entries (keyed e) = subst (λ (ks : List Keyed). Contains ks (keyed e)) same (to_mapped keyed entries e among) in
-      subst (IsAt set e.name) (at_entry all g.ordered (keyed e) there) (g.each e.name)
+      subst (IsAt list e.name) (at_entry all g.ordered (keyed e) there) (g.each e.name)
 
-  has_entry : (m : Message) → Contains set m → (e : Entry) × Contains entries e × (e.name ≡ name_in m)
+  has_entry : (m : Message) → Contains list m → (e : Entry) × Contains entries e × (e.name ≡ name_in m)
   has_entry m spoken = by_name (at_name all (name_in m)) refl (g.each (name_in m))
     where
-      by_name : (o : Option About) → at_name all (name_in m) ≡ o → IsAt set (name_in m) o → (e : Entry) × Contains entries e × (e.name ≡ name_in m)
+      by_name : (o : Option About) → at_name all (name_in m) ≡ o → IsAt list (name_in m) o → (e : Entry) × Contains entries e × (e.name ≡ name_in m)
       by_name None was nobody = absurd (nobody m spoken refl)
       by_name (Some about) was is =
           let there : Contains all.entries (name_in m, about) = (btree_map_get_iff names_total exact_names all g.ordered (name_in m) about).0 was in
           let found = from_mapped keyed entries (name_in m, about) (subst (λ (ks : List Keyed). Contains ks (name_in m, about)) (sym same) there) in
           (found.0, found.1, ap (λ (k : Keyed). k.0) found.2)
 
-  pub is_audit : AllByRecursion (λ e. ComesTo f set e.name e.status) entries → IsAudit f set entries
-  is_audit statuses =
+  pub are_entries : AllByRecursion (λ e. ComesTo f set e.name e.status) entries → AreEntriesOf f set list entries
+  are_entries statuses =
       let Status : Entry → Type 0 = λ e. ComesTo f set e.name e.status in
       record {
         in_order = in_order entries (subst (λ (ks : List Keyed). IsStrictlySortedBy name_cmp (keys_of ks)) (sym same) g.ordered);
@@ -123,6 +129,62 @@ module _ (f : RosterFields Cmnd) (set : List Message) (all : Abouts) (g : Gather
             };
         all = has_entry;
       }
+
+-- All that a list of the set says of each name is the set's audit.
+pub audit_of_list : (f : RosterFields Cmnd) (set list : List Message) (entries : List Entry)
+    → SameMessages list set → AreEntriesOf f set list entries → IsAudit f set entries
+audit_of_list f set list entries same are = record {
+  in_order = are.in_order;
+  each = λ e among.
+      let is = are.each e among in
+      record {
+        spoken = (is.spoken.0, (same is.spoken.0).0 is.spoken.1, is.spoken.2);
+        about = told_same list set e.name e.about same is.about;
+        status = is.status;
+      };
+  all = λ m there. are.all m ((same m).1 there);
+}
+
+-- ---- of one name
+
+module _ (f : RosterFields Cmnd) (set list : List Message) (name : RequestName) (about : AreAbout set name list) where
+  told_within : (a : About) → TellsMessages list name a → TellsMessages set name a
+  told_within a told = record {
+    requests_in_order = told.requests_in_order;
+    verdicts_in_order = told.verdicts_in_order;
+    requests = λ q. (
+      (λ among. let was = (told.requests q).0 among in (((about (Request q)).0 was.0).0, was.1)),
+      (λ there. (told.requests q).1 ((about (Request q)).1 there, there.1)),
+    );
+    verdicts = λ v. (
+      (λ among. let was = (told.verdicts v).0 among in (((about (Verdict v)).0 was.0).0, was.1)),
+      (λ there. (told.verdicts v).1 ((about (Verdict v)).1 there, there.1)),
+    );
+  }
+
+  its_name : (e : Entry) → IsEntryOf f set list e → e.name ≡ name
+  its_name e is = sym is.spoken.2 ∙ ((about is.spoken.0).0 is.spoken.1).1
+
+  tells_name : (e : Entry) → IsEntryOf f set list e → TellsName f set e
+  tells_name e is =
+      let same = its_name e is in
+      let told = told_within e.about (subst (λ (n : RequestName). TellsMessages list n e.about) same is.about) in
+      record {
+        spoken = (is.spoken.0, ((about is.spoken.0).0 is.spoken.1).0, is.spoken.2);
+        about = subst (λ (n : RequestName). TellsMessages set n e.about) (sym same) told;
+        status = is.status;
+      }
+
+  -- What the messages about a name say is what is told of it.
+  pub of_its_messages : (entries : List Entry) → AreEntriesOf f set list entries → AreOfName f set name entries
+  of_its_messages [] are =
+      inr ((λ m there named. let found = are.all m ((about m).1 (there, named)) in no_member found.0 found.1), refl)
+  of_its_messages (e ∷ []) are =
+      let is = are.each e (Contains-head e []) in inl (e, tells_name e is, its_name e is, refl)
+  of_its_messages (d ∷ e ∷ es) are =
+      let first = its_name d (are.each d (Contains-head d (e ∷ es))) in
+      let second = its_name e (are.each e (Contains-behind d (e ∷ es) e (Contains-head e es))) in
+      absurd (not_precede_same d.name e.name are.in_order.0.0 (first ∙ sym second))
 
 -- ---- one more
 

@@ -132,7 +132,7 @@ pub record IsTaken (entries rest : List Texted) (all : Abouts) : Type 0 where
 pub none_taken : (entries rest : List Texted) (all : Abouts) → rest ≡ entries → Gathers [] all → IsTaken entries rest all
 none_taken entries rest all is gathers = record { seen = []; split = is; gathered = gathers }
 
-told_same : (s t : List Message) (name : RequestName) (about : About) → SameMessages s t → TellsMessages s name about → TellsMessages t name about
+pub told_same : (s t : List Message) (name : RequestName) (about : About) → SameMessages s t → TellsMessages s name about → TellsMessages t name about
 told_same s t name about same told = record {
   requests_in_order = told.requests_in_order;
   verdicts_in_order = told.verdicts_in_order;

@@ -7,12 +7,8 @@ use Rattle.messages.specs.Wire.{request_text, verdict_text}
 use Rattle.messages.specs.declared.message.Message.{Message}
 use Rattle.messages.specs.declared.message.Message.TheVariants.{Request, Verdict}
 use Rattle.messages.specs.declared.request_name.RequestName.{RequestName}
+pub use Rattle.outcomes.specs.About.{name_in}
 use Rattle.findings.specs.declared.entry.About.{About}
-
--- the name that a request asks under, or that a verdict is about
-abbrev pub name_in : Message → RequestName
-name_in (Request q) = name_of q
-name_in (Verdict v) = name_meant v
 
 -- All messages about the name and no others, each once: its requests in the byte order of their
 -- texts, and its verdicts likewise.

@@ -3,3 +3,5 @@
 pub mod ByName
 -- and by text
 pub mod ByText
+-- the entries of the names that some messages are about
+pub mod Entries

@@ -1,15 +1,16 @@
 //! What an audit tells of a desk, as one JSON document.
 
-ghost use Rattle.std.specs.Prelude.{◌≡◌, List, IfOk, IfErr, filter, string_bytes};
+ghost use Rattle.std.specs.Prelude.{◌≡◌, List, IfOk, IfErr, string_bytes};
 ghost use Rattle.messages.specs.declared.message.Message.{Message as AnyMessage};
 ghost use Rattle.desk_store.specs.Sets.{Lists};
 ghost use Rattle.desk.specs.Refusals.{IsWant};
 ghost use Rattle.desk.specs.Serving.{OnlyAsks, ServesAnswer};
-ghost use Rattle.desk_audit.specs.Documents.{IsAuditText, IsNameText, is_named};
+ghost use Rattle.desk_audit.specs.Documents.{IsAuditText, IsNameText};
 
 use crate::entry::audit;
+use crate::one_name::entries_about;
 use desk::{Desk, Keeper, Refusal};
-use findings::{Entry, Pick, json};
+use findings::{Pick, json};
 
 /// What is told of the names that are asked about, as one JSON document and a newline: what
 /// `desk-audit` prints.
@@ -31,22 +32,6 @@ pub fn document<K: Keeper>(desk: &mut Desk<K>, pick: &Pick) -> Result<String, Re
     Ok(json(alloc, desk.roster(), pick, &entries)?)
 }
 
-/// Whether the entry is that of the asker's request under the number.
-fn is_named(entry: &Entry, asker: &str, no: u32) -> bool
-    ensures { result ≡ is_named asker.now no entry.now }
-{
-    entry.name.by.as_str() == asker && entry.name.no == no
-}
-
-/// The entries that are those of the asker's request under the number.
-fn named_among(entries: Vec<Entry>, asker: &str, no: u32) -> Vec<Entry>
-    ensures { result.items ≡ filter (is_named asker.now no) entries.items }
-{
-    let mut entries = entries;
-    entries.retain(|entry| is_named(entry, asker, no));
-    entries
-}
-
 /// What is told of the asker's request under the number, as one JSON document and a newline. Where
 /// no message is about it, the document tells of no name.
 ///
@@ -63,7 +48,7 @@ pub fn document_of<K: Keeper>(desk: &mut Desk<K>, asker: &str, no: u32) -> Resul
     ensures served { ServesAnswer K.Keeper desk.old.keeper desk.new.keeper result }
     ensures asks { OnlyAsks K.Keeper desk.old.keeper desk.new.keeper result }
 {
-    let entries = named_among(audit(desk)?, asker, no);
+    let entries = entries_about(desk, asker, no)?;
     let alloc = *entries.allocator();
     Ok(json(alloc, desk.roster(), &Pick::all(), &entries)?)
 }

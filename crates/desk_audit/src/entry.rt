@@ -10,6 +10,7 @@ ghost use Rattle.desk.specs.Serving.{OnlyAsks, ServesAnswer};
 ghost use Rattle.desk.specs.declared.refusal.Refusal.TheVariants as refusal;
 ghost use Rattle.desk_audit.specs.Audit.{IsAudit};
 ghost use Rattle.desk_audit.specs.private.ByName.{Gathers};
+ghost use Rattle.desk_audit.specs.private.Entries.{AreEntriesOf};
 
 use crate::gathering::{ByName, gather};
 use desk::{Desk, Keeper, Refusal};
@@ -44,14 +45,14 @@ fn entry_of<K: Keeper>(
 }
 
 /// The entries of these names, in their order.
-fn entries_of<K: Keeper>(
+pub(crate) fn entries_of<K: Keeper>(
     alloc: Global,
     desk: &mut Desk<K>,
     all: ByName,
 ) -> Result<Vec<Entry>, Refusal>
-    ensures audit { (set : List AnyMessage) → K.is_up desk.new.keeper
-        → K.is_desk desk.old.keeper → Lists (K.holds desk.old.keeper) set → Gathers set all
-        → IfOk result (λ entries. IsAudit desk.old.roster.says set entries.items) }
+    ensures told { (set list : List AnyMessage) → K.is_up desk.new.keeper
+        → K.is_desk desk.old.keeper → Lists (K.holds desk.old.keeper) set → Gathers list all
+        → IfOk result (λ entries. AreEntriesOf desk.old.roster.says set list entries.items) }
     ensures err { IfErr result IsWant }
     ensures unchanged { K.is_up desk.new.keeper → K.is_same desk.old.keeper desk.new.keeper }
     ensures roster { desk.new.roster ≡ desk.old.roster }

@@ -11,6 +11,7 @@ mod any_text;
 mod as_json;
 mod entry;
 mod gathering;
+mod one_name;
 
 pub use as_json::{document, document_of};
 pub use entry::audit;

@@ -70,7 +70,8 @@ module _ (set : List Message) (name : RequestName) (vs : List VerdictFields) (no
 
 -- ---- of a name that nobody can have
 
-module _ (set : List Message) (asker : List ℕ) (number : ℕ) (messages : (m : Message) → Contains set m → IsMessage m) (unlawful : is_name asker ≡ true → ⊥) where
+module _ (set : List Message) (asker : List ℕ) (number : ℕ) (messages : (m : Message) → Contains set m → IsMessage m)
+    (unlawful : is_name asker ≡ true → ⊥) where
   abbrev named : RequestName
   named = record { by = asker; no = number }
 

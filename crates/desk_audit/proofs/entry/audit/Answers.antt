@@ -1,6 +1,7 @@
 use Rattle.std.proofs.Common.{◌≡◌, ◌∙◌, Err, IfOk, List, subst, sym}
 use Rattle.std.specs.Prelude.{IsErrAnd}
 use Rattle.std.specs.List.{Contains}
+use Rattle.std.proofs.lemmas.Result.{IfOk-weaker}
 use Rattle.messages.specs.Names.{SameMessages}
 use Rattle.messages.specs.Wire.{IsMessage}
 use Rattle.messages.specs.declared.message.Message.{Message}
@@ -10,8 +11,7 @@ use Rattle.desk.specs.Refusals.{IsWant}
 use Rattle.desk.specs.declared.refusal.Refusal.TheVariants.{Storage}
 use Rattle.desk.proofs.RefusalLemmas.{wants}
 use Rattle.desk_audit.specs.Audit.{IsAudit}
-use Rattle.desk_audit.proofs.AuditLemmas.{asks_both, lists_same}
-use Rattle.desk_audit.proofs.ByTextLemmas.{gathers_same}
+use Rattle.desk_audit.proofs.AuditLemmas.{asks_both, audit_of_list, lists_same}
 use Rattle.desk_audit.proofs.entry.audit.Goals as goal
 
 pub returns : goal.returns
@@ -34,9 +34,10 @@ returns g c =
           let lent = brought.messages was_up in
           let messages : (m : Message) → Contains list m → IsMessage m = λ m among. law.holds_messages old.keeper m ((lent m).1 among) in
           let both : SameMessages list set = λ m. ((λ among. (lists m).0 ((lent m).1 among)), (λ among. (lent m).0 ((lists m).1 among))) in
-          let gathers = gathers_same list set c.in_ok-all.all both (c.in_ok-all.ensures messages) in
           let F : Reading → Type 0 = λ r. IfOk c.entries_of.result (λ es. IsAudit r.says set es.items) in
-          subst F brought.roster (told.audit set up was_desk still gathers);
+          subst F brought.roster
+          (IfOk-weaker c.entries_of.result _ _ (λ es are. audit_of_list mid.roster.says set list es.items both are)
+          (told.told set list up was_desk still (c.in_ok-all.ensures messages)));
       err = told.err;
       unchanged = λ up. law.same_on old.keeper mid.keeper new.keeper (brought.unchanged (told.served.was_up up)) (told.unchanged up);
       roster = told.roster ∙ brought.roster;

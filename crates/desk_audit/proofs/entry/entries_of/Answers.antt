@@ -7,7 +7,7 @@ use Rattle.desk_store.proofs.ServingLemmas.{served_as, served_at_ok, served_by_n
 use Rattle.outcomes.specs.Outcomes.{ComesTo}
 use Rattle.findings.specs.declared.entry.Entry.{Entry}
 use Rattle.desk.proofs.LeftLemmas.{asks_want}
-use Rattle.desk_audit.proofs.AuditLemmas.{adds_both, is_audit, keyed, keyed_is, lists_same, one_status_more, split_ends, split_once_more}
+use Rattle.desk_audit.proofs.AuditLemmas.{adds_both, are_entries, keyed, keyed_is, lists_same, one_status_more, split_ends, split_once_more}
 use Rattle.desk_audit.proofs.entry.entries_of.Goals as goal
 
 pub loop-name-init : goal.loop-name-init
@@ -67,7 +67,7 @@ returns-in_err-entry g c =
     let done = c.in_err-entry.ensures in
     let served = served_then (λ none. absurd none) kept.served done.served in
     record {
-      audit = search rules;
+      told = search rules;
       err = search rules;
       unchanged = λ up. g.met.K.Keeper.same_on old.keeper mid.keeper new.keeper (kept.same (done.served.was_up up)) (done.unchanged up);
       roster = done.roster ∙ kept.roster;
@@ -87,7 +87,7 @@ returns-in_err-push g c =
     let done = c.in_ok-entry.ensures in
     let served = served_then (λ none. none) kept.served (served_at_ok ⊥ ⊥ (λ none. none) done.served) in
     record {
-      audit = search rules;
+      told = search rules;
       err = search rules;
       unchanged = λ up. g.met.K.Keeper.same_on old.keeper mid.keeper new.keeper (kept.same (done.served.was_up up)) (done.unchanged up);
       roster = done.roster ∙ kept.roster;
@@ -101,7 +101,7 @@ pub returns : goal.returns
 returns g c =
     let kept = c.loop-name.invariant in
     record {
-      audit = λ set up is_desk lists gathers. is_audit c.args.desk.now.roster.says set c.args.all gathers c.loop-name.entries.items (split_ends
+      told = λ set list up is_desk lists gathers. are_entries c.args.desk.now.roster.says set list c.args.all gathers c.loop-name.entries.items (split_ends
           c.loop-name.entries.items c.loop-name.name-iterator c.args.all.entries c.in-None.ensures.steps.0 kept.split) (kept.told set up is_desk lists);
       err = search rules;
       unchanged = kept.same;
