@@ -2,6 +2,8 @@
 # Tests the relays: a real sshd, a real browser behind nginx, sudo, and relays that are killed. It
 # installs what it needs of Debian, where this is root. The program is build/desk, or what DESK
 # names. The last line is 'N checks, M wrong'. Words are passed on to pytest.
+# CROWD=60 is the long form of test_crowd.py, and FUZZ=20000 that of test_fuzz.py; the browser's
+# screenshots are left in build/relays-screenshots.
 set -euo pipefail
 cd "$(dirname "$0")/.."
 export PATH="$PATH:/usr/sbin:/sbin"

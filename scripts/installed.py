@@ -21,7 +21,7 @@ def place(path: str) -> str | None:
     """Where a file of the repository is installed, beside the documents; None if it is not."""
     name = os.path.basename(path)
     if path.endswith(".md"):
-        is_there = name in PAGES or name in INSTALLED or name == "HOSTS.md"
+        is_there = name in PAGES or name in INSTALLED
         return name if is_there and path not in OTHERS else None
     return path if path.startswith(("examples/", "cases/")) else None
 

@@ -21,6 +21,7 @@ PAGES = {
     "CHANGING.md": "desk-change-roster(1)",
     "PEOPLE.md": "desk-roster(1)",
     "SEVERAL.md": "desk-broker(7)",
+    "HOSTS.md": "desk-host(8)",
 }
 INSTALLED = (
     "README.md",

@@ -1,5 +1,11 @@
 """What a relay publishes with: a message is on most of the broker's disks before it is answered.
 
+    sys.path.insert(0, "/usr/share/steelnewt-broker")
+    from desk_broker.outbox import NotConfirmed
+    from desk_broker.publish import Publisher
+    from desk_broker.settings import Broker, told
+
+    broker = Broker.read(told(os.environ), "relay-chat")  # BROKERS, BROKER_CA, BROKER_PASSWORD_FILE
     with Publisher(broker) as publisher:
         publisher.publish(body)          # returns when it is confirmed, or raises NotConfirmed
 

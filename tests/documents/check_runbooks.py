@@ -373,8 +373,11 @@ def mails(room: Room, *subjects: str) -> str:
 def with_relay(room: Room) -> None:
     """The desk of examples/break-glass.toml, and a relay that rings the bells."""
     heading = "Nobody can approve"
-    part, notify = blocks(section(heading), "toml")
-    room.holds("the example has its part", part in desk.read("examples", "break-glass.toml"))
+    (notify,) = blocks(section(heading), "toml")
+    example = desk.read("examples", "break-glass.toml")
+    room.says(heading, "`examples/break-glass.toml` has a person `glass`")
+    has_both = "\nglass = [" in example and "\n[ceilings.break-glass]\n" in example
+    room.holds("the example has its part", has_both, example)
     shutil.copy(f"{desk.EXAMPLES}/break-glass.toml", room.path(FILES[0]))
     settings = desk.read("relays", "relay.example.toml")
     room.write("/etc/desk/relay.toml", settings.partition("[page]")[0] + notify)
