@@ -4,9 +4,9 @@
 set -euo pipefail
 cd "$(dirname "$0")/.."
 export PATH="$PATH:/usr/sbin:/sbin"
-bash relays/install.sh openssh-server openssh-client tzdata python3-flask python3-requests-unixsocket \
+bash relays/install.sh openssh-server openssh-client tzdata python3-flask \
     python3-waitress
-if command -v sshd >/dev/null && /usr/bin/python3 -c 'import flask, requests_unixsocket, waitress' 2>/dev/null; then
+if command -v sshd >/dev/null && /usr/bin/python3 -c 'import flask, waitress' 2>/dev/null; then
     exec /usr/bin/python3 relays/demo.py
 fi
-echo "(asking and approving by ssh is left out: it needs openssh-server, python3-flask, python3-requests-unixsocket and python3-waitress)"
+echo "(asking and approving by ssh is left out: it needs openssh-server, python3-flask and python3-waitress)"

@@ -1,5 +1,5 @@
 #!/usr/bin/env bash
-# Tests the relays: a real sshd, a real browser behind nginx, sudo, and relays that are killed. It
+# Tests the client and the relays: a real sshd, a real browser behind nginx, sudo, and relays that are killed. It
 # installs what it needs of Debian, where this is root. The program is build/desk, or what DESK
 # names. The last line is 'N checks, M wrong'. Words are passed on to pytest.
 # CROWD=60 is the long form of test_crowd.py, and FUZZ=20000 that of test_fuzz.py; the browser's
@@ -14,7 +14,8 @@ packages=(
     chromium chromium-driver fonts-dejavu-core curl msmtp msmtp-mta python3-aiosmtpd
     apache2 libapache2-mod-auth-gssapi krb5-kdc krb5-admin-server krb5-user
     libapache2-mod-auth-openidc glewlwyd dbconfig-sqlite3 python3-authlib
-    python3-flask python3-requests python3-requests-unixsocket python3-waitress
+    python3-flask python3-requests python3-waitress
+    python3-pip python3-setuptools python3-wheel
     python3-pytest python3-pytest-xdist python3-selenium
 )
 bash relays/install.sh "${packages[@]}"
@@ -31,7 +32,8 @@ tests() {
 # (each file of tests has sites of its own, so they go side by side; the crowd's answers are timed,
 # so it goes alone)
 if [ $# = 0 ]; then
-    tests -n "$(nproc)" --dist loadfile --ignore relays/tests/test_crowd.py relays/tests
+    tests -n "$(nproc)" --dist loadfile --ignore relays/tests/test_crowd.py \
+        steelnewt_client/tests relays/tests
     tests relays/tests/test_crowd.py
 else
     tests -n "$(nproc)" --dist loadfile relays/tests "$@"

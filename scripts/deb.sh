@@ -1,12 +1,13 @@
 #!/usr/bin/env bash
 # Makes Debian's packages of what `make install` installs, in build/deb: steelnewt (the desk),
-# steelnewt-host (what fetches a host's file), steelnewt-tools, steelnewt-relay and
-# steelnewt-broker. Nothing is proved or built: the program is build/desk, byte for byte.
+# steelnewt-host (what fetches a host's file), steelnewt-tools, steelnewt-relay, steelnewt-broker,
+# and python3-steelnewt-client, which these three use. Nothing is proved or built: the program is
+# build/desk, byte for byte.
 set -euo pipefail
 cd "$(dirname "$0")/.."
-for tool in dpkg-buildpackage dh; do
+for tool in dpkg-buildpackage dh dh_python3; do
     command -v "$tool" > /dev/null || {
-        echo "make deb needs $tool: install Debian's packages dpkg-dev and debhelper" >&2
+        echo "make deb needs $tool: install Debian's packages dpkg-dev, debhelper and dh-python" >&2
         exit 1
     }
 done

@@ -7,6 +7,7 @@ set -euo pipefail
 cd "$(dirname "$0")/.."
 PREFIX=${PREFIX:-/usr/local}
 root=${DESTDIR:-}
+umask 022
 libexec=$PREFIX/libexec/steelnewt
 doc=$PREFIX/share/doc/steelnewt
 # Below /usr it is Debian's package: configuration in /etc and units in /lib. Elsewhere they stay an
@@ -45,28 +46,35 @@ for name in desk desk-audit desk-lint desk-import desk-used desk-evidence desk-c
     put 0644 "build/pages/$name.bash" "$PREFIX/share/bash-completion/completions/$name"
     put 0644 "build/pages/_$name" "$PREFIX/share/zsh/$zsh/_$name"
 done
-# The tools stand in a folder of their own, with the schemas and the codes that they explain.
-share=$PREFIX/share/steelnewt
-for tool in desk-lint desk-import desk-used desk-evidence desk-change-roster desk-roster; do
-    put 0755 "tools/$tool" "$share/$tool"
-    mkdir -p "$root$PREFIX/bin"
-    ln -sfn "../share/steelnewt/$tool" "$root$PREFIX/bin/$tool"
-done
-for file in tools/desk_tools/*.py tools/desk_tools/*.toml tools/schemas/*.json; do
-    put 0644 "$file" "$share/${file#tools/}"
-done
-put 0644 docs/CODES.md "$share/CODES.md"
-# The relay: a folder of its own, and the programs that tell people.
-share=$PREFIX/share/steelnewt-relay
-for file in relays/*.py relays/static/* relays/templates/*; do
-    put 0644 "$file" "$share/$file"
+# The tools, the relay and the broker's programs, with the schemas and the codes (pyproject.toml),
+# where Debian's Python looks for them.
+if ! /usr/bin/python3 -c 'import setuptools, wheel, pip' 2> /dev/null; then
+    echo "this needs Debian's packages python3-pip, python3-setuptools and python3-wheel" >&2
+    exit 1
+fi
+layout=deb_system where=(--prefix "$PREFIX")
+case $PREFIX in
+    /usr) where=(--no-compile) ;; # (the packages compile where they are installed)
+    /usr/local) layout='' where=() ;;
+esac
+rm -rf build/python
+mkdir -p build/python
+DEB_PYTHON_INSTALL_LAYOUT=$layout /usr/bin/python3 -m pip --disable-pip-version-check install \
+    --quiet --no-index --no-deps --no-build-isolation --ignore-installed --no-warn-script-location \
+    --root-user-action=ignore --root "${root:-/}" "${where[@]}" .
+packages=("$root$PREFIX"/lib/python3*/dist-packages)
+rm -f "${packages[0]}"/steelnewt-*.dist-info/{INSTALLER,RECORD,REQUESTED,direct_url.json}
+for name in desk-{lint,import,used,evidence,change-roster,roster,relay,relay-person} \
+    "${broker[@]/#/desk-}"; do
+    # (nothing of the caller's environment, or of the folder that it is in, is imported)
+    sed -i '1s,.*,#!/usr/bin/python3 -I,' "$root$PREFIX/bin/$name"
 done
 mkdir -p "$root$PREFIX/sbin"
-for name in bin/desk-relay sbin/desk-relay-person; do
-    put 0755 "relays/${name#*/}" "$share/relays/${name#*/}"
-    ln -sfn "../share/steelnewt-relay/relays/${name#*/}" "$root$PREFIX/$name"
-done
-rm -f "$root$share"/relays/demo.py
+mv "$root$PREFIX/bin/desk-relay-person" "$root$PREFIX/sbin/desk-relay-person"
+# (the lines of people's keys that earlier versions wrote call the relay there)
+mkdir -p "$root$PREFIX/share/steelnewt-relay/relays"
+ln -sfn ../../../bin/desk-relay "$root$PREFIX/share/steelnewt-relay/relays/desk-relay"
+# The programs that tell people of the relay's news, and what a site begins with.
 ln -sfn ../man1/desk-relay.1 "$root$PREFIX/share/man/man8/desk-relay-person.8"
 for name in notify-mail notify-webhook; do
     put 0755 "relays/$name" "$libexec/$name"
@@ -79,15 +87,7 @@ for kind in gssapi openidc; do
 done
 put 0755 examples/front-ca.sh "$PREFIX/share/doc/steelnewt-relay/examples/front-ca.sh"
 [ -e "$root/etc/desk/relay.toml" ] || put 0644 relays/relay.example.toml /etc/desk/relay.toml
-# Several desks behind a broker: what hands its messages on, and what looks after it.
-share=$PREFIX/share/steelnewt-broker
-for file in broker/desk_broker/*.py; do
-    put 0644 "$file" "$share/${file#broker/}"
-done
-for name in "${broker[@]/#/desk-}"; do
-    put 0755 "broker/$name" "$share/$name"
-    ln -sfn "../share/steelnewt-broker/$name" "$root$PREFIX/bin/$name"
-done
+# Several desks behind a broker: its settings.
 for file in rabbitmq.conf tls.conf; do
     put 0644 "examples/broker/$file" "$PREFIX/share/doc/steelnewt-broker/examples/$file"
 done
@@ -119,3 +119,8 @@ printf '%s\n' "$files" | while read -r file; do
     put "$mode" "examples/$file" "$doc/examples/${file#./}"
 done
 echo "installed below $root$PREFIX: man desk; the examples are in $root$doc/examples"
+case $PREFIX in
+    /usr | /usr/local) ;;
+    *) echo "Python does not look there: write $PREFIX/lib/python3/dist-packages into a file" \
+        "/usr/local/lib/python3.11/dist-packages/steelnewt.pth" ;;
+esac

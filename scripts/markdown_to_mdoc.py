@@ -49,6 +49,12 @@ def escaped(text: str) -> str:
     return text.replace("\\", "\\e").replace("-", "\\-")
 
 
+def modules(prefix: str) -> str:
+    """Where the tools' modules are installed (scripts/install.sh)."""
+    python = "python3.11" if prefix == "/usr/local" else "python3"
+    return f"{prefix}/lib/{python}/dist-packages/desk_tools"
+
+
 def renamed(text: str, doc: str) -> str:
     """A text with the repository's paths as an installed desk has them."""
     text = re.sub(
@@ -59,11 +65,9 @@ def renamed(text: str, doc: str) -> str:
     text = re.sub(r"\[[^\]]*\]\(\.\./(cases/[\w.-]+)\)", r"\1", text)
     text = re.sub(r"`?docs/(?:proof/|change/)?(\w+\.md)`?", lambda it: document(it[1], doc), text)
     text = re.sub(r"(?<![\w/])build/(desk|desk-audit)(?= )", "\\1", text)
-    text = re.sub(
-        r"(?<![\w/])tools/(desk_tools|schemas)/",
-        f"{os.path.dirname(os.path.dirname(doc))}/steelnewt/\\1/",
-        text,
-    )
+    share = os.path.dirname(os.path.dirname(doc))
+    text = re.sub(r"(?<![\w/])tools/schemas/", f"{share}/steelnewt/schemas/", text)
+    text = re.sub(r"(?<![\w/])tools/desk_tools/", f"{modules(os.path.dirname(share))}/", text)
     return re.sub(r"(?<![\w/])(examples|cases)/", rf"{doc}/\1/", text)
 
 

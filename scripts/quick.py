@@ -20,6 +20,7 @@ import shutil
 import subprocess
 import sys
 import tempfile
+import tomllib
 from collections.abc import Iterator
 
 import calls
@@ -40,7 +41,8 @@ LINK = re.compile(r"\]\(([^)#:]+)(?:#[^)]*)?\)")
 # a file that is named from the repository's top
 NAMED = re.compile(
     r"(?<![\w./-])"
-    r"((?:broker|cases|docs|examples|packaging|relays|scripts|tests|tools)/[\w./*-]+\.\w+)"
+    r"((?:broker|cases|docs|examples|packaging|relays|scripts|steelnewt_\w+|tests|tools)"
+    r"/[\w./*-]+\.\w+)"
 )
 # a test that is started
 STARTED = re.compile(r"python3 -m (tests(?:\.\w+)+)(?!\w|\.\$)")
@@ -165,6 +167,32 @@ def misnamed() -> Iterator[str]:
     said = repository.run(["rt", "version"]).stdout
     if logic not in said.split():
         yield f"{path}: it names the logic {logic}, and rt version says {said.strip()}"
+    project = tomllib.loads(repository.read("pyproject.toml"))["project"]
+    if project["version"] != package:
+        yield f"pyproject.toml: its version is not {package}, as packaging/debian/changelog has it"
+
+
+def misstarted() -> Iterator[str]:
+    """Programs of pyproject.toml that a clone has no file for, or one that starts something else:
+    the files differ in what they say of themselves, and in the module."""
+    programs = tomllib.loads(repository.read("pyproject.toml"))["project"]["scripts"]
+    folders = [os.path.join(repository.ROOT, it) for it in ("relays", "broker", "tools")]
+    found = [path for folder in folders for path in glob.glob(os.path.join(folder, "desk-*"))]
+    paths = {os.path.basename(it): it for it in found}
+    if paths.keys() != programs.keys():
+        yield f"pyproject.toml: other programs than a clone has: {programs.keys() ^ paths.keys()}"
+    texts = {name: repository.read(paths[name]) for name in paths.keys() & programs.keys()}
+    heads = set()
+    for name, text in sorted(texts.items()):
+        said, _, code = text.partition('"""')[2].partition('"""')
+        module = programs[name].removesuffix(":main")
+        if f"\nfrom {module} import main  # noqa: E402\n" not in code:
+            yield f"{paths[name]}: it does not start {module}, as pyproject.toml says"
+        if not said.startswith(f"{name} "):
+            yield f"{paths[name]}: it does not begin with its words"
+        heads.add(text.partition('"""')[0] + code.replace(f"from {module} ", "from "))
+    if len(heads) > 1:
+        yield f"the files that start programs in a clone are of {len(heads)} kinds"
 
 
 def too_wide(path: str, width: int) -> Iterator[tuple[str, str]]:
@@ -205,6 +233,7 @@ def main() -> int:
         print("it needs Rattle's toolchain, the command rt (README.md, 'What you need')")
         return 1
     wrong = [*badly_laid_out(), *misfits(), *not_made(), *not_there(), *misnamed(), *untidy()]
+    wrong += [*misstarted()]
     wrong += [*unwrapped(), *calls.faults(), *names.faults(), *readmes.faults()]
     wrong += [*installed.faults()]
     print(

@@ -130,8 +130,8 @@ part_with hosts root debootstrap unshare sudo visudo faketime ip -- \
 part_with pages root mandoc zsh unshare ip visudo sudo faketime curl jq sqlite3 nginx openssl -- \
     pages
 part_with peers nginx haproxy openssl sqlite3 strace flock -- front
-part_with package-test root dpkg-buildpackage dh lintian systemd-analyze sudo faketime unshare ip \
-    nginx haproxy openssl strace epmd -- package_test
+part_with package-test root dpkg-buildpackage dh dh_python3 lintian systemd-analyze sudo faketime \
+    unshare ip nginx haproxy openssl strace epmd -- package_test
 part_with several root unshare mount -- bash tests/several/several.sh --short
 cat "$failures"
 echo "$passed passed, $failed failed"

@@ -23,13 +23,17 @@ command -v nginx >/dev/null || wanted+=(nginx-light)
 command -v haproxy >/dev/null || wanted+=(haproxy)
 command -v openssl >/dev/null || wanted+=(openssl)
 command -v dpkg-buildpackage >/dev/null && command -v dh >/dev/null || wanted+=(dpkg-dev debhelper)
+command -v dh_python3 >/dev/null || wanted+=(dh-python)
+for name in pip setuptools wheel; do
+    /usr/bin/python3 -c "import $name" 2>/dev/null || wanted+=("python3-$name")
+done
 command -v lintian >/dev/null || wanted+=(lintian)
 command -v mandoc >/dev/null || wanted+=(mandoc)
 command -v strace >/dev/null || wanted+=(strace)
 command -v zsh >/dev/null || wanted+=(zsh)
 /usr/bin/python3 -c 'import jsonschema' 2>/dev/null || wanted+=(python3-jsonschema)
 # (the packages of the relay and of the broker depend on these)
-for name in flask requests requests-unixsocket waitress pika; do
+for name in flask waitress pika; do
     /usr/bin/python3 -c "import ${name//-/_}" 2>/dev/null || wanted+=("python3-$name")
 done
 /usr/bin/python3 -c 'import pytest' 2>/dev/null || wanted+=(python3-pytest)

@@ -1,14 +1,15 @@
 #!/usr/bin/env bash
-# Looks through the relays, the broker's programs and the tools, with their tests: mypy in its
-# strictest form (pyproject.toml), and flake8, for Debian 12 has no ruff. It installs what it needs
-# of Debian, where this is root. The last line is 'N programs and modules: types and style fit'.
+# Looks through the client, the relays, the broker's programs and the tools, with their tests: mypy
+# in its strictest form (pyproject.toml), and flake8, for Debian 12 has no ruff. It installs what it
+# needs of Debian, where this is root. The last line is 'N programs and modules: types and style
+# fit'.
 set -euo pipefail
 cd "$(dirname "$0")/.."
 
 # (mypy reads the types of what is imported, so all of that has to be there)
 bash relays/install.sh mypy python3-typeshed python3-flake8 \
     python3-aiosmtpd python3-flask python3-jsonschema python3-pika python3-pytest \
-    python3-requests python3-requests-unixsocket python3-selenium python3-waitress
+    python3-requests python3-selenium python3-waitress
 
 # The files of a folder that are Python, with those programs that have no .py in their names.
 python_of() {
@@ -24,7 +25,7 @@ typed() {
         --no-error-summary "$@"
 }
 
-mapfile -t relays < <(python_of relays)
+mapfile -t relays < <(python_of relays steelnewt_client steelnewt_relay)
 mapfile -t broker < <(python_of broker)
 mapfile -t tools < <(python_of tools)
 mkdir -p build/types

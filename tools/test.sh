@@ -7,9 +7,9 @@
 set -euo pipefail
 cd "$(dirname "$0")/.."
 export PATH="$PATH:/usr/sbin:/sbin"
-export DESK="${DESK:-$PWD/build/desk}" PYTHONPATH=$PWD/tools
+export DESK="${DESK:-$PWD/build/desk}" PYTHONPATH=$PWD/tools:$PWD
 bash relays/install.sh python3-jsonschema python3-pytest python3-pytest-xdist sudo faketime util-linux \
-    iproute2 jq openssh-client tzdata procps sqlite3 python3-requests python3-requests-unixsocket \
+    iproute2 jq openssh-client tzdata procps sqlite3 \
     slapd ldap-utils python3-icalendar python3-recurring-ical-events
 if [ ! -x "$DESK" ]; then
     echo "there is no program $DESK: run make desk"

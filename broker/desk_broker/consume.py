@@ -1,7 +1,7 @@
 """Takes messages from a desk's queue and posts them to the desk, several at once (flight.py).
 
-A message leaves the queue only when the desk said `ack`, or refused it for good and the broker
-confirmed it in the queue of what was refused. Whatever else happens, it is tried again: a message
+A message leaves the queue only when the desk said `ack`, or refused it and the broker confirmed it
+in the queue of what was refused. Whatever else happens, it is tried again: a message
 may be posted twice, which changes nothing, and none is lost. One consumer for each desk.
 
 No message holds up those behind it by what a relay wrote into it: headers decide nothing
@@ -29,15 +29,19 @@ from pika.exceptions import NackError, UnroutableError
 
 from desk_broker import names, reading
 from desk_broker.backoff import Backoff
-from desk_broker.desk import Answer, Desk, Kind
 from desk_broker.flight import Acks, Delivery, Flight
 from desk_broker.settings import AWAY, BadSettings, Broker, required
 from desk_broker.tally import Tally
+from steelnewt_client.codes import Answer, Fate
+from steelnewt_client.desk import Desk, plain_desk
 
 LOG = logging.getLogger("desk-consume")
 PREFETCH = 256
 HEARTBEAT = 60  # seconds: more than a post to the desk may take
 EMPTY = 0.5  # seconds between two looks at a queue that is empty
+# What is said of a message that is put by. (One whose relay is to be mended would hold up all others
+# here: a person publishes it again.)
+PUT_BY = {Fate.FINAL: "refused for good", Fate.MEND: "refused until it is mended"}
 LOOK = 0.01  # seconds between two looks at a queue, while messages are on their way to the desk
 
 
@@ -173,9 +177,9 @@ class Consumer:
         answer: Answer,
     ) -> bool:
         """Whether the message may leave the queue; not, where it is time to stop before."""
-        if answer.kind is Kind.REFUSED and not self._put_by(connection, refusals, delivery, answer):
+        if answer.fate is not Fate.TAKEN and not self._put_by(connection, refusals, delivery, answer):
             return False
-        self.tally.done(answer.kind is Kind.TAKEN, delivery.lag())
+        self.tally.done(answer.fate is Fate.TAKEN, delivery.lag())
         return True
 
     def _put_by(
@@ -187,8 +191,8 @@ class Consumer:
     ) -> bool:
         """Puts what was refused into its own queue; whether the broker confirmed that."""
         LOG.warning(
-            "desk %s: refused for good: %s, relay %s, %d bytes",
-            self._name, answer.said, delivery.relay, len(delivery.body),
+            "desk %s: %s: %s, relay %s, %d bytes",
+            self._name, PUT_BY[answer.fate], answer.said, delivery.relay, len(delivery.body),
         )
         headers = {"code": answer.said, "relay": delivery.relay or "", "desk": self._name}
         properties = pika.BasicProperties(
@@ -233,7 +237,7 @@ def read(environment: Mapping[str, str]) -> Consumer:
     """The consumer that the environment describes (packaging/broker.conf)."""
     try:
         name = names.label(required(environment, "DESK_NAME"))
-        desk = Desk(required(environment, "DESK_URL"))
+        desk = plain_desk(required(environment, "DESK_URL"))
         tell_every = float(environment.get("TELL_EVERY", "30"))
     except ValueError as error:
         raise BadSettings(f"DESK_NAME, DESK_URL or TELL_EVERY: {error}") from error

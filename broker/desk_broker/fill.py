@@ -15,7 +15,8 @@ import time
 from collections.abc import Iterable
 
 from desk_broker.backoff import Backoff
-from desk_broker.desk import BadAddress, Desk, Kind
+from steelnewt_client.codes import Fate
+from steelnewt_client.desk import BadAddress, Desk, plain_desk
 
 PATIENCE = 120.0
 
@@ -25,11 +26,11 @@ def fill(desk: Desk, relay: str, bodies: Iterable[bytes]) -> tuple[int, list[str
     taken, refused = 0, []
     for body in bodies:
         backoff, until = Backoff(0.1, 5.0), time.monotonic() + PATIENCE
-        while (answer := desk.post(relay, body)).kind is Kind.WAITS:
+        while (answer := desk.post(relay, body)).fate is Fate.AGAIN:
             if time.monotonic() > until:
                 raise TimeoutError(f"the desk does not answer: {answer.said}")
             time.sleep(backoff.next())
-        if answer.kind is Kind.TAKEN:
+        if answer.fate is Fate.TAKEN:
             taken += 1
         else:
             refused.append(f"{answer.said}: {body[:80].decode('utf-8', 'replace')}")
@@ -44,7 +45,7 @@ def main() -> int:
     words = parser.parse_args()
     lines = (line.rstrip(b"\n") for line in sys.stdin.buffer)
     try:
-        taken, refused = fill(Desk(words.desk), words.relay, lines)
+        taken, refused = fill(plain_desk(words.desk), words.relay, lines)
     except (TimeoutError, BadAddress) as error:
         print(f"desk-fill: {error}", file=sys.stderr)
         return 1

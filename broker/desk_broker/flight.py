@@ -21,8 +21,9 @@ import pika
 
 from desk_broker import names
 from desk_broker.backoff import Backoff
-from desk_broker.desk import Answer, Desk, Kind, Post
 from desk_broker.tally import Tally
+from steelnewt_client.codes import Answer, Fate
+from steelnewt_client.desk import Desk, Post
 
 LOG = logging.getLogger("desk-consume")
 POSTS = 16  # at once
@@ -168,7 +169,7 @@ class Flight:
     def _begin(self, delivery: Delivery) -> None:
         try:
             if delivery.fault is not None or delivery.relay is None:
-                self._finish(delivery, Answer(Kind.REFUSED, delivery.fault or names.NO_RELAY))
+                self._finish(delivery, Answer(Fate.FINAL, delivery.fault or names.NO_RELAY))
                 return
             begun = self._desk.begin(delivery.relay, delivery.body)
             if isinstance(begun, Answer):
@@ -202,7 +203,7 @@ class Flight:
 
     def _judge(self, delivery: Delivery, answer: Answer, begun: float) -> None:
         is_first = bool(self._unanswered) and self._unanswered[0] is delivery
-        if answer.kind is not Kind.WAITS:
+        if answer.fate is not Fate.AGAIN:
             if is_first:
                 self._go_on_again()
             self._finish(delivery, answer)
@@ -251,7 +252,7 @@ class Flight:
         if number < TRIES:
             self._failed[delivery.tag] = number, time.monotonic() + PAUSE, delivery
         elif not self._is_stopping():
-            self._finish(delivery, Answer(Kind.REFUSED, names.FAILS))
+            self._finish(delivery, Answer(Fate.FINAL, names.FAILS))
 
     def _finish(self, delivery: Delivery, answer: Answer) -> None:
         self._failed.pop(delivery.tag, None)

@@ -2,7 +2,7 @@
 
 from __future__ import annotations
 
-import re
+from steelnewt_client.names import is_label
 
 MESSAGES = "desk.messages"  # the exchange that relays publish to; each desk's queue is bound to it
 REFUSED = "desk.refused"  # the exchange, and its one queue, for what a desk refuses for good
@@ -13,12 +13,11 @@ READER = "refused-reader"  # the account that may read what was refused
 NO_RELAY = "C1 NoRelay"  # an account published it that is no relay's
 EXPIRES = "C2 Expires"  # its relay gave it a time to live, which a desk that lags would outlast
 FAILS = "C3 Fails"  # the consumer failed at it, twice, or the broker gave it out too often
-LABEL = re.compile(r"[a-z][a-z0-9-]{0,31}")
 
 
 def label(text: str) -> str:
     """The text, where it can be the name of a desk or of a relay; else a ValueError."""
-    if LABEL.fullmatch(text) is None:
+    if not is_label(text):
         raise ValueError(f"{text!r} is no name: [a-z][a-z0-9-]*, up to 32 characters")
     return text
 
@@ -38,7 +37,7 @@ def queue(name: str) -> str:
 def desk_of(queue: str) -> str | None:
     """The desk whose queue this is."""
     name = queue.removeprefix("desk.")
-    return name if queue not in (name, REFUSED) and LABEL.fullmatch(name) else None
+    return name if queue not in (name, REFUSED) and is_label(name) else None
 
 
 def relay_of(user: str | None) -> str | None:
@@ -46,4 +45,4 @@ def relay_of(user: str | None) -> str | None:
     if user is None or not user.startswith(RELAY_USER):
         return None
     name = user.removeprefix(RELAY_USER)
-    return name if LABEL.fullmatch(name) else None
+    return name if is_label(name) else None

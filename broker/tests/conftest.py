@@ -1,4 +1,4 @@
-"""Where the package and the tests' ports are, and a desk that answers as it was told."""
+"""A desk that answers as it was told."""
 
 from __future__ import annotations
 
@@ -6,15 +6,11 @@ import http.server
 import pathlib
 import socket
 import socketserver
-import sys
 import threading
 from collections.abc import Iterator
 from typing import Any
 
 import pytest
-
-ROOT = pathlib.Path(__file__).resolve().parents[2]
-sys.path[:0] = [str(ROOT / "broker"), str(ROOT)]
 
 
 class Scripted(http.server.ThreadingHTTPServer):

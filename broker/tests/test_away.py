@@ -10,10 +10,10 @@ from collections.abc import Iterator
 
 import pytest
 from desk_broker.consume import Consumer
-from desk_broker.desk import Desk
 from desk_broker.outbox import NotConfirmed
 from desk_broker.publish import Publisher
 from desk_broker.settings import Broker
+from steelnewt_client.desk import Desk
 from tests.common.ports import free_port
 
 # a resolver that does not answer takes its time to say so

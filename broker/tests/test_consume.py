@@ -13,13 +13,14 @@ import pytest
 from desk_broker import consume, flight
 from desk_broker.consume import Consumer
 from desk_broker.consume import Link as RealLink
-from desk_broker.desk import Answer, Desk, Kind
 from desk_broker.flight import Acks, Delivery, Flight
 from desk_broker.settings import BadSettings, Broker
+from steelnewt_client.codes import Answer, Fate
+from steelnewt_client.desk import Desk
 from pika.exceptions import AMQPConnectionError, NackError
 
-TAKEN, REFUSED = Answer(Kind.TAKEN, "ack"), Answer(Kind.REFUSED, "A1 UnknownPerson")
-BUSY = Answer(Kind.WAITS, "503 K4 Storage")
+TAKEN, REFUSED = Answer(Fate.TAKEN, "ack"), Answer(Fate.FINAL, "A1 UnknownPerson")
+BUSY = Answer(Fate.AGAIN, "503 K4 Storage")
 BROKER = Broker([("127.0.0.1", 1)], "desk-a", "secret")
 
 

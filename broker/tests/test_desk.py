@@ -9,70 +9,72 @@ from pathlib import Path
 
 import pytest
 from conftest import Scripted
-from desk_broker.desk import Desk, Kind, judge
+from steelnewt_client.codes import Fate, judge
+from steelnewt_client.desk import Desk, plain_desk
 from tests.common.ports import free_port
 
 
 @pytest.mark.parametrize(
-    ("status", "text", "kind"),
+    ("status", "text", "fate"),
     [
-        (200, "ack\n", Kind.TAKEN),
-        (400, "M2 NotCanonical\n", Kind.REFUSED),
-        (403, "A6 CommandOutside\n", Kind.REFUSED),
-        (404, "T3 NoRoute\n", Kind.REFUSED),
-        (413, "M1 TooLong\n", Kind.REFUSED),
-        (503, "K4 Storage\n", Kind.WAITS),
-        (503, "K5 NoMemory\n", Kind.WAITS),
+        (200, "ack\n", Fate.TAKEN),
+        (400, "M2 NotCanonical\n", Fate.FINAL),
+        (403, "A6 CommandOutside\n", Fate.FINAL),
+        (403, "P1 UnknownRelay\n", Fate.MEND),
+        (404, "T3 NoRoute\n", Fate.MEND),
+        (413, "M1 TooLong\n", Fate.FINAL),
+        (503, "K4 Storage\n", Fate.AGAIN),
+        (503, "K5 NoMemory\n", Fate.AGAIN),
         # the request was cut, which is no fault of the message
-        (400, "T7 ShortBody\n", Kind.WAITS),
+        (400, "T7 ShortBody\n", Fate.AGAIN),
         # not the desk's words: something stands between
-        (200, "<html>it works</html>", Kind.WAITS),
-        (200, "", Kind.WAITS),
-        (403, "<html>403 Forbidden</html>", Kind.WAITS),
-        (404, "", Kind.WAITS),
-        (429, "slow down", Kind.WAITS),
-        (502, "M2 NotCanonical\n", Kind.WAITS),
-        (302, "ack\n", Kind.WAITS),
+        (200, "<html>it works</html>", Fate.AGAIN),
+        (200, "", Fate.AGAIN),
+        (403, "<html>403 Forbidden</html>", Fate.AGAIN),
+        (404, "", Fate.AGAIN),
+        (429, "slow down", Fate.AGAIN),
+        (502, "M2 NotCanonical\n", Fate.AGAIN),
+        (302, "ack\n", Fate.AGAIN),
     ],
 )
-def test_judge(status: int, text: str, kind: Kind) -> None:
-    assert judge(status, text).kind is kind
+def test_judge(status: int, text: str, fate: Fate) -> None:
+    assert judge(status, text).fate is fate
 
 
 def test_posts_to_the_relays_route(scripted: Scripted) -> None:
     scripted.replies = [(200, "ack\n")]
-    assert Desk(scripted.address).post("web", b'{"a":1}').kind is Kind.TAKEN
+    assert Desk(scripted.address).post("web", b'{"a":1}').fate is Fate.TAKEN
     assert scripted.seen == [("/v1/relays/web/messages", b'{"a":1}')]
     assert "Transfer-Encoding" not in scripted.fields[0]
 
 
 def test_an_empty_message_has_a_length(scripted: Scripted) -> None:
     scripted.replies = [(400, "M2 NotCanonical\n")]
-    assert Desk(scripted.address).post("web", b"").kind is Kind.REFUSED
+    assert Desk(scripted.address).post("web", b"").fate is Fate.FINAL
     assert scripted.fields[0]["Content-Length"] == "0"
 
 
 def test_a_long_message_is_not_sent(scripted: Scripted) -> None:
     answer = Desk(scripted.address).post("web", b"x" * 16_385)
-    assert (answer.kind, answer.said) == (Kind.REFUSED, "M1 TooLong")
+    assert (answer.fate, answer.said) == (Fate.FINAL, "M1 TooLong")
     assert scripted.seen == []
 
 
 def test_the_longest_message_is_sent(scripted: Scripted) -> None:
     scripted.replies = [(200, "ack\n")]
-    assert Desk(scripted.address).post("web", b"x" * 16_384).kind is Kind.TAKEN
+    assert Desk(scripted.address).post("web", b"x" * 16_384).fate is Fate.TAKEN
 
 
 def test_a_peer_that_hangs_up(scripted: Scripted) -> None:
     scripted.replies = [None]
     answer = Desk(scripted.address).post("web", b"{}")
-    assert (answer.kind, answer.said) == (Kind.WAITS, "no reply: RemoteDisconnected")
+    assert (answer.fate, answer.said) == (Fate.AGAIN, "no reply: RemoteDisconnected")
 
 
 def test_a_peer_that_is_silent(scripted: Scripted) -> None:
     scripted.replies = [5.0]
     answer = Desk(scripted.address, patience=0.2).post("web", b"{}")
-    assert (answer.kind, answer.said) == (Kind.WAITS, "no reply: timed out")
+    assert (answer.fate, answer.said) == (Fate.AGAIN, "no reply: timed out")
 
 
 INCOMPLETE, DISCONNECTED = "no reply: IncompleteRead", "no reply: RemoteDisconnected"
@@ -100,31 +102,31 @@ class Raw:
 
 
 @pytest.mark.parametrize(
-    ("pieces", "kind", "said"),
+    ("pieces", "fate", "said"),
     [
-        ([b"HTTP/1.1 200 OK\r\nContent-Length: 4\r\n\r\nack\n"], Kind.TAKEN, "ack"),
-        ([b"HTTP/1.1 200 OK\r\nCon", b"tent-length:4\r\n\r\na", b"ck\n"], Kind.TAKEN, "ack"),
-        ([b"HTTP/1.0 200\r\n\r\nack", b"\n"], Kind.TAKEN, "ack"),
-        ([b"HTTP/1.1 403 No\r\nContent-Length: 12\r\n\r\nA3 NotAsker\n"], Kind.REFUSED, "A3"),
+        ([b"HTTP/1.1 200 OK\r\nContent-Length: 4\r\n\r\nack\n"], Fate.TAKEN, "ack"),
+        ([b"HTTP/1.1 200 OK\r\nCon", b"tent-length:4\r\n\r\na", b"ck\n"], Fate.TAKEN, "ack"),
+        ([b"HTTP/1.0 200\r\n\r\nack", b"\n"], Fate.TAKEN, "ack"),
+        ([b"HTTP/1.1 403 No\r\nContent-Length: 12\r\n\r\nA3 NotAsker\n"], Fate.FINAL, "A3"),
         # cut short, longer than it says, in chunks, or none at all
-        ([b"HTTP/1.1 200 OK\r\nContent-Length: 5\r\n\r\nack\n"], Kind.WAITS, INCOMPLETE),
-        ([b"HTTP/1.1 403 No\r\nContent-Length: 12\r\n\r\nA3 Not"], Kind.WAITS, INCOMPLETE),
-        ([b"HTTP/1.1 200 OK\r\n\r\nack\nmore"], Kind.WAITS, "200 ack more"),
-        ([b"HTTP/1.1 200 OK\r\nTransfer-Encoding: chunked\r\n\r\n" + CHUNKS], Kind.WAITS, "200 4"),
-        ([b"HTTP/1.1 200 OK\r\nContent-Le"], Kind.WAITS, DISCONNECTED),
-        ([b"SSH-2.0-OpenSSH_9.2\r\n"], Kind.WAITS, DISCONNECTED),
-        ([b"x" * 9_000] * 3, Kind.WAITS, DISCONNECTED),
+        ([b"HTTP/1.1 200 OK\r\nContent-Length: 5\r\n\r\nack\n"], Fate.AGAIN, INCOMPLETE),
+        ([b"HTTP/1.1 403 No\r\nContent-Length: 12\r\n\r\nA3 Not"], Fate.AGAIN, INCOMPLETE),
+        ([b"HTTP/1.1 200 OK\r\n\r\nack\nmore"], Fate.AGAIN, "200 ack more"),
+        ([b"HTTP/1.1 200 OK\r\nTransfer-Encoding: chunked\r\n\r\n" + CHUNKS], Fate.AGAIN, "200 4"),
+        ([b"HTTP/1.1 200 OK\r\nContent-Le"], Fate.AGAIN, DISCONNECTED),
+        ([b"SSH-2.0-OpenSSH_9.2\r\n"], Fate.AGAIN, DISCONNECTED),
+        ([b"x" * 9_000] * 3, Fate.AGAIN, DISCONNECTED),
     ],
 )
-def test_replies_by_their_bytes(pieces: list[bytes], kind: Kind, said: str) -> None:
+def test_replies_by_their_bytes(pieces: list[bytes], fate: Fate, said: str) -> None:
     answer = Desk(Raw(*pieces).address).post("web", b"{}")
-    assert answer.kind is kind
+    assert answer.fate is fate
     assert answer.said.startswith(said) or answer.said == "no reply: ConnectionResetError"
 
 
 def test_it_does_not_wait_for_the_end_of_a_whole_reply() -> None:
     peer = Raw(b"HTTP/1.1 200 OK\r\nContent-Length: 4\r\n\r\nack\n", stays=True)
-    assert Desk(peer.address, patience=60).post("web", b"{}").kind is Kind.TAKEN
+    assert Desk(peer.address, patience=60).post("web", b"{}").fate is Fate.TAKEN
     peer.over.set()
 
 
@@ -134,12 +136,12 @@ def test_a_slash_behind_the_port() -> None:
 
 def test_a_socket_that_is_not_there(tmp_path: Path) -> None:
     answer = Desk(f"unix:{tmp_path}/desk.sock").post("web", b"{}")
-    assert (answer.kind, answer.said) == (Kind.WAITS, "no reply: FileNotFoundError")
+    assert (answer.fate, answer.said) == (Fate.AGAIN, "no reply: FileNotFoundError")
 
 
 def test_nobody_listens() -> None:
     answer = Desk(f"http://127.0.0.1:{free_port()}").post("web", b"{}")
-    assert (answer.kind, answer.said) == (Kind.WAITS, "no reply: ConnectionRefusedError")
+    assert (answer.fate, answer.said) == (Fate.AGAIN, "no reply: ConnectionRefusedError")
 
 
 @pytest.mark.parametrize(
@@ -147,5 +149,5 @@ def test_nobody_listens() -> None:
     ["", "127.0.0.1:80", "https://desk", "http://", "http://desk/v1", "http://desk:x", "unix:desk"],
 )
 def test_no_address(address: str) -> None:
-    with pytest.raises(ValueError, match="."):
-        Desk(address)
+    with pytest.raises(ValueError, match="is neither unix:/PATH nor http://HOST:PORT"):
+        plain_desk(address)

@@ -10,11 +10,12 @@ from typing import Any, cast
 
 import pytest
 from desk_broker import flight as module
-from desk_broker.desk import Answer, Desk, Kind, Post
 from desk_broker.flight import AHEAD, POSTS, Acks, Delivery, Flight
 from desk_broker.tally import Tally
+from steelnewt_client.codes import Answer, Fate
+from steelnewt_client.desk import Desk, Post
 
-TAKEN, BUSY = Answer(Kind.TAKEN, "ack"), Answer(Kind.WAITS, "503 K4 Storage")
+TAKEN, BUSY = Answer(Fate.TAKEN, "ack"), Answer(Fate.AGAIN, "503 K4 Storage")
 ACK, STORAGE = (b"HTTP/1.1 %s\r\nContent-Length: %d\r\n\r\n%s" % reply for reply in (
     (b"200 OK", 4, b"ack\n"), (b"503 No", 11, b"K4 Storage\n"),
 ))
@@ -238,7 +239,7 @@ def test_one_at_which_it_fails_holds_up_none(
     flight = started(Fails(b"3", often), 10)
     with caplog.at_level(logging.ERROR):
         assert answers(flight, 9) == {tag: TAKEN for tag in range(1, 11) if tag != 3}
-        last = TAKEN if often == 1 else Answer(Kind.REFUSED, "C3 Fails")
+        last = TAKEN if often == 1 else Answer(Fate.FINAL, "C3 Fails")
         assert answers(flight, 1) == {3: last}
     assert caplog.text.count("failed at a message") == often
     flight.end()

@@ -11,10 +11,10 @@ import time
 from collections.abc import Callable
 from pathlib import Path
 
-from desk_broker.desk import Answer
-from desk_broker.desk import Desk as Address
 from desk_broker.flight import POSTS, Delivery, Flight
 from desk_broker.tally import Tally
+from steelnewt_client.codes import Answer
+from steelnewt_client.desk import Desk as Address
 from tests.several import stub
 from tests.several.desks import Desk
 

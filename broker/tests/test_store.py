@@ -12,8 +12,8 @@ from pathlib import Path
 import pytest
 from conftest import Scripted
 from desk_broker import snapshot
-from desk_broker.desk import Desk
 from desk_broker.fill import fill
+from steelnewt_client.desk import Desk
 
 
 def store(path: Path, bodies: Iterable[str]) -> sqlite3.Connection:

@@ -1,14 +1,11 @@
 """What the tests share."""
 
-import sys
 from collections.abc import Iterator
 from pathlib import Path
 
 import pytest
 
-sys.path.insert(0, str(Path(__file__).resolve().parents[2]))
-
-from relays.tests.site import Site  # noqa: E402
+from relays.tests.site import Site
 
 
 @pytest.fixture

@@ -18,7 +18,8 @@ cp -r "$here/relays" "$here/examples" "$here/docs" "$clone/"
 # What the package would put in place, and its script.
 (cd "$here" && PREFIX=/usr DESTDIR=$folder/tree bash scripts/install.sh > /dev/null)
 mkdir "$root/root/package"
-(cd "$folder/tree" && xargs tar -c < "$here/packaging/debian/steelnewt-relay.install") |
+client=usr/lib/python3/dist-packages/steelnewt_client
+(cd "$folder/tree" && xargs tar -c $client < "$here/packaging/debian/steelnewt-relay.install") |
     tar -x -C "$root/root/package" --no-same-owner
 cp "$here/packaging/debian/steelnewt-relay.postinst" "$root/root/postinst"
 cp "$desk" "$clone/desk"
@@ -32,8 +33,6 @@ case $* in *steelnewt-relay_*)
     ;;
 esac
 E
-# (dpkg knows no such package here)
-printf '#!/bin/sh\nexit 0\n' > "$root/usr/local/sbin/py3compile"
 cp "$here/relays/tests/systemctl.sh" "$root/usr/local/sbin/systemctl"
-chmod 755 "$root/usr/local/sbin/"{apt,py3compile,systemctl}
+chmod 755 "$root/usr/local/sbin/"{apt,systemctl}
 exec chroot "$root" /bin/bash /root/clone/relays/tests/followed.sh

@@ -11,7 +11,7 @@ import time
 from contextlib import closing
 from pathlib import Path
 
-from relays.desk import Desk
+from steelnewt_client.desk import Desk
 
 ROOT = Path(__file__).resolve().parents[2]
 DESK = os.environ.get("DESK", str(ROOT / "build" / "desk"))

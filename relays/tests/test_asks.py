@@ -10,19 +10,20 @@ from datetime import datetime, timedelta
 
 import pytest
 
-from relays import sharing
-from relays.config import read_config
-from relays.desk import Desk
-from relays.events import Finder
-from relays.messages import Verdict, Wish
-from relays.moments import now, of_stamp, stamp
-from relays.notices import Notices, look
-from relays.outbox import Kept
-from relays.sharing import Shared
-from relays.standing import Knowledge, State
 from relays.tests.counting import Counter, counted
 from relays.tests.site import SECRET, Site
 from relays.tests.test_outbox import answering
+from steelnewt_client.codes import Fate
+from steelnewt_client.desk import Desk
+from steelnewt_client.messages import Verdict, Wish
+from steelnewt_client.moments import now, of_stamp, stamp
+from steelnewt_relay import sharing
+from steelnewt_relay.config import read_config
+from steelnewt_relay.events import Finder
+from steelnewt_relay.notices import Notices, look
+from steelnewt_relay.outbox import Kept
+from steelnewt_relay.sharing import Shared
+from steelnewt_relay.standing import Knowledge, State
 
 ASK = "ask db-care --on db1 --as root --for 1h --yes --again /usr/bin/id"
 
@@ -42,7 +43,7 @@ def brought(site: Site, wish: Wish, *verdicts: tuple[str, str, datetime], by: st
         verdict = Verdict(person, kind, by, kept.request.no, stamp(at))
         messages.append(outbox.keep_verdict(verdict))
     for it in messages:
-        assert desk.post(it.message.text()).is_ack, it
+        assert desk.post("chat", it.message.text().encode()).fate is Fate.TAKEN, it
         outbox.answered(it.id, "acked")
     outbox.close()
     return kept

@@ -10,11 +10,11 @@ from selenium import webdriver
 from selenium.webdriver.common.by import By
 from selenium.webdriver.common.keys import Keys
 
-from relays.moments import now, of_stamp, stamp
 from relays.tests import sudo_says
 from relays.tests.chromium import browser, press, see
 from relays.tests.front import Front
 from relays.tests.site import ROOT, Site
+from steelnewt_client.moments import now, of_stamp, stamp
 
 SHOTS = ROOT / "build" / "relays-screenshots"
 # The contrast of each text with what is behind it, by WCAG 2: 4.5, and 3 for large texts.

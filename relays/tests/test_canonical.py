@@ -6,8 +6,8 @@ import subprocess
 from collections.abc import Callable
 from typing import Any
 
-from relays.messages import Request, Verdict, Wish, canonical
 from relays.tests.site import BASE, DESK, ROSTER
+from steelnewt_client.messages import Request, Verdict, Wish, canonical
 
 COUNT = 2000
 ODD = "abz09._-/ \\\"'\b\f\n\r\t\x00\x1f\x7fäß€漢😀\u2028,:=[]{}"

@@ -9,15 +9,15 @@ from types import FrameType
 
 import pytest
 
-from relays.config import read_config
-from relays.moments import now, stamp
-from relays.page import Visit, create_app
-from relays.standing import Board
 from relays.tests.front import Front
 from relays.tests.site import SECRET, Site
 from relays.tests.test_crowd import opened
 from relays.tests.test_page import ask, get
-from relays.told import entry_of, read_entry, read_names
+from steelnewt_client.moments import now, stamp
+from steelnewt_client.told import entry_of, read_entry, read_names
+from steelnewt_relay.config import read_config
+from steelnewt_relay.page import Visit, create_app
+from steelnewt_relay.standing import Board
 
 FEW, MANY = 60, 360
 # Calls of functions for each request more that waits: with the board, and by somebody who shares it.

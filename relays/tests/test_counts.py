@@ -8,15 +8,15 @@ from pathlib import Path
 
 import pytest
 
-from relays.desk import Desk
-from relays.messages import Verdict, Wish
-from relays.moments import now, stamp
-from relays.outbox import UNASKED, Kept, Outbox
-from relays.posting import post_kept
 from relays.tests.front import Front
 from relays.tests.site import Site
 from relays.tests.test_outbox import answering
 from relays.tests.test_page import get, post, token
+from steelnewt_client.desk import Desk
+from steelnewt_client.messages import Verdict, Wish
+from steelnewt_client.moments import now, stamp
+from steelnewt_relay.outbox import UNASKED, Kept, Outbox
+from steelnewt_relay.posting import post_kept
 
 LINE = "ask {ceiling} --on db1 --as root --for 10m --yes --json --again {command}"
 

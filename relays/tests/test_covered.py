@@ -6,12 +6,11 @@ import re
 from collections.abc import Iterator
 from pathlib import Path
 
-from relays import person, program
-from relays.config import read_config
-from relays.page import create_app
-from relays.ssh import ANSWERS
 from relays.tests.site import Site
-from relays.words import parser
+from steelnewt_relay import page, person, program
+from steelnewt_relay.config import read_config
+from steelnewt_relay.ssh import ANSWERS
+from steelnewt_relay.words import parser
 
 HERE = Path(__file__).parent
 # What each word takes.
@@ -107,8 +106,8 @@ def test_each_word_of_the_programs_has_a_test() -> None:
 
 
 def test_each_thing_that_the_page_takes_has_a_test(quiet_site: Site) -> None:
-    rules = create_app(read_config(str(quiet_site.config))).url_map.iter_rules()
-    source = (HERE.parent / "page.py").read_text(encoding="utf-8")
+    rules = page.create_app(read_config(str(quiet_site.config))).url_map.iter_rules()
+    source = Path(page.__file__).read_text(encoding="utf-8")
     asked = r'(?:args|form|words|given)(?:\.get\(|\[)"([a-z]+)"|"([a-z]+)" in flask.request'
     fields = {one or other for one, other in re.findall(asked, source)}
     fields |= set(re.findall(r'Cards\("([a-z]+)"', source)) - {"page"}

@@ -19,14 +19,14 @@ from pathlib import Path
 
 import requests
 
-from relays.messages import Request, Wish
-from relays.moments import now, stamp
-from relays.outbox import Outbox
 from relays.tests.front import Front
 from relays.tests.site import BASE, DESK, Site
 from relays.tests.test_page import ASKED, token
 from relays.tests.test_tls import READER, fronted
-from scripts.stalls import Machine, Mark
+from steelnewt_client.messages import Request, Wish
+from steelnewt_client.moments import now, stamp
+from steelnewt_relay.outbox import Outbox
+from tests.common.stalls import Machine, Mark
 
 SECONDS = float(os.environ.get("CROWD", "0"))
 IS_WHOLE = SECONDS > 0

@@ -8,7 +8,7 @@ from pathlib import Path
 import pytest
 
 from relays.tests.site import DESK, ROOT
-from relays.words import USAGE
+from steelnewt_relay.words import USAGE
 
 SPACES = ["unshare", "--mount", "--net", "--pid", "--fork", "--kill-child", "--mount-proc"]
 

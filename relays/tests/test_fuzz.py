@@ -16,13 +16,13 @@ import pytest
 from flask.testing import FlaskClient
 from werkzeug.datastructures import Headers
 
-from relays import ssh
-from relays.config import Config, read_config
-from relays.moments import now, stamp
-from relays.page import create_app
 from relays.tests.site import SECRET, Site
 from relays.tests.test_outbox import WISH, answering
 from relays.tests.test_page import token
+from steelnewt_client.moments import now, stamp
+from steelnewt_relay import ssh
+from steelnewt_relay.config import Config, read_config
+from steelnewt_relay.page import create_app
 
 COUNT = int(os.environ.get("FUZZ", "2000")) // 4
 SEED = int(os.environ.get("FUZZ_SEED", "53"))

@@ -8,16 +8,16 @@ from pathlib import Path
 
 import pytest
 
-from relays.desk import Desk, Silent
-from relays.messages import BadWord, Request, Wish, canonical, command_of
-from relays.moments import now, of_stamp, stamp
-from relays.outbox import Outbox
-from relays.posting import post_one
 from relays.tests.front import Front
 from relays.tests.site import DESK, Site
 from relays.tests.test_outbox import AT, WISH, answering
 from relays.tests.test_page import confirmation, post, token
-from relays.words import parse, wish_of
+from steelnewt_client.desk import Desk, Silent
+from steelnewt_client.messages import BadWord, Request, Wish, canonical, command_of
+from steelnewt_client.moments import now, of_stamp, stamp
+from steelnewt_relay.outbox import Outbox
+from steelnewt_relay.posting import post_one
+from steelnewt_relay.words import parse, wish_of
 
 ASK = "ask db-care --on db1 --as root --for 1h --yes"
 WINDOW = ("20260105090000Z", "20260105100000Z")

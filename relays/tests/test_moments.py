@@ -5,7 +5,8 @@ from zoneinfo import ZoneInfo
 
 import pytest
 
-from relays.moments import BadTime, length_of, moment_of, shown, spoken, stamp
+from steelnewt_client.moments import stamp
+from steelnewt_relay.moments import BadTime, length_of, moment_of, shown, spoken
 
 BERLIN = ZoneInfo("Europe/Berlin")
 NOON = datetime(2026, 1, 5, 12, 0, 0, tzinfo=UTC)

@@ -19,16 +19,16 @@ from pathlib import Path
 import pytest
 from aiosmtpd.controller import Controller
 
-from relays.config import read_config
-from relays.events import Event, Finder
-from relays.moments import now, of_stamp
-from relays.notices import Notices, look, run
-from relays.outbox import Outbox
-from relays.standing import Knowledge
 from relays.tests.front import AUTHORITY
 from relays.tests.site import ROOT, Site
 from relays.tests.test_fuzz import answer
 from relays.tests.test_outbox import AT, WISH
+from steelnewt_client.moments import now, of_stamp
+from steelnewt_relay.config import read_config
+from steelnewt_relay.events import Event, Finder
+from steelnewt_relay.notices import Notices, look, run
+from steelnewt_relay.outbox import Outbox
+from steelnewt_relay.standing import Knowledge
 from tests.common.ports import free_port
 
 ASK = "ask db-care --on db1 --as root --for 1h --yes --again --why disk full /usr/bin/id"

@@ -9,15 +9,15 @@ import subprocess
 import time
 from datetime import timedelta
 
-from relays.admission import objections
-from relays.config import read_config
-from relays.messages import Request, Wish
-from relays.moments import now, of_stamp, stamp
-from relays.page import create_app
-from relays.roster import Roster
 from relays.tests.site import BASE, DESK, ROSTER, SECRET, Site
 from relays.tests.test_fuzz import answer
 from relays.tests.test_page import token
+from steelnewt_client.messages import Request, Wish
+from steelnewt_client.moments import now, of_stamp, stamp
+from steelnewt_relay.admission import objections
+from steelnewt_relay.config import read_config
+from steelnewt_relay.page import create_app
+from steelnewt_relay.roster import Roster
 
 ASK = "ask db-care --on db1 --as root --for 90m --yes --again --why disk full --ticket T-1"
 COMMANDS = [

@@ -9,11 +9,11 @@ from pathlib import Path
 
 import pytest
 
-from relays.desk import Desk
-from relays.messages import Verdict, Wish, read
-from relays.outbox import Outbox, OutOfNumbers
-from relays.posting import post_kept
 from relays.tests.site import Site
+from steelnewt_client.desk import Desk
+from steelnewt_client.messages import Verdict, Wish, read
+from steelnewt_relay.outbox import Outbox, OutOfNumbers
+from steelnewt_relay.posting import post_kept
 
 WISH = Wish.of("db-care", ["db1"], "root", ["/usr/bin/id"], ("20260105090000Z", "20260105100000Z"))
 AT = "20260105080000Z"

@@ -10,10 +10,10 @@ from pathlib import Path
 import pytest
 from itsdangerous import BadSignature, URLSafeTimedSerializer
 
-from relays.config import BadConfig, read_config
-from relays.page import check_place
 from relays.tests.site import RELAY, ROOT, SECRET, SIGNING_KEY, Site
-from scripts.ports import free_port
+from steelnewt_relay.config import BadConfig, read_config
+from steelnewt_relay.page import check_place
+from tests.common.ports import free_port
 
 
 def changed(site: Site, old: str, new: str) -> str:

@@ -11,16 +11,16 @@ from pathlib import Path
 import pytest
 from flask.testing import FlaskClient
 
-from relays.config import BadConfig, read_config
-from relays.messages import BadWord
-from relays.outbox import Outbox
-from relays.page import create_app
-from relays.reasons import Reason, demand_of
 from relays.tests.site import RELAY, SECRET, Site
 from relays.tests.test_fuzz import answer
 from relays.tests.test_outbox import AT, WISH
 from relays.tests.test_page import ASKED, token
-from relays.words import parse
+from steelnewt_client.messages import BadWord
+from steelnewt_relay.config import BadConfig, read_config
+from steelnewt_relay.outbox import Outbox
+from steelnewt_relay.page import create_app
+from steelnewt_relay.reasons import Reason, demand_of
+from steelnewt_relay.words import parse
 
 LINE = "ask db-care --on db1 --as root --for 1h --yes --again"
 WORDS = "--ticket OPS-7 --why the disk of db1 is full"

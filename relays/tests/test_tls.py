@@ -9,8 +9,8 @@ from pathlib import Path
 
 import pytest
 
-from relays.config import BadConfig, read_config
 from relays.tests.site import ROOT, Site, wait_for_port
+from steelnewt_relay.config import BadConfig, read_config
 from tests.common.ports import free_port
 
 FRONT = ROOT / "examples" / "nginx" / "desk.conf"

@@ -5,8 +5,8 @@ import tomllib
 from pathlib import Path
 from typing import Any
 
-from relays.messages import canonical
 from relays.tests.site import DESK, ROOT
+from steelnewt_client.messages import canonical
 
 
 def read(name: str) -> dict[str, Any]:

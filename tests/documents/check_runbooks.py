@@ -714,15 +714,15 @@ def prepare_tools(room: Room) -> None:
     folder, name = os.path.split(PROGRAM)
     audit = os.path.join(folder, name.replace("desk", "desk-audit", 1))
     shutil.copy(audit, room.path("/usr/local/bin/desk-audit"))
-    for source, target in (("tools", "tools"), ("relays", "relay/relays")):
-        place = f"/usr/local/share/{target}"
+    for source in ("steelnewt_client", "steelnewt_relay", "relays", "tools"):
+        place = f"/usr/local/share/desk/{source}"
         shutil.copytree(os.path.join(desk.ROOT, source), room.path(place), dirs_exist_ok=True)
         programs = ("desk-relay", "desk-relay-person", "desk-change-roster", "desk-lint")
         for program in programs:
             if os.path.exists(room.path(f"{place}/{program}")):
                 room.run(f"ln -sfn {place}/{program} /usr/local/bin/{program}")
     os.makedirs(room.path("/usr/libexec/steelnewt"), exist_ok=True)
-    room.run("cp /usr/local/share/relay/relays/notify-mail /usr/libexec/steelnewt/")
+    room.run("cp /usr/local/share/desk/relays/notify-mail /usr/libexec/steelnewt/")
     # (it may be a link to elsewhere)
     room.run("rm -f /usr/sbin/sendmail")
     room.write("/usr/sbin/sendmail", "#!/bin/sh\numask 0\ncat >> /tmp/mails\n", 0o755)
@@ -790,8 +790,8 @@ def in_a_root(*more: str) -> int:
 def main() -> None:
     if os.geteuid() != 0:
         sys.exit("check_runbooks.py needs root: it follows the page in a root of its own")
-    installs = [os.path.join(desk.ROOT, "relays", "install.sh"), "python3-requests"]
-    subprocess.run(["bash", *installs, "python3-requests-unixsocket", "openssh-client"], check=True)
+    installs = [os.path.join(desk.ROOT, "relays", "install.sh"), "openssh-client"]
+    subprocess.run(["bash", *installs], check=True)
     sys.exit(in_a_root())
 
 

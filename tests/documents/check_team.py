@@ -30,8 +30,10 @@ TEXT = desk.read("docs", "TEAM.md")
 MOST = 12 * 1024
 DEBIAN = os.path.join(desk.ROOT, "packaging", "debian")
 TREES = "/packages"
+PACKAGES = ("steelnewt", "steelnewt-host", "steelnewt-relay", "steelnewt-tools")
+PACKAGES += ("python3-steelnewt-client",)
 NEEDED = "adduser curl nginx-light openssl openssh-client openssh-server python3-flask"
-NEEDED += " python3-itsdangerous python3-jsonschema python3-requests python3-requests-unixsocket"
+NEEDED += " python3-itsdangerous python3-jsonschema python3-pip python3-setuptools python3-wheel"
 NEEDED += " python3-waitress sqlite3 sudo"
 PEOPLE = ("ann", "ben", "carol")
 SSH = "Host desk\n    HostName desk.example\n    User desk-relay\n"
@@ -44,7 +46,7 @@ UNITS += check_team_rest.UNITS
 APT = f"""#!/bin/bash
 # each package's files, and its script; what is Debian's is there
 for word; do
-    case $word in ./steelnewt*_*.deb) ;; *) continue ;; esac
+    case $word in ./steelnewt*_*.deb | ./python3-steelnewt*_*.deb) ;; *) continue ;; esac
     name=${{word#./}} name=${{name%%_*}}
     tar -C {TREES}/$name -c . | tar -C / -x --keep-directory-symlink
     [ ! -e {TREES}/$name.postinst ] || sh {TREES}/$name.postinst configure ''
@@ -53,7 +55,7 @@ done
 # the packages themselves; what they need of Debian is there
 DPKG = """#!/bin/bash
 for word; do
-    case $word in ./steelnewt*_*.deb) files+=("$word") ;; esac
+    case $word in ./steelnewt*_*.deb | ./python3-steelnewt*_*.deb) files+=("$word") ;; esac
 done
 [ -z "$files" ] || dpkg --force-unsafe-io --no-triggers -i "${files[@]}"
 """
@@ -63,7 +65,7 @@ def built(room: Room) -> None:
     """The packages of build/deb, where their administrator has them."""
     folder = os.path.join(desk.BUILD, "deb")
     found = [it for it in os.listdir(folder) if it.endswith(".deb")]
-    room.holds("the packages are built: bash scripts/deb.sh", len(found) == 5, found)
+    room.holds("the packages are built: bash scripts/deb.sh", len(found) == 6, found)
     for name in found:
         shutil.copy(os.path.join(folder, name), room.path("/root"))
 
@@ -75,7 +77,7 @@ def packages(room: Room) -> None:
     environment = {**os.environ, "PREFIX": "/usr", "DESTDIR": tree}
     subprocess.run(words, env=environment, stdout=subprocess.DEVNULL, check=True)
     shutil.copy(PROGRAM, f"{tree}/usr/bin/desk")
-    for name in ("steelnewt", "steelnewt-host", "steelnewt-relay", "steelnewt-tools"):
+    for name in PACKAGES:
         os.makedirs(room.path(f"{TREES}/{name}"))
         with open(f"{DEBIAN}/{name}.install", encoding="utf-8") as file:
             listed = " ".join(file.read().split())
@@ -93,7 +95,7 @@ def prepare(room: Room, is_built: bool) -> None:
     if is_built:
         stand_ins["apt"] = DPKG
     else:
-        stand_ins |= {"apt": APT, "py3compile": "#!/bin/sh\n", "pam-auth-update": "#!/bin/sh\n"}
+        stand_ins |= {"apt": APT, "pam-auth-update": "#!/bin/sh\n"}
         packages(room)
     for name, text in stand_ins.items():
         room.write(f"{BOOK}/{name}", text.replace("/usr/local/bin/desk-relay", "desk-relay"), 0o755)

@@ -146,7 +146,7 @@ def later_on(trial: "Trial", deb: str, later: str) -> None:
         kept = trial.read(CONF).startswith("# ours\n") and os.path.exists(trial.path(PASSWORD))
         trial.check(f"broker: {what}: its settings stay", kept, said)
         status = trial.run("desk-publish", "--help").returncode
-        left = os.path.exists(trial.path("/usr/share/steelnewt-broker"))
+        left = os.path.exists(trial.path("/usr/lib/python3/dist-packages/desk_broker"))
         is_right = (status == 0) == is_there == left
         trial.check(f"broker: {what}: its programs", is_right, f"status {status}")
     said = trial.does("broker: purge", *dpkg, "-P", "steelnewt-broker")

@@ -55,6 +55,8 @@ def installed(trial: "Trial") -> None:
         trial.run("ssh-keygen", "-q", "-t", "ed25519", "-N", "", "-f", f"/tmp/{name}")
         add = ["desk-relay-person", "add", name, f"/tmp/{name}.pub"]
         trial.does(f"{name} may call", *add, says="may call with SHA256")
+    early = ["/usr/share/steelnewt-relay/relays/desk-relay", "--help"]
+    trial.does("a key's line of an earlier version", *early, says="^usage: desk-relay ")
     for page in ("man1/desk-relay.1", "man5/desk-relay.toml.5", "man8/desk-relay-person.8"):
         trial.does(page, "test", "-s", f"/usr/share/man/{page}.gz")
     mime = trial.run("sh", "-c", "ls /usr/share/doc/steelnewt-relay/examples").stdout
@@ -123,7 +125,7 @@ def later_on(trial: "Trial", deb: str, later: str) -> None:
         status, said = call(trial, "ann", "help")
         is_right = status == 0 and "You are ann" in said if is_there else status == 127
         trial.check(f"relay: {what}: a call", is_right, f"{status}: {said}")
-        left = os.path.exists(trial.path("/usr/share/steelnewt-relay"))
+        left = os.path.exists(trial.path("/usr/lib/python3/dist-packages/steelnewt_relay"))
         trial.check(f"relay: {what}: its programs", left == is_there)
     said = trial.does("relay: purge", *dpkg, "-P", "steelnewt-relay")
     gone = [f"/etc/desk/{it}" for it in (*PAGE_KEYS, "relay.toml")] + [KEYS]

@@ -27,12 +27,11 @@ from tests.packages import package_broker, package_relay, service, syscalls
 
 DEBS = os.path.join(desk.BUILD, "deb")
 NEEDED = "adduser,ca-certificates,curl,faketime,haproxy,nginx-light,openssl,python3"
-NEEDED += ",python3-jsonschema,sqlite3,openssh-client,tzdata,python3-flask,python3-requests"
-NEEDED += ",python3-requests-unixsocket,python3-waitress,python3-pika"
-NEEDED += ",strace,sudo,systemd"
+NEEDED += ",python3-jsonschema,sqlite3,openssh-client,tzdata,python3-flask,python3-waitress"
+NEEDED += ",python3-pika,strace,sudo,systemd"
 DOC = "/usr/share/doc/steelnewt"
 TOOLS = ("desk-lint", "desk-import", "desk-used", "desk-change-roster", "desk-roster")
-NAMES = ("steelnewt", "steelnewt-host", "steelnewt-tools")
+NAMES = ("steelnewt", "steelnewt-host", "steelnewt-tools", "python3-steelnewt-client")
 RELAY, BROKER = "steelnewt-relay", "steelnewt-broker"
 PATIENCE = 120  # the seconds after which something hangs
 STORE = "/var/lib/desk/desk.db"
@@ -165,6 +164,10 @@ def tools(trial: Trial) -> None:
     said = "/tmp/bad.toml:27: O3 WrongType: ceilings.db-care.needs = .*expected a whole number"
     trial.does("desk-lint of a fault", "desk-lint", "/tmp/bad.toml", status=2, says=said)
     trial.does("desk-lint --explain", "desk-lint", "--explain", "O3", says="^O3 WrongType ")
+    for name in ("desk_tools", "steelnewt_client", "argparse"):
+        trial.write(f"/tmp/evil/{name}.py", "raise SystemExit('taken from the environment')")
+    words = ["env", "-C", "/tmp/evil", "PYTHONPATH=/tmp/evil", "desk-lint", "--explain", "O3"]
+    trial.does("no module of the caller's", *words, says="^O3 WrongType ")
     trial.write("/tmp/sudoers", "Defaults noexec\nann ALL = /bin/ls, NOEXEC: /usr/bin/less\n")
     base = trial.does(
         "desk-import",

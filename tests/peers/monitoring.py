@@ -19,12 +19,11 @@ import time
 import urllib.request
 from collections.abc import Callable, Iterator
 
+from steelnewt_client.messages import Verdict
+from steelnewt_relay.outbox import Outbox
 from tests.common import desk, front, outsider
 from tests.common.ports import free_port
 
-sys.path.insert(0, desk.ROOT)
-from relays.messages import Verdict  # noqa: E402
-from relays.outbox import Outbox  # noqa: E402
 
 Row = tuple[str, bool, str]
 CHECK = os.path.join(desk.EXAMPLES, "monitoring", "check_desk.py")

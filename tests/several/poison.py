@@ -25,7 +25,8 @@ PATIENCE = 180.0  # seconds: the machine may be busy
 # A consumer that fails at one message, wherever the fault would be.
 FAILING = """
 import sys
-from desk_broker import consume, desk
+from desk_broker import consume
+from steelnewt_client import desk
 whole = desk.Desk.begin
 def begin(self, relay, body):
     if b"FAILS" in body:

@@ -14,6 +14,7 @@ from tests.several.programs import Failure
 from tests.several.sites import Post
 
 PATIENCE = "60"
+ROOT = pathlib.Path(__file__).resolve().parents[2]
 
 
 class Relay(threading.Thread):
@@ -121,7 +122,7 @@ def environment(broker: str, password: pathlib.Path) -> dict[str, str]:
     return {
         "PATH": os.environ["PATH"],
         "LANG": "C.UTF-8",
-        "PYTHONPATH": str(pathlib.Path(__file__).resolve().parents[2] / "broker"),
+        "PYTHONPATH": f"{ROOT}:{ROOT / 'broker'}",
         "PYTHONDONTWRITEBYTECODE": "1",
         "PYTHONUNBUFFERED": "1",
         "BROKERS": broker,

@@ -10,7 +10,7 @@ export PATH="$PATH:/usr/sbin:/sbin"
 bash tests/several/tools.sh
 # (Debian's own: another Python on the path does not see Debian's packages)
 python=/usr/bin/python3
-export PYTHONPATH=broker PYTHONDONTWRITEBYTECODE=1 PYTHONUNBUFFERED=1
+export PYTHONPATH=.:broker PYTHONDONTWRITEBYTECODE=1 PYTHONUNBUFFERED=1
 [ "${1:-}" = --rate ] || "$python" -m pytest -q -p no:cacheprovider broker/tests
 exec unshare --mount --pid --fork --kill-child --mount-proc --propagation private \
     "$python" -m tests.several.main "$@"

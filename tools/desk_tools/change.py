@@ -17,7 +17,7 @@ from desk_tools.changes import Change
 from desk_tools.journal import Journal, Pending, synced, write
 from desk_tools.served import Failed, Settings, digest
 from desk_tools.toml_text import read as read_toml
-from desk_tools.use import stamp
+from steelnewt_client.moments import stamp_of
 
 SIGNALS = (signal.SIGINT, signal.SIGTERM, signal.SIGHUP)
 PATIENCE = 60.0  # seconds until a desk that was started answers
@@ -194,7 +194,7 @@ def dated(desk: Desk, journal: Journal, pending: Pending, new: bytes) -> Pending
     """The roster by a moment since which it is served: no desk is served in between."""
     if pending.copy and os.path.exists(pending.copy):
         return pending
-    at = stamp(int(time.time()))
+    at = stamp_of(int(time.time()))
     found = journal.put(pending._replace(copy=os.path.join(desk.rosters, f"{at}.toml")))
     os.makedirs(desk.rosters, exist_ok=True)
     write(found.copy, new, desk.roster)
@@ -205,7 +205,7 @@ def change(desk: Desk, journal: Journal, new: bytes, shown: Compared) -> Pending
     """Stops the desk, gives its store the roster, and starts it; on any fault it goes back."""
     enough_room(desk, journal.folder)
     with ended_by_signals():
-        pending = journal.begin(stamp(int(time.time())), shown.old, new)
+        pending = journal.begin(stamp_of(int(time.time())), shown.old, new)
         try:
             desk.systemctl("stop")
             back_up(desk, pending)
@@ -272,7 +272,7 @@ def bring_back(desk: Desk, pending: Pending, fault: Failed) -> None:
         copy = served.copy_store(pending.path("desk.db"), room)
         # (any question merges the log, so that one file is the whole store)
         words = [desk.desk, "review", pending.path("old.toml"), desk.settings.base, copy]
-        served.run([*words, stamp(int(time.time()))])
+        served.run([*words, stamp_of(int(time.time()))])
         fresh = f"{store}.back"
         if os.path.lexists(fresh):
             os.unlink(fresh)

@@ -14,7 +14,7 @@ from desk_tools.journal import Journal
 from desk_tools.judge import NoDesk, program
 from desk_tools.schema import NoJsonschema
 from desk_tools.served import Failed, digest
-from desk_tools.use import stamp
+from steelnewt_client.moments import stamp_of
 
 DONE, NOT_CHANGED, REFUSED, HALFWAY = 0, 1, 2, 3
 KEPT = "/var/lib/desk-change-roster"
@@ -124,7 +124,7 @@ def followed(said: argparse.Namespace) -> int:
     if is_there(desk, journal, new):
         print("The desk has this roster.")
         return DONE
-    found = change.compare(desk, new, journal.folder, stamp(int(time.time())))
+    found = change.compare(desk, new, journal.folder, stamp_of(int(time.time())))
     show(found)
     if said.show or not agreed(said, found):
         print("Nothing was changed.")
@@ -135,7 +135,7 @@ def followed(said: argparse.Namespace) -> int:
     return DONE
 
 
-def main(words: list[str]) -> int:
+def main(words: list[str] | None = None) -> int:
     said = parser().parse_args(words)
     status = REFUSED
     try:

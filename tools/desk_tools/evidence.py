@@ -14,9 +14,10 @@ from collections.abc import Iterator
 from dataclasses import dataclass, field
 from typing import Any, NamedTuple
 
-from desk_tools.use import seconds, stamp
+from steelnewt_client.messages import canonical
+from steelnewt_client.moments import seconds, stamp_of
+from steelnewt_client.places import place
 
-HERE = os.path.dirname(os.path.abspath(__file__))
 NAMESPACE = "desk-evidence"
 MANIFEST = "SHA256SUMS"
 DATED = re.compile(r"(\d{14}Z)\.toml")
@@ -77,7 +78,7 @@ def periods(folder: str, first: str, last: str) -> list[Period]:
         raise Failed(f"{folder}: it has no roster YYYYMMDDHHMMSSZ.toml of {first} or before")
     served: list[Period] = []
     for at, after in zip(dated, [*dated[1:], None], strict=True):
-        end = last if after is None else min(last, stamp(seconds(after) - 1))
+        end = last if after is None else min(last, stamp_of(seconds(after) - 1))
         if at <= last and first <= end:
             text = read(os.path.join(folder, f"{at}.toml"))
             served.append(Period(at, text, max(at, first), end))
@@ -190,7 +191,7 @@ class Evidence:
         """Each grant's status by the logs."""
         if not self.logs:
             return {}
-        words = [os.path.join(HERE, "..", "desk-used"), "--json", "--desk", self.desk]
+        words = [place("tools/desk-used", "bin/desk-used"), "--json", "--desk", self.desk]
         words += [*self.log_options, "--from", it.first, "--until", it.last, audit, self.base]
         out, _ = self.run(*words, *self.logs, ok=(0, 1))
         self.put(f"{it.name}/used.json", out)
@@ -236,7 +237,7 @@ def messages_told(told: dict[str, Any]) -> Iterator[bytes]:
     """Each message that desk-audit tells, in its canonical form."""
     for name in told["names"]:
         for it in [*name["requests"], *(verdict["verdict"] for verdict in name["verdicts"])]:
-            yield json.dumps(it, separators=(",", ":"), sort_keys=True).encode()
+            yield canonical(it).encode()
 
 
 # ---- the manifest

@@ -11,11 +11,10 @@ from desk_tools import evidence
 from desk_tools.evidence import Evidence, Failed, Period, periods, read
 from desk_tools.found import Parser, visible
 from desk_tools.judge import NoDesk, program
+from steelnewt_client.places import place
 
 MADE, FAILED = 0, 2
 READING = "second-reading.jq"
-# where it is: in a clone, and where it is installed
-PLACES = ("../../examples", "../../doc/steelnewt/examples")
 
 
 def moment(text: str) -> str:
@@ -50,11 +49,10 @@ def parser() -> argparse.ArgumentParser:
 
 
 def reading(said: argparse.Namespace) -> str:
-    here = os.path.dirname(os.path.abspath(__file__))
-    named: list[str] = [said.second_reading] if said.second_reading else []
-    for path in named or [os.path.join(here, it, READING) for it in PLACES]:
-        if os.path.exists(path):
-            return path
+    there = place(f"examples/{READING}", f"share/doc/steelnewt/examples/{READING}")
+    path: str = said.second_reading or there
+    if os.path.exists(path):
+        return path
     raise Failed(f"there is no {said.second_reading or READING}: --second-reading FILE")
 
 
@@ -102,7 +100,7 @@ def made(said: argparse.Namespace) -> None:
         os.rename(folder, said.folder)
 
 
-def main(words: list[str]) -> int:
+def main(words: list[str] | None = None) -> int:
     said = parser().parse_args(words)
     try:
         made(said)

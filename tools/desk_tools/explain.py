@@ -1,22 +1,17 @@
 """What docs/CODES.md says of a code."""
 
-import os
 import re
 from collections.abc import Iterator
 
-HERE = os.path.dirname(os.path.abspath(__file__))
-# where it is installed, and in a clone
-PLACES = (os.path.join(HERE, "..", "CODES.md"), os.path.join(HERE, "..", "..", "docs", "CODES.md"))
+from steelnewt_client.places import place
+
 # a link of Markdown
 LINK = re.compile(r"\[([^\]]+)\]\([^)]*\)")
 
 
 def document() -> str:
-    for path in PLACES:
-        if os.path.exists(path):
-            with open(path, encoding="utf-8") as file:
-                return file.read()
-    raise FileNotFoundError("CODES.md")
+    with open(place("docs/CODES.md", "share/steelnewt/CODES.md"), encoding="utf-8") as file:
+        return file.read()
 
 
 def rows(text: str) -> Iterator[tuple[str, dict[str, str]]]:

@@ -4,11 +4,11 @@ import argparse
 import json
 from typing import Any, NamedTuple, NoReturn
 
+from steelnewt_client.codes import SENTENCES
+
 NAMES = {
     "O1": "NotToml", "O2": "UnknownKey", "O3": "WrongType", "O4": "BadName", "O5": "UnknownName", "O6": "SelfConflict", "O7": "OutOfRange",
-    "M1": "TooLong", "M2": "NotCanonical", "M3": "BadField",
-    "A1": "UnknownPerson", "A2": "UnknownCeiling", "A3": "NotAsker", "A4": "HostOutside", "A5": "RunasOutside", "A6": "CommandOutside",
-    "A7": "WindowTooLong", "A8": "WindowBackwards",
+    **dict(code.split(" ") for code in SENTENCES),  # (M and A, of messages)
     "S1": "TooLong", "S2": "BadByte", "S3": "BadWord", "S4": "Unexpected", "S5": "UnknownAlias", "S6": "AliasTwice", "S7": "Reserved",
     "S8": "BadMoment", "S9": "LeftOut", "S10": "TooLarge", "S11": "NoMemory",
 }  # fmt: skip

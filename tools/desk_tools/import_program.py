@@ -76,7 +76,7 @@ def imported(said: argparse.Namespace) -> int:
     return LEFT_OUT if any(note.is_left_out for note in job.notes) else KEPT
 
 
-def main(words: list[str]) -> int:
+def main(words: list[str] | None = None) -> int:
     said = parser().parse_args(words)
     try:
         return imported(said)

@@ -3,7 +3,7 @@
 import os
 import shutil
 
-HERE = os.path.dirname(os.path.abspath(__file__))
+from steelnewt_client.places import CLONE
 
 
 class NoDesk(Exception):
@@ -12,7 +12,7 @@ class NoDesk(Exception):
 
 def program(said: str | None) -> str:
     """The program that is named, or the one on the path, or that of a clone."""
-    built = os.path.join(HERE, "..", "..", "build", "desk")
+    built = os.path.join(CLONE, "build", "desk")
     for path in (said,) if said else (shutil.which("desk"), built):
         if path and os.path.exists(path):
             return path

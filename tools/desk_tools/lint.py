@@ -180,7 +180,7 @@ def lint(said: argparse.Namespace) -> int:
     return status(looked, said.strict)
 
 
-def main(words: list[str]) -> int:
+def main(words: list[str] | None = None) -> int:
     found = parser()
     said = found.parse_args(words)
     if said.explain:

@@ -3,13 +3,14 @@
 import json
 import re
 from collections.abc import Iterator
-from datetime import datetime, timezone
 from typing import Any
 
 from desk_tools import roster_faults, schema
 from desk_tools.found import Fault, dotted, shown
+from steelnewt_client import moments
+from steelnewt_client.messages import MOST_BYTES, canonical
+from steelnewt_client.moments import BadMoment
 
-MOST_BYTES = 16_384
 MOST_DEEP = 127
 KINDS = ("request", "approve", "refuse", "revoke")
 # what writes a message on one line: a verdict, and a request, whose lists have an order
@@ -21,11 +22,6 @@ MOMENT = "expected a moment in UTC as 20260105090000Z: 14 digits and Z, hours up
 
 class NoJson(Exception):
     """The text is none of JSON."""
-
-
-def written(value: Any) -> str:
-    """The canonical text of a value."""
-    return json.dumps(value, ensure_ascii=False, separators=(",", ":"), sort_keys=True)
 
 
 def depth(text: str) -> int:
@@ -85,8 +81,8 @@ class Message:
             self.add("M2", "", "", str(fault))
             return self.faults
         self.form(text)
-        if not self.faults and written(self.value) != text:
-            self.add("M2", "", "", f"it is written as {shown(written(self.value))}")
+        if not self.faults and canonical(self.value) != text:
+            self.add("M2", "", "", f"it is written as {shown(canonical(self.value))}")
         self.fields()
         return self.faults
 
@@ -142,8 +138,8 @@ class Message:
             value = json.loads(found[0])
             if re.search("[\ud800-\udfff]", value):
                 self.add("M2", "", shown(value), "an escape is half of a character")
-            elif written(value) != found[0]:
-                self.add("M2", "", "", f"{shown(value)} is written as {written(value)}, and not as {found[0]}")
+            elif canonical(value) != found[0]:
+                self.add("M2", "", "", f"{shown(value)} is written as {canonical(value)}, and not as {found[0]}")
 
     # ---- the members
 
@@ -191,8 +187,8 @@ def is_formed(text: str) -> bool:
 def seconds(text: str) -> int | None:
     """The moment in seconds since 1970; None where the calendar has none."""
     try:
-        return int(datetime.strptime(text, "%Y%m%d%H%M%SZ").replace(tzinfo=timezone.utc).timestamp())
-    except ValueError:
+        return moments.seconds(text)
+    except BadMoment:
         return None
 
 
@@ -210,6 +206,6 @@ def folded(data: bytes) -> list[Fault] | None:
         return None
     if not isinstance(value, dict):
         return None
-    message = Message(written(value).encode("utf-8", "replace"), 1)
+    message = Message(canonical(value).encode("utf-8", "replace"), 1)
     message.add("M2", "", "", f"expected one message a line, and this is one over several: {FOLD[value.get('kind') == 'request']} writes it so")
     return message.look()

@@ -6,13 +6,14 @@ right goes on after its holder's last day, until its own end or a revocation (do
 
 from __future__ import annotations
 
-import time
 from typing import Any
 
 from desk_tools.found import Warning
 from desk_tools.held import day, joined, number
-from desk_tools.message_faults import seconds, written
+from desk_tools.message_faults import seconds
 from desk_tools.site import LAST, Site
+from steelnewt_client.messages import canonical
+from steelnewt_client.moments import stamp_of
 
 Value = dict[str, Any]
 
@@ -21,7 +22,7 @@ def before(moment: str) -> str:
     """The second before a moment."""
     at = seconds(moment)
     assert at is not None
-    return time.strftime("%Y%m%d%H%M%SZ", time.gmtime(at - 1))
+    return stamp_of(at - 1)
 
 
 class Grants:
@@ -40,7 +41,7 @@ class Grants:
         name = value["by"], value["no"]
         if name not in self.requests:
             self.requests[name] = line, value
-        elif written(self.requests[name][1]) != written(value):
+        elif canonical(self.requests[name][1]) != canonical(value):
             self.disputed.add(name)
 
     def warnings(self) -> list[Warning]:

@@ -19,7 +19,7 @@ from desk_tools.roster_faults import is_day
 from desk_tools.roster_text import CannotEdit
 from desk_tools.schema import NoJsonschema
 from desk_tools.served import Failed
-from desk_tools.use import stamp
+from steelnewt_client.moments import stamp_of
 
 DONE, DIFFERS, REFUSED = 0, 1, 2
 SETTINGS = "/etc/desk/people.toml"
@@ -59,7 +59,7 @@ def grants(said: argparse.Namespace, new: bytes) -> None:
         return
     said.service = said.rosters = ""
     desk = change_program.desk_of(said)
-    now = stamp(int(time.time()))
+    now = stamp_of(int(time.time()))
     found = change.compare(desk, new, tempfile.gettempdir(), now)
     change_program.show(found)
 
@@ -93,7 +93,7 @@ def followed(said: argparse.Namespace) -> int:
     return DONE
 
 
-def main(words: list[str]) -> int:
+def main(words: list[str] | None = None) -> int:
     found = parser()
     said = found.parse_args(words)
     if said.on and not is_day(said.on):

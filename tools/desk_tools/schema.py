@@ -8,7 +8,9 @@ from collections.abc import Callable, Iterator
 from functools import cache
 from typing import Any
 
-FOLDER = os.path.join(os.path.dirname(os.path.dirname(os.path.abspath(__file__))), "schemas")
+from steelnewt_client.places import place
+
+FOLDER = place("tools/schemas", "share/steelnewt/schemas")
 
 
 class NoJsonschema(Exception):

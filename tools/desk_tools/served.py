@@ -3,17 +3,17 @@
 from __future__ import annotations
 
 import hashlib
-import http.client
 import json
 import os
 import shlex
 import shutil
-import socket
 import sqlite3
 import subprocess
 from collections.abc import Sequence
 from contextlib import closing
 from typing import Any, NamedTuple
+
+from steelnewt_client.desk import BadAddress, Desk, Silent
 
 CONF = "/etc/desk/serve.conf"
 # what packaging/desk-serve takes where the file says nothing
@@ -69,35 +69,19 @@ def file_digest(path: str) -> str:
         return hashlib.file_digest(file, "sha256").hexdigest()
 
 
-class Socket(http.client.HTTPConnection):
-    """A connection to a desk's socket."""
-
-    def __init__(self, path: str) -> None:
-        super().__init__("desk", timeout=ANSWERS_IN)
-        self.path = path
-
-    def connect(self) -> None:
-        self.sock = socket.socket(socket.AF_UNIX)
-        self.sock.settimeout(ANSWERS_IN)
-        self.sock.connect(self.path)
-
-
-def connection(address: str) -> http.client.HTTPConnection:
-    if address.startswith("unix:"):
-        return Socket(address.removeprefix("unix:"))
-    return http.client.HTTPConnection(address, timeout=ANSWERS_IN)
+def desk_at(address: str) -> Desk:
+    """The desk at an address as serve.conf has it: a socket, or a host and a port."""
+    is_socket = address.startswith("unix:")
+    return Desk(address if is_socket else f"http://{address}", patience=ANSWERS_IN)
 
 
 def serves(address: str) -> str | None:
     """The digest of the roster with which a desk answers there; None where none answers."""
     try:
-        with closing(connection(address)) as peer:
-            peer.request("GET", "/v1/count")
-            reply = peer.getresponse()
-            words = reply.read().decode("ascii", "replace").split()
-    except (OSError, http.client.HTTPException):
+        _, roster, _ = desk_at(address).count()
+    except (BadAddress, Silent):
         return None
-    return words[1] if reply.status == 200 and len(words) == 3 else None
+    return roster
 
 
 def parts(store: str) -> list[str]:

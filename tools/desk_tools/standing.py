@@ -6,7 +6,8 @@ from collections.abc import Iterator
 from typing import Any, NamedTuple
 
 from desk_tools.decisions import Desk, Policy, Question
-from desk_tools.use import Use, stamp
+from desk_tools.use import Use
+from steelnewt_client.moments import stamp_of
 
 ALIAS = re.compile(r"\w+_Alias ")
 USERS = re.compile(r"((?:!?[^\s,=]+, )*!?[^\s,=]+) ")
@@ -66,7 +67,7 @@ class Standing:
         for rule in self.rules:
             last = max(rule.moments, default=None)
             if not is_denial(rule.text) and (last is None or last < since):
-                found.append({"rule": rule.text} | ({} if last is None else {"last": stamp(last)}))
+                found.append({"rule": rule.text} | ({} if last is None else {"last": stamp_of(last)}))
         return found
 
 

@@ -1,8 +1,6 @@
 """Which runs of sudo's logs were by which grant, by the base, or by neither."""
 
-import calendar
 import re
-import time
 from array import array
 from bisect import bisect_right
 from collections.abc import Iterable, Iterator
@@ -12,8 +10,8 @@ from typing import Any, NamedTuple
 from desk_tools.decisions import Desk, Invocation, Policy, Question
 from desk_tools.found import visible
 from desk_tools.sudo_logs import Logs, Moments, Run, without_exits
+from steelnewt_client.moments import seconds, stamp_of
 
-MOMENT = "%Y%m%d%H%M%SZ"
 # an argument with a space stands in quotes, since sudo 1.9.13
 WORD = re.compile(r" (?:'((?:[^'\\]|\\.)*)'(?= |\Z)|([^ ]*))", re.DOTALL)
 QUOTED = re.compile(r"\\([\\'])")
@@ -22,14 +20,6 @@ CONTROL = re.compile(r"[\x00-\x1f\x7f]")
 # whom a grant's commands are asked about: its user, host and target are its own
 ASKER = Invocation("asker", "host", "target", "", ())
 ANY_TIME = "20000101000000Z"
-
-
-def seconds(moment: str) -> int:
-    return calendar.timegm(time.strptime(moment, MOMENT))
-
-
-def stamp(at: int) -> str:
-    return time.strftime(MOMENT, time.gmtime(at))
 
 
 @dataclass
@@ -273,13 +263,13 @@ class Use:
         if done.beside:
             return
         if not self.base.bounds:
-            yield Question(self.base, stamp(moments[0]), done.invocation), moments
+            yield Question(self.base, stamp_of(moments[0]), done.invocation), moments
             return
         periods: dict[int, list[int]] = {}
         for at in moments:
-            periods.setdefault(self.base.period(stamp(at)), []).append(at)
+            periods.setdefault(self.base.period(stamp_of(at)), []).append(at)
         for found in periods.values():
-            yield Question(self.base, stamp(found[0]), done.invocation), found
+            yield Question(self.base, stamp_of(found[0]), done.invocation), found
 
     def otherwise(self, left: list[tuple[Done, list[int]]]) -> None:
         """By the base, or by neither."""

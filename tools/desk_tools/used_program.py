@@ -16,8 +16,9 @@ from desk_tools.judge import NoDesk, program
 from desk_tools.narrower import proposals
 from desk_tools.standing import Standing, beyond
 from desk_tools.sudo_logs import Logs, files_of, read_log
-from desk_tools.use import Span, Use, grants_of, seconds, stamp
+from desk_tools.use import Span, Use, grants_of
 from desk_tools.used_text import Told, json_of, text_of, told_of
+from steelnewt_client.moments import seconds, stamp_of
 
 CLEAN, FOUND, FAILED = 0, 1, 2
 DAY = 86_400
@@ -105,7 +106,7 @@ def more_of(said: argparse.Namespace, use: Use, until: int) -> Told:
         since = until - said.unused_for * DAY
         standing = Standing(use)
         standing.decided()
-        told |= {"unused_since": stamp(since), "unused_rules": standing.unused(since)}
+        told |= {"unused_since": stamp_of(since), "unused_rules": standing.unused(since)}
     if said.baseline:
         told["beyond"] = list(beyond(use.desk, use.base.path, use.base, said.baseline))
     if said.roster:
@@ -142,7 +143,7 @@ def used(said: argparse.Namespace) -> int:
     return CLEAN if is_clean and all(it.ground != "neither" for it in use.rows) else FOUND
 
 
-def main(words: list[str]) -> int:
+def main(words: list[str] | None = None) -> int:
     said = parser().parse_args(words)
     try:
         return used(said)

@@ -6,7 +6,8 @@ from typing import Any
 
 from desk_tools.found import visible
 from desk_tools.sudo_logs import Logs
-from desk_tools.use import Grant, Row, Use, escaped, stamp
+from desk_tools.use import Grant, Row, Use, escaped
+from steelnewt_client.moments import stamp_of
 
 Told = dict[str, Any]
 MOST_PATHS = 16
@@ -16,7 +17,7 @@ def times(moments: list[int]) -> Told:
     """How often, first and last."""
     if not moments:
         return {"runs": 0}
-    return {"runs": len(moments), "first": stamp(min(moments)), "last": stamp(max(moments))}
+    return {"runs": len(moments), "first": stamp_of(min(moments)), "last": stamp_of(max(moments))}
 
 
 def grant_of(grant: Grant) -> Told:
@@ -26,8 +27,8 @@ def grant_of(grant: Grant) -> Told:
         "no": grant.no,
         "host": grant.host,
         "runas": grant.runas,
-        "from": stamp(grant.first),
-        "until": stamp(grant.last),
+        "from": stamp_of(grant.first),
+        "until": stamp_of(grant.last),
         "status": "used" if moments else "unused" if grant.is_logged else "no log",
         **times(moments),
         "commands": [
@@ -62,7 +63,7 @@ def logs_of(logs: Logs) -> Told:
             for (host, user), moments in sorted(logs.refused.items())
         ],
         "hosts": [
-            {"host": escaped(host), "first": stamp(first), "last": stamp(last)}
+            {"host": escaped(host), "first": stamp_of(first), "last": stamp_of(last)}
             for host, (first, last) in sorted(logs.spans().items())
         ],
         "unread": logs.count_unread,
@@ -84,7 +85,7 @@ def told_of(logs: Logs, use: Use) -> Told:
                 "by": it.grant.by,
                 "no": it.grant.no,
                 "host": it.grant.host,
-                "until": stamp(it.grant.last),
+                "until": stamp_of(it.grant.last),
                 "command": it.done.shown,
                 **times(it.moments),
             }

@@ -8,7 +8,6 @@ from collections.abc import Callable
 import pytest
 
 ROOT = os.path.dirname(os.path.dirname(os.path.dirname(os.path.abspath(__file__))))
-sys.path.insert(0, os.path.join(ROOT, "tools"))
 sys.dont_write_bytecode = True
 
 Run = Callable[..., "subprocess.CompletedProcess[str]"]

@@ -2,12 +2,10 @@
 
 from __future__ import annotations
 
-import json
 import os
 import shutil
 import sqlite3
 import subprocess
-import sys
 import time
 from collections.abc import Callable
 from contextlib import closing
@@ -16,10 +14,9 @@ from typing import Any
 
 from conftest import ROOT
 
-sys.path.insert(0, ROOT)
-
-from desk_tools import served  # noqa: E402
-from desk_tools.evidence import program_beside  # noqa: E402
+from desk_tools import served
+from desk_tools.evidence import program_beside
+from steelnewt_client.messages import canonical
 
 PROGRAM = os.path.join(ROOT, "tools", "desk-change-roster")
 RELAY = os.path.join(ROOT, "relays", "desk-relay")
@@ -108,12 +105,11 @@ class Running:
         return f"unix:{self.folder}/desk.sock"
 
     def ask(self, method: str, route: str, body: str | None = None) -> str:
-        with closing(served.connection(self.address)) as peer:
-            peer.request(method, route, body)
-            return peer.getresponse().read().decode()
+        given = None if body is None else body.encode()
+        return served.desk_at(self.address).exchange(method, route, given).text
 
     def post(self, **message: Any) -> None:
-        body = json.dumps(message, separators=(",", ":"), sort_keys=True)
+        body = canonical(message)
         assert self.ask("POST", "/v1/relays/chat/messages", body) == "ack\n", body
 
     def messages(self) -> list[str]:

@@ -14,7 +14,7 @@ from typing import Any
 
 import pytest
 
-from desk_tools.message_faults import written
+from steelnewt_client.messages import canonical
 from conftest import ROOT, Run
 
 ON = "20260101"
@@ -62,7 +62,7 @@ YES = said("approve", "bob", "20260105090000Z")
 
 def warnings(lint: Run, folder: Path, messages: list[dict[str, Any]], *words: str) -> list[Any]:
     (folder / "r.toml").write_text(ROSTER.replace("NEEDS", "1"))
-    (folder / "x.messages").write_text("".join(f"{written(it)}\n" for it in messages))
+    (folder / "x.messages").write_text("".join(f"{canonical(it)}\n" for it in messages))
     given = ["--json", "--roster", str(folder / "r.toml"), *(words or ("--on", ON))]
     ran = lint(*given, str(folder / "x.messages"))
     assert ran.returncode == 0 and not ran.stderr, ran
@@ -147,7 +147,7 @@ def test_beside_the_desk(lint: Run, desk: str, tmp_path: Path, needs: int) -> No
     (tmp_path / "r.toml").write_text(ROSTER.replace("NEEDS", str(needs)))
     for _ in range(12):
         messages = random_messages(chance)
-        given = "".join(f"{written(it)}\n" for it in messages)
+        given = "".join(f"{canonical(it)}\n" for it in messages)
         (tmp_path / "x.messages").write_text(given)
         words = [desk, "print", str(tmp_path / "r.toml"), os.devnull, "-", "db1"]
         ran = subprocess.run(words, input=given, capture_output=True, text=True, check=True)

@@ -20,7 +20,8 @@ import pytest
 
 from desk_tools.decisions import Desk, Invocation, Question
 from desk_tools.sudo_logs import Logs, Run, read_log, without_exits
-from desk_tools.use import Done, done_of, grants_of, seconds
+from desk_tools.use import Done, done_of, grants_of
+from steelnewt_client.moments import seconds
 from conftest import ROOT, Run as Program
 
 BESIDE = os.path.join(ROOT, "tools", "tests", "beside_sudo_logs.py")

@@ -8,6 +8,7 @@ import re
 import tomllib
 from typing import Any
 
+from steelnewt_client.messages import canonical
 from conftest import ROOT
 
 DATED = """\
@@ -216,10 +217,6 @@ COMMANDS += ["/usr/bin/systemctl restart postgresql", "/usr/bin/systemctl", "/us
 
 ODD = ["", "[" * 127 + "]" * 127, "[" * 128 + "]" * 128, "7", '""', "null", "-0", "1e400", "18446744073709551615", "18446744073709551616"]
 ODD += ['"\\ud800"', "{}"]
-
-
-def canonical(value: object) -> str:
-    return json.dumps(value, ensure_ascii=False, separators=(",", ":"), sort_keys=True)
 
 
 def altered(chance: random.Random, message: dict[str, object]) -> dict[str, object]:

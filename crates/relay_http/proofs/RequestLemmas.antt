@@ -3,8 +3,8 @@ use Rattle.std.proofs.Common.{◌≡◌, ◌≤◌, Bool, ℕ, List, Ok, sym, ap
 use Rattle.std.proofs.lemmas.Fmt.{decimal_injective}
 use Rattle.std.proofs.lemmas.List.{length-map, take_min, take_all}
 use Rattle.httparse.specs.declared.Error.{Error}
-use Rattle.httparse.specs.declared.ResponseStatus.{ResponseStatus}
-use Rattle.httparse.specs.declared.ResponseStatus.TheVariants.{Complete, Partial}
+use Rattle.httparse.specs.declared.Status.{Status}
+use Rattle.httparse.specs.declared.Status.TheVariants.{Complete, Partial}
 use Rattle.httparse.specs.declared.spans.HeaderSpan.{HeaderSpan}
 use Rattle.httparse.specs.declared.spans.RequestSpans.{RequestSpans}
 use Rattle.httparse.specs.Outcome.{IfComplete, IsCompleteAnd}
@@ -29,11 +29,11 @@ take_front xs n e = take_at_most xs n 8192 e
 pub take_rest : (xs : List ℕ) (n : ℕ) → take (length xs - n) (drop n xs) ≡ drop n xs
 take_rest xs n = take_all (length xs - n) (drop n xs) (omega (arith, length-drop n xs))
 
-pub incomplete : {A : Type 0} (P : A → Type 0) (s : ResponseStatus A) → s ≡ Partial → IsCompleteAnd {E = Error} (Ok s) P → ⊥
-incomplete {A} P s e h = subst (λ (t : ResponseStatus A). IsCompleteAnd {E = Error} (Ok t) P) e h
+pub incomplete : {A : Type 0} (P : A → Type 0) (s : Status A) → s ≡ Partial → IsCompleteAnd {E = Error} (Ok s) P → ⊥
+incomplete {A} P s e h = subst (λ (t : Status A). IsCompleteAnd {E = Error} (Ok t) P) e h
 
-pub complete_at : {A : Type 0} (P : A → Type 0) (s : ResponseStatus A) (a : A) → s ≡ Complete a → IfComplete {E = Error} (Ok s) P → P a
-complete_at {A} P s a e h = subst (λ (t : ResponseStatus A). IfComplete {E = Error} (Ok t) P) e h
+pub complete_at : {A : Type 0} (P : A → Type 0) (s : Status A) (a : A) → s ≡ Complete a → IfComplete {E = Error} (Ok s) P → P a
+complete_at {A} P s a e h = subst (λ (t : Status A). IfComplete {E = Error} (Ok t) P) e h
 
 pub fields_fit : (buf : List ℕ) (headers : List HeaderSpan) (many : ℕ) (fields : List Field)
     → map (header_bytes buf) (take many headers) ≡ map name_and_value fields → length headers ≡ 32 → length fields ≤ 32

@@ -6,11 +6,11 @@ import tomllib
 from dataclasses import dataclass
 from datetime import tzinfo
 
-from relays.desk import Desk, base_of
-from relays.moments import zone_of
-from relays.outbox import Outbox
-from relays.reasons import Demand, demand_of
-from relays.roster import Roster
+from steelnewt_client.desk import BadAddress, Desk, Place
+from steelnewt_relay.moments import zone_of
+from steelnewt_relay.outbox import Outbox
+from steelnewt_relay.reasons import Demand, demand_of
+from steelnewt_relay.roster import Roster
 
 KEYS = {"desk", "relay", "roster", "outbox", "zone", "numbers", "auditors"}
 KEYS |= {"tls", "page", "why", "notify"}
@@ -125,6 +125,13 @@ def key_of(path: str) -> str:
     return key
 
 
+def check_address(text: str) -> None:
+    try:
+        Place.of(text)
+    except BadAddress as fault:
+        raise BadConfig(f"desk = {fault}") from None
+
+
 def read_config(path: str) -> Config:
     try:
         with open(path, "rb") as file:
@@ -135,7 +142,7 @@ def read_config(path: str) -> Config:
             raise BadConfig(f"{path}: no setting is named {', '.join(sorted(unknown))}")
         if not all(isinstance(it, str) for it in (*page.values(), *tls.values())):
             raise BadConfig(f"{path}: a setting of [page] or [tls] is no text between quotes")
-        base_of(found["desk"])
+        check_address(found["desk"])
         first, last = found.get("numbers", [1, 999_999_999])
         return Config(
             desk=found["desk"],

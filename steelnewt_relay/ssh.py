@@ -9,19 +9,20 @@ from dataclasses import replace
 from datetime import timedelta, tzinfo
 from typing import TextIO
 
-from relays import telling
-from relays.admission import objections
-from relays.config import Config
-from relays.desk import Silent
-from relays.leading import Leader
-from relays.messages import BadWord, Verdict, Wish, checked
-from relays.moments import BadTime, in_units, moment_of, now, shown, stamp, zone_of
-from relays.outbox import Kept, Outbox, OutOfNumbers
-from relays.posting import post_one
-from relays.reasons import Reason
-from relays.roster import BadRoster
-from relays.standing import Knowledge, Standing
-from relays.words import USAGE, BadWords, parse, window_of, wish_of, words_of
+from steelnewt_client.desk import Silent
+from steelnewt_client.messages import BadWord, Verdict, Wish, checked
+from steelnewt_client.moments import now, stamp
+from steelnewt_relay import telling
+from steelnewt_relay.admission import objections
+from steelnewt_relay.config import Config
+from steelnewt_relay.leading import Leader
+from steelnewt_relay.moments import BadTime, in_units, moment_of, shown, zone_of
+from steelnewt_relay.outbox import Kept, Outbox, OutOfNumbers
+from steelnewt_relay.posting import post_one
+from steelnewt_relay.reasons import Reason
+from steelnewt_relay.roster import BadRoster
+from steelnewt_relay.standing import Knowledge, Standing
+from steelnewt_relay.words import USAGE, BadWords, parse, window_of, wish_of, words_of
 
 DONE, NOT_SENT, REFUSED, KEPT = 0, 1, 2, 3
 SAME_FOR = timedelta(minutes=10)

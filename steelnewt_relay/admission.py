@@ -3,9 +3,10 @@ person says yes. The desk decides all the same, and its roster may be another by
 
 from datetime import datetime, timedelta
 
-from relays.messages import Wish
-from relays.moments import of_stamp, spoken
-from relays.roster import Roster
+from steelnewt_client.messages import Wish
+from steelnewt_client.moments import of_stamp
+from steelnewt_relay.moments import spoken
+from steelnewt_relay.roster import Roster
 
 
 def objections(roster: Roster, person: str, wish: Wish, at: datetime) -> list[str]:

@@ -13,10 +13,11 @@ import sys
 from collections.abc import Iterator
 from dataclasses import dataclass
 
-from relays.messages import PERSON
+from steelnewt_client.names import PERSON
+from steelnewt_client.places import place
 
 KEYS = "/var/lib/desk-relay/.ssh/authorized_keys"
-RELAY = os.path.join(os.path.dirname(os.path.realpath(__file__)), "desk-relay")
+RELAY = place("relays/desk-relay", "bin/desk-relay")
 # The longest file that is read: a public key of 16,384 bits has some 3,000 bytes.
 MOST = 8192
 # A public key's kinds that sshd takes: no certificate, which says who it is by itself, and no DSA.
@@ -210,7 +211,7 @@ def parser() -> argparse.ArgumentParser:
     return found
 
 
-def main(words: list[str]) -> int:
+def main(words: list[str] | None = None) -> int:
     said = parser().parse_args(words)
     try:
         if said.job != "list" and not re.fullmatch(PERSON, said.name):

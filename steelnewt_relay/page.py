@@ -25,22 +25,24 @@ from waitress.parser import HTTPRequestParser
 from werkzeug.exceptions import HTTPException
 from werkzeug.wrappers import Response
 
-from relays import telling
-from relays.admission import objections
-from relays.config import BadConfig, Config
-from relays.desk import Desk, Silent
-from relays.messages import PERSON, VERDICTS, BadWord, Request, Verdict, Wish
-from relays.messages import checked, command_of, number_of
-from relays.moments import BadTime, in_units, now, of_stamp, shown, stamp
-from relays.outbox import Kept, Outbox, OutOfNumbers
-from relays.posting import post_one
-from relays.reasons import Reason
-from relays.roster import BadRoster, Roster
-from relays.sharing import Shared
-from relays.standing import SHOWN_FOR, Board, Knowledge, Row, Standing, State
-from relays.timeline import timeline
-from relays.told import Grant
-from relays.words import BadWords, checked_if, split, unescaped, window_of
+from steelnewt_client.desk import Desk, Silent
+from steelnewt_client.messages import VERDICTS, BadWord, Request, Verdict, Wish
+from steelnewt_client.messages import checked, command_of, number_of
+from steelnewt_client.moments import now, of_stamp, stamp
+from steelnewt_client.names import PERSON
+from steelnewt_client.told import Grant
+from steelnewt_relay import telling
+from steelnewt_relay.admission import objections
+from steelnewt_relay.config import BadConfig, Config
+from steelnewt_relay.moments import BadTime, in_units, shown
+from steelnewt_relay.outbox import Kept, Outbox, OutOfNumbers
+from steelnewt_relay.posting import post_one
+from steelnewt_relay.reasons import Reason
+from steelnewt_relay.roster import BadRoster, Roster
+from steelnewt_relay.sharing import Shared
+from steelnewt_relay.standing import SHOWN_FOR, Board, Knowledge, Row, Standing, State
+from steelnewt_relay.timeline import timeline
+from steelnewt_relay.words import BadWords, checked_if, split, unescaped, window_of
 
 log = logging.getLogger("desk-relay")
 PERSON_HEADER = "X-Desk-Person"
@@ -203,7 +205,7 @@ def caller(secret: str) -> str:
 
 
 def create_app(config: Config) -> flask.Flask:
-    app = flask.Flask("relays", root_path=__file__.rpartition("/")[0])
+    app = flask.Flask("steelnewt_relay", root_path=__file__.rpartition("/")[0])
     app.jinja_env.trim_blocks = app.jinja_env.lstrip_blocks = True
     app.config["MAX_CONTENT_LENGTH"] = 65536
     secret, signing_key = config.page_keys()

@@ -13,12 +13,12 @@ from datetime import datetime, timedelta
 from enum import Enum
 from typing import NamedTuple, TypeVar
 
-from relays.desk import Desk, Silent
-from relays.messages import Request, Verdict
-from relays.moments import of_stamp, stamp
-from relays.outbox import Kept, Outbox
-from relays.roster import Ceiling, Roster
-from relays.told import Grant, Name, Told
+from steelnewt_client.desk import Desk, Silent
+from steelnewt_client.messages import Request, Verdict
+from steelnewt_client.moments import of_stamp, stamp
+from steelnewt_client.told import Grant, Name, Told
+from steelnewt_relay.outbox import Kept, Outbox
+from steelnewt_relay.roster import Ceiling, Roster
 
 SHOWN_FOR = timedelta(days=7)
 # What the desk's weight of a verdict says of its author or its moment.

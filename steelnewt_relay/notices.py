@@ -18,11 +18,11 @@ from collections.abc import Callable, Iterator
 from contextlib import suppress
 from dataclasses import dataclass
 
-from relays.desk import Silent
-from relays.events import Event, Finder
-from relays.moments import stamp
-from relays.outbox import Kept, Outbox
-from relays.roster import BadRoster
+from steelnewt_client.desk import Silent
+from steelnewt_client.moments import stamp
+from steelnewt_relay.events import Event, Finder
+from steelnewt_relay.outbox import Kept, Outbox
+from steelnewt_relay.roster import BadRoster
 
 log = logging.getLogger("desk-relay")
 # Seconds: how long a program that failed for an event is not run for it, and when no more.

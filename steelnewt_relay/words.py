@@ -8,8 +8,9 @@ from collections.abc import Iterable
 from datetime import datetime, tzinfo
 from typing import NoReturn
 
-from relays.messages import VERDICTS, BadWord, Wish, checked, command_of, number_of
-from relays.moments import length_of, moment_of, stamp
+from steelnewt_client.messages import VERDICTS, BadWord, Wish, checked, command_of, number_of
+from steelnewt_client.moments import stamp
+from steelnewt_relay.moments import length_of, moment_of
 
 DAY = re.compile(r"today|tomorrow|in|[0-9]{4}-[0-9]{2}-[0-9]{2}")
 SECOND = re.compile(r"[0-9]{1,2}:[0-9]{2}(:[0-9]{2})?Z?|[0-9]+[dhms][0-9dhms]*")

@@ -3,8 +3,8 @@
 from dataclasses import dataclass
 from datetime import datetime, timedelta, tzinfo
 
-from relays.messages import Request
-from relays.told import Grant
+from steelnewt_client.messages import Request
+from steelnewt_client.told import Grant
 
 LEFT, RIGHT, ROW, TOP = 250, 30, 30, 34
 WIDTH = 960

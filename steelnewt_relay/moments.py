@@ -1,45 +1,19 @@
-"""Moments: the desk's `yyyymmddhhmmssZ`, and times as people say them."""
+"""Times as people say them."""
 
 import re
 from datetime import UTC, datetime, timedelta, tzinfo
-from functools import lru_cache
 from zoneinfo import ZoneInfo
 
-STAMP = "%Y%m%d%H%M%SZ"
+from steelnewt_client.moments import BadMoment, of_stamp
+
+# A time that cannot be read, or that does not mean one moment: people are told of both alike.
+BadTime = BadMoment
 UNITS = {"d": 86400, "h": 3600, "m": 60, "s": 1}
 LONGEST = 130 * 366 * 86400  # seconds
 TIME_HELP = (
     "a time is 'now', '17:00', 'tomorrow 09:00', '2026-01-05 09:00', '+2h', or UTC as "
     "'20260105090000Z'"
 )
-
-
-class BadTime(ValueError):
-    """A time that cannot be read, or that does not mean one moment."""
-
-
-def now() -> datetime:
-    """This second, in UTC."""
-    return datetime.now(UTC).replace(microsecond=0)
-
-
-def stamp(at: datetime) -> str:
-    """A moment as the desk writes it."""
-    at = at.astimezone(UTC)
-    if not 1970 <= at.year <= 2099:
-        raise BadTime("the desk knows the years 1970 to 2099")
-    return at.strftime(STAMP)
-
-
-@lru_cache(maxsize=16_384)
-def of_stamp(text: str) -> datetime:
-    """The moment of a text such as 20260105090000Z."""
-    if not re.fullmatch(r"[0-9]{14}Z", text):
-        raise BadTime(f"{text!r} is no moment: {TIME_HELP}")
-    try:
-        return datetime.strptime(text, STAMP).replace(tzinfo=UTC)
-    except ValueError:
-        raise BadTime(f"{text!r} is no moment of the calendar") from None
 
 
 def zone_of(name: str) -> tzinfo:

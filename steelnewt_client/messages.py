@@ -1,17 +1,15 @@
-"""The messages that a relay writes: requests and verdicts, each as its one canonical text."""
+"""Messages to the desk: requests and verdicts, each as its one canonical text."""
 
 import json
 import re
-from collections.abc import Collection, Mapping, Sequence
+from collections.abc import Collection, Sequence
 from dataclasses import dataclass, replace
 from datetime import datetime, timedelta
 from functools import lru_cache
-from typing import Any
 
-from relays.moments import of_stamp, stamp
+from steelnewt_client.moments import of_stamp, stamp
+from steelnewt_client.names import KEPT_BY_SUDO, LABEL, PERSON
 
-PERSON = r"[a-z_][a-z0-9._-]{0,31}"
-LABEL = r"[a-z][a-z0-9-]{0,31}"
 FORMS = {
     "person": (PERSON, "a name such as ann"),
     "target": (PERSON, "a user's name such as root"),
@@ -20,8 +18,6 @@ FORMS = {
 }
 FILE = r"(/(?!\.{1,2}(/|$))[A-Za-z0-9._+-]+)+/?"
 ARGUMENT = r"[A-Za-z0-9._/+@%,:=-]{1,64}"
-# Names that sudo keeps for itself.
-KEPT_BY_SUDO = ("sudoedit", "sha224", "sha256", "sha384", "sha512")
 # What the desk takes: bytes of a message, of a command and of its file; how many there may be.
 MOST_BYTES, MOST_COMMAND, MOST_FILE = 16_384, 1_024, 255
 MOST_HOSTS, MOST_COMMANDS, MOST_ARGUMENTS = 16, 16, 16
@@ -34,7 +30,7 @@ class BadWord(ValueError):
     """A word that no message can hold."""
 
 
-def canonical(message: Mapping[str, Any]) -> str:
+def canonical(message: object) -> str:
     """The one text of a message: members in order, no blanks, and no escape that is not needed."""
     return json.dumps(message, sort_keys=True, separators=(",", ":"), ensure_ascii=False)
 
@@ -188,7 +184,7 @@ def measured(text: str) -> str:
 
 @lru_cache(maxsize=16_384)
 def read(text: str) -> Request | Verdict:
-    """A message from the text that this relay wrote."""
+    """A message from its text, as it is written here."""
     found = json.loads(text)
     if found["kind"] != "request":
         return Verdict(**found)

@@ -6,12 +6,12 @@ from collections.abc import Callable
 from datetime import datetime, timedelta, tzinfo
 from typing import TextIO, TypeVar
 
-from relays.admission import lies_inside
-from relays.messages import MOST_COMMANDS, BadWord, checked, command_of
-from relays.moments import BadTime, length_of, moment_of, spoken
-from relays.reasons import Demand, Reason
-from relays.roster import Ceiling
-from relays.words import BadWords, split
+from steelnewt_client.messages import MOST_COMMANDS, BadWord, checked, command_of
+from steelnewt_relay.admission import lies_inside
+from steelnewt_relay.moments import BadTime, length_of, moment_of, spoken
+from steelnewt_relay.reasons import Demand, Reason
+from steelnewt_relay.roster import Ceiling
+from steelnewt_relay.words import BadWords, split
 
 MOST_TYPED, MOST_TRIES = 1_100, 5
 Read = TypeVar("Read")

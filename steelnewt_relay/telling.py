@@ -2,14 +2,15 @@
 
 from datetime import datetime, timedelta, tzinfo
 
-from relays.messages import BadWord, Verdict, Wish
-from relays.moments import of_stamp, shown, spoken, stamp
-from relays.outbox import UNASKED, Kept
-from relays.reasons import Demand, Reason
-from relays.refusals import in_words
-from relays.roster import Ceiling, Roster
-from relays.standing import Said, Standing, State
-from relays.told import Grant
+from steelnewt_client.codes import in_words
+from steelnewt_client.messages import BadWord, Verdict, Wish
+from steelnewt_client.moments import of_stamp, stamp
+from steelnewt_client.told import Grant
+from steelnewt_relay.moments import shown, spoken
+from steelnewt_relay.outbox import UNASKED, Kept
+from steelnewt_relay.reasons import Demand, Reason
+from steelnewt_relay.roster import Ceiling, Roster
+from steelnewt_relay.standing import Said, Standing, State
 
 DONE = {"approve": "approved", "refuse": "refused", "revoke": "revoked"}
 BARS = {

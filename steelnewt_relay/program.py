@@ -10,15 +10,15 @@ import sqlite3
 import sys
 import threading
 
-from relays import ssh
-from relays.config import BadConfig, Config, read_config
-from relays.events import Finder
-from relays.messages import BadWord
-from relays.moments import now
-from relays.notices import Notices, keep_telling, locked
-from relays.outbox import Kept
-from relays.posting import keep_posting
-from relays.standing import Knowledge
+from steelnewt_client.messages import BadWord
+from steelnewt_client.moments import now
+from steelnewt_relay import ssh
+from steelnewt_relay.config import BadConfig, Config, read_config
+from steelnewt_relay.events import Finder
+from steelnewt_relay.notices import Notices, keep_telling, locked
+from steelnewt_relay.outbox import Kept
+from steelnewt_relay.posting import keep_posting
+from steelnewt_relay.standing import Knowledge
 
 CONFIG = "/etc/desk/relay.toml"
 
@@ -87,7 +87,7 @@ def reason_line(kept: Kept) -> str:
     return json.dumps(name | kept.reason.data() | state)
 
 
-def main(words: list[str]) -> int:
+def main(words: list[str] | None = None) -> int:
     said = parser().parse_args(words)
     logging.basicConfig(level=logging.INFO, format="%(name)s: %(message)s")
     if (said.person is None) == (said.job is None):
@@ -108,7 +108,7 @@ def main(words: list[str]) -> int:
                 print(reason_line(kept))
             return 0
         # (Flask takes a moment to load, and a call by ssh has no use for it)
-        from relays.page import serve
+        from steelnewt_relay.page import serve
 
         serve(config)
         return 0

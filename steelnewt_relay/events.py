@@ -4,14 +4,15 @@ from collections.abc import Iterator
 from dataclasses import dataclass
 from datetime import timedelta, tzinfo
 
-from relays import telling
-from relays.desk import Silent
-from relays.messages import Verdict
-from relays.moments import shown, stamp
-from relays.outbox import Kept
-from relays.refusals import in_words
-from relays.standing import Knowledge, Said, Standing, State
-from relays.told import Grant
+from steelnewt_client.codes import in_words
+from steelnewt_client.desk import Silent
+from steelnewt_client.messages import Verdict
+from steelnewt_client.moments import stamp
+from steelnewt_client.told import Grant
+from steelnewt_relay import telling
+from steelnewt_relay.moments import shown
+from steelnewt_relay.outbox import Kept
+from steelnewt_relay.standing import Knowledge, Said, Standing, State
 
 SOON = timedelta(minutes=15)
 KINDS = ("asked", "approved", "granted", "refused", "revoked", "void", "ends-soon", "uncounted")

@@ -13,8 +13,8 @@ from contextlib import contextmanager
 from dataclasses import dataclass, replace
 from functools import lru_cache
 
-from relays.messages import BadWord, Request, Verdict, Wish, measured, read
-from relays.reasons import NONE, Reason
+from steelnewt_client.messages import BadWord, Request, Verdict, Wish, measured, read
+from steelnewt_relay.reasons import NONE, Reason
 
 SCHEMA = """
 CREATE TABLE IF NOT EXISTS messages (

@@ -4,7 +4,7 @@ import re
 from collections.abc import Iterator
 from dataclasses import dataclass, field
 
-from relays.messages import BadWord
+from steelnewt_client.messages import BadWord
 
 MOST_WHY, MOST_TICKET = 500, 64  # characters
 TICKET = r"[!-~]+"

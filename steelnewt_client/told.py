@@ -6,8 +6,8 @@ from dataclasses import dataclass
 from datetime import datetime
 from functools import lru_cache
 
-from relays.messages import Verdict
-from relays.moments import of_stamp
+from steelnewt_client.messages import Verdict
+from steelnewt_client.moments import of_stamp
 
 # What the desk's document of names begins with, and what stands between two names and behind the
 # last one.

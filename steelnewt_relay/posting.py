@@ -4,9 +4,10 @@ import logging
 import threading
 from contextlib import suppress
 
-from relays.desk import Desk, Silent
-from relays.messages import Request
-from relays.outbox import UNASKED, Kept, Outbox
+from steelnewt_client.codes import Fate
+from steelnewt_client.desk import Desk, Silent
+from steelnewt_client.messages import Request
+from steelnewt_relay.outbox import UNASKED, Kept, Outbox
 
 log = logging.getLogger("desk-relay")
 
@@ -22,14 +23,16 @@ def try_to_post(outbox: Outbox, desk: Desk, kept: Kept) -> None:
     """Posts a message and notes the answer. `Silent` where nothing can be reached."""
     if kept.state != "kept" or not is_ready(outbox, kept):
         return
-    try:
-        answer = desk.post(kept.message.text())
-    except Silent as why:
-        outbox.answered(kept.id, "kept", str(why))
-        if not why.is_reached:
-            raise
+    answer = desk.post(desk.relay, kept.message.text().encode("utf-8"))
+    if answer.fate is Fate.TAKEN:
+        outbox.answered(kept.id, "acked", "")
+    elif answer.fate is Fate.FINAL:
+        outbox.answered(kept.id, "refused", answer.said)
     else:
-        outbox.answered(kept.id, "acked" if answer.is_ack else "refused", answer.refusal)
+        # (what a person has to mend, such as this relay's name, may be mended at any time)
+        outbox.answered(kept.id, "kept", answer.why)
+        if not answer.is_reached:
+            raise Silent(answer.why)
 
 
 def is_ready(outbox: Outbox, kept: Kept) -> bool:
