@@ -5,6 +5,8 @@
   messages alone, and of one that holds a million others beside: a half of them of other hosts and
   live, a half of this host and of the past. A later question is counted, not the first.
 - **A report** of 100 live grants alone, and beside 100,000 that have ended.
+- **What became of one request** (`/v1/requests/ASKER/NO`) beside 100,000 other messages, and the
+  file of a host that has this request's grant alone, of the same desk.
 - **An opening and the first file**: of 100,000 messages the instructions, beside what it costs to
   read the messages alone (`deliver` of them over a roster that lists nobody, which keeps none); and
   of a million messages the processor time, and the most memory, less what a desk without messages
@@ -12,8 +14,8 @@
 
 Instructions are counted by valgrind's callgrind: they do not depend on the machine's load. While
 a desk opens a long history its instructions are not counted, so that this takes no quarter of an
-hour. A part whose tools are missing is left out, and said to be. Each line that judges ends with
-`holds` or `FAILS`, and the status is 1 where one fails.
+hour, nor while it gives that back as it ends. A part whose tools are missing is left out, and said
+to be. Each line that judges ends with `holds` or `FAILS`, and the status is 1 where one fails.
 
 `python3 -m tests.bench.bench_history [--others N] [--ended N] [--opened N] [--counted N] WORDS..`;
 WORDS run another program than build/desk, and the numbers are for smaller histories.
@@ -37,6 +39,7 @@ HOSTS = ["db1", *(f"web{n}" for n in range(40))]
 ASKERS = [f"user{n}" for n in range(500)]
 MOMENT = "20260105093000Z"
 FILE = f"/v1/hosts/db1/sudoers/{MOMENT}".encode()
+REQUEST = f"/v1/requests/{ASKERS[0]}/0".encode()
 REPORT = f"/v1/reviews/{MOMENT}".encode()
 # 0.65 of what it was while the first question read what the opening had read: 8.5 times
 MOST_BESIDE_READING = 5.5
@@ -111,18 +114,26 @@ def collected(server: desk.Server) -> int:
 
 
 def later(site: Site, store: str, target: bytes) -> tuple[int, bytes]:
-    """The instructions of the second question over a store, and its answer."""
+    """The instructions of the second question over a store, and its answer. (What a desk does as it
+    ends, where it gives all its memory back, is not counted: a third question ends it.)"""
     before = [*desk.counting(), "--instr-atstart=no"]
     with site.serving(
-        store, "--requests", "2", before=before, stderr=subprocess.PIPE
+        store, "--requests", "3", before=before, stderr=subprocess.PIPE
     ) as server:
         answer(server, target)
-        words = ["callgrind_control", "--instr=on", str(server.process.pid)]
-        subprocess.run(
-            words, check=True, stdout=subprocess.DEVNULL, stderr=subprocess.DEVNULL, timeout=600
-        )
+        count(server, "on")
         body = answer(server, target)
+        count(server, "off")
+        answer(server, target)
         return collected(server), body
+
+
+def count(server: desk.Server, state: str) -> None:
+    """Has valgrind count from here on, or no longer."""
+    words = ["callgrind_control", f"--instr={state}", str(server.process.pid)]
+    subprocess.run(
+        words, check=True, stdout=subprocess.DEVNULL, stderr=subprocess.DEVNULL, timeout=600
+    )
 
 
 def from_start(site: Site, store: str, target: bytes) -> int:
@@ -156,6 +167,15 @@ def reports(site: Site, count: int) -> bool:
     many = site.store("ended", granted(0, 2 * GRANTS, "db1"), ended)
     what = f"a report of {GRANTS} live grants, beside {count:,} that have ended"
     return beside(site, what, REPORT, 3.0, few, many)
+
+
+def one_request(site: Site, count: int) -> bool:
+    store = site.store("named", granted(0, 2, "db1"), granted(1_000_000, count, None))
+    (file, _), (named, told) = (later(site, store, target) for target in (FILE, REQUEST))
+    if f'"{ASKERS[0]}"'.encode() not in told:
+        sys.exit(f"bench_history: one request: {told[:80]!r}")
+    print(f"one request of {count:,} messages: {named:,} instructions, its host's file {file:,}")
+    return judged(f"one request of {count:,} messages, beside its host's file", named / file, 1.0)
 
 
 def opening_counted(site: Site, count: int) -> bool:
@@ -216,6 +236,7 @@ def main() -> int:
         site = Site(folder, given.words)
         if desk.found("valgrind"):
             wrong += files(site, given.others) + reports(site, given.ended)
+            wrong += one_request(site, given.ended)
             wrong += opening_counted(site, given.counted)
         else:
             print("instructions: left out, for valgrind is not there")
