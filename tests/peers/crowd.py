@@ -8,7 +8,7 @@ sending once they are answered; beside them, honest peers ask and post, some at 
 seconds after they connected. For twelve seconds, or a minute with `--whole`. Further words name
 another program than build/desk. What a busy machine adds to a time is left out: for how long this
 process stood still, and the desk waited for a processor; and where the desk had to wait for one, it
-may be as much slower as that made it.
+may be as much slower as that made it, up to three times.
 """
 
 import asyncio
@@ -29,6 +29,8 @@ from tests.common import desk
 from tests.common.stalls import Machine
 
 MOST_WAIT = 2.0
+# how much slower than by itself a desk may be at the most: past that, a wait says nothing of it
+MOST_SLOW = 3.0
 SHORT, WHOLE = 12, 60
 # how many peers of each kind there are
 SILENT, DRIPPING, STALLED, SLOW, LATE = 900, 900, 600, 40, 560
@@ -233,7 +235,7 @@ def beside_crowd(port: int, seconds: int, machine: Machine) -> bool:
         time.sleep(2)
         honest, began = Honest(port, machine), machine.times()
         honest.run(seconds)
-        slow = machine.slowness(began)
+        slow = min(MOST_SLOW, machine.slowness(began))
         is_there = peers.poll() is None
     finally:
         peers.kill()
@@ -245,7 +247,7 @@ def beside_crowd(port: int, seconds: int, machine: Machine) -> bool:
     print(
         f"{honest.asked} honest peers beside {many} others: {len(wrong)} were dropped or"
         f" waited past {MOST_WAIT * slow:.1f} s; the longest waited {honest.longest:.2f} s; the"
-        f" desk was {slow:.1f} times as slow as on a machine of its own",
+        f" desk counts as {slow:.1f} times as slow as on a machine of its own",
         flush=True,
     )
     return is_there and not wrong and honest.asked > seconds
