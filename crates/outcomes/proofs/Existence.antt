@@ -6,7 +6,7 @@ use Rattle.std.proofs.lemmas.Bool.{cases_Bool, both_ways}
 use Rattle.std.proofs.lemmas.List.{append-nil}
 use Rattle.std.proofs.lemmas.Slice.Eq.{bytes_eq-Decides}
 use Rattle.sudo_words.specs.declared.cmnd.Cmnd.{Cmnd}
-use Rattle.messages.specs.Fields.{RequestFields, VerdictFields}
+use Rattle.messages.specs.Fields.{IsRequest, RequestFields, VerdictFields}
 use Rattle.messages.specs.Names.{IsAbout, IsNamed, name_meant, name_of, NamePrecedes, NobodyAsks, SameMessages, SameName}
 use Rattle.messages.specs.declared.request_name.RequestName.{RequestName}
 use Rattle.messages.specs.Wire.{IsMessage, wire}
@@ -17,20 +17,15 @@ use Rattle.messages.specs.declared.kind.VerdictKind.TheVariants.{Approve, Refuse
 use Rattle.messages.proofs.NameOrder.{either_name, either_text, names_trans, texts_trans}
 use Rattle.messages.proofs.Uniqueness.{one_message}
 use Rattle.roster.specs.Faults.{IsRosterText}
-use Rattle.roster.specs.Fields.{CeilingFields, RosterFields}
-use Rattle.roster.proofs.Ranges.{found_few}
+use Rattle.roster.specs.Fields.{RosterFields}
 use Rattle.grants.specs.Marks.{Keep}
 use Rattle.grants.specs.private.Noting.{noted}
-use Rattle.grants.specs.private.Status.{admitted_status}
 use Rattle.grants.specs.Statuses.{IsStatus}
 use Rattle.grants.specs.Summaries.{Kept, StandsFor}
 use Rattle.grants.specs.declared.outcome.Status.{Status}
-use Rattle.grants.specs.declared.outcome.Status.TheVariants.{Disputed, Lapsed}
-use Rattle.grants.proofs.Answering.{no_denial}
 use Rattle.grants.proofs.MarkLemmas.{keep_nothing}
-use Rattle.grants.proofs.SomeAnswer.{some_answer}
+use Rattle.grants.proofs.SomeStatus.{some_status}
 use Rattle.grants.proofs.StandLemmas as standing
-use Rattle.grants.proofs.StatusLemmas.{admitted_is, disputed_is, lapsed_is}
 use Rattle.sudo_policy.specs.declared.entry.Entry.{Entry}
 use Rattle.sudo_policy.specs.Printing.{canon}
 use Rattle.outcomes.specs.Summaries.{AreSummaries, SummaryPrecedes}
@@ -39,7 +34,7 @@ use Rattle.messages.specs.Order.{AreInOrder, TextPrecedes}
 use Rattle.outcomes.specs.HostFile.{Line, AreLines, IsHostFile, IsHostFileAfter, lines_after, with_lines}
 use Rattle.outcomes.specs.Outcomes.{AreLive, ComesTo, LiveGrant}
 use Rattle.outcomes.specs.Parked.{AreParked, IsParked}
-use Rattle.outcomes.proofs.GivenLists.{IsRoll}
+use Rattle.outcomes.proofs.GivenLists.{AsksPast, IsRoll, roll_of_some}
 use Rattle.outcomes.proofs.HostLines.{are_lines, lines_for}
 use Rattle.outcomes.proofs.LiveLemmas.{are_live}
 use Rattle.outcomes.proofs.Membership.{no_member, Contains-head, Contains-behind, Contains-cases}
@@ -321,7 +316,7 @@ module _ (set : List Message) (known : (m : Message) → Contains set m → IsMe
         record {
           in_order = r.in_order;
           stands = r.stands;
-          alone = λ q alone.
+          alone = λ q alone any.
               let found = r.each q alone.asked in
               (found.0, found.1, alone.alone found.0.request (r.stands found.0 found.1).asked (named_from_name found.0.request (name_of q) found.2));
         },
@@ -338,38 +333,30 @@ module _ (set : List Message) (known : (m : Message) → Contains set m → IsMe
         },
       )
 
+module _ (text : List ℕ) (f : RosterFields Cmnd) (set : List Message) (roster : IsRosterText text f) where
+  given_of : {X : Type 0} (give : RequestFields → Status → List X) (ks : List Kept) → ((k : Kept) → Contains ks k → StandsFor set k)
+      → ((k : Kept) → Contains ks k → IsRequest k.request) → (xs : List X) × Give f set give ks xs
+  given_of give [] stands are = ([], refl)
+  given_of give (k ∷ ks) stands are =
+      let more = given_of give ks (λ j h. stands j (Contains-behind k ks j h)) (λ j h. are j (Contains-behind k ks j h)) in
+      let here = some_status text f set k roster (are k (Contains-head k ks)) (stands k (Contains-head k ks)) in
+      (give k.request here.0 ++ more.0, (more.0, here.0, more.1, here.1, refl))
+
+  pub lines_of_roll : (host : List ℕ) (ks : List Kept) → IsRoll set ks → ((k : Kept) → Contains ks k → IsRequest k.request)
+      → (lines : List Line) × AreLines f set host lines
+  lines_of_roll host ks roll are =
+      let given = given_of (lines_for host) ks roll.stands are in (given.0, are_lines f set host ks roll given.0 given.1)
+
 module _ (text : List ℕ) (f : RosterFields Cmnd) (set : List Message) (roster : IsRosterText text f) (known : (m : Message)
     → Contains set m → IsMessage m) where
   -- ---- what each comes to
 
-  status_of : (k : Kept) → StandsFor set k → (status : Status) × IsStatus f set (name_of k.request) status
-  status_of k stands =
-      elim (cases_Bool k.is_disputed) as (λ _. (status : Status) × IsStatus f set (name_of k.request) status) [
-        | inl two ↦ (Disputed, disputed_is set k two stands)
-        | inr single ↦
-            elim (some_answer text f (Request k.request) roster (known (Request k.request) stands.asked))
-            as (λ _. (status : Status) × IsStatus f set (name_of k.request) status) [
-              | inl admits ↦
-                  let c = admits.ceiling in
-                  let needs = found_few text f k.request.ceiling (λ (x : CeilingFields Cmnd). x) (Some c) roster (sym admits.may_ask.ceiling_is) in
-                  (admitted_status f c k, admitted_is f c set k admits.may_ask.ceiling_is needs.0 admits single stands)
-              | inr denied ↦
-                  (Lapsed, lapsed_is f set k (λ admits. no_denial f (Request k.request) denied.0 admits denied.1.applies) single stands)
-            ]
-      ]
-
-  given_of : {X : Type 0} (give : RequestFields → Status → List X) (ks : List Kept)
-      → ((k : Kept) → Contains ks k → StandsFor set k) → (xs : List X) × Give f set give ks xs
-  given_of give [] stands = ([], refl)
-  given_of give (k ∷ ks) stands =
-      let more = given_of give ks (λ j h. stands j (Contains-behind k ks j h)) in
-      let here = status_of k (stands k (Contains-head k ks)) in
-      (give k.request here.0 ++ more.0, (more.0, here.0, more.1, here.1, refl))
+  requests : (ks : List Kept) → ((k : Kept) → Contains ks k → StandsFor set k) → (k : Kept) → Contains ks k → IsRequest k.request
+  requests ks stands k h = known (Request k.request) (stands k h).asked
 
   pub some_lines : (host : List ℕ) → (lines : List Line) × AreLines f set host lines
   some_lines host =
-      let given = given_of (lines_for host) (roll set known).0 (roll set known).1.stands in
-      (given.0, are_lines f set host (roll set known).0 (roll set known).1 given.0 given.1)
+      let r = roll set known in lines_of_roll text f set roster host r.0 r.1 (requests r.0 r.1.stands)
 
   pub some_file : (base : List Entry) (host : List ℕ) → (file : List ℕ) × IsHostFile f base set host file
   some_file base host =
@@ -383,8 +370,9 @@ module _ (text : List ℕ) (f : RosterFields Cmnd) (set : List Message) (roster 
 
   pub some_live : (moment : ℕ) → (list : List LiveGrant) × AreLive f set moment list
   some_live moment =
-      let given = given_of (live_for moment) (roll set known).0 (roll set known).1.stands in
-      (given.0, are_live f set moment (roll set known).0 (roll set known).1 given.0 given.1)
+      let r = roll set known in
+      let given = given_of text f set roster (live_for moment) r.0 r.1.stands (requests r.0 r.1.stands) in
+      (given.0, are_live f set moment r.0 (roll_of_some set (AsksPast moment) r.0 r.1) given.0 given.1)
 
   pub some_outcome : (name : RequestName) → (o : Option Status) × ComesTo f set name o
   some_outcome name =
@@ -392,6 +380,6 @@ module _ (text : List ℕ) (f : RosterFields Cmnd) (set : List Message) (roster 
         | inr nobody ↦ (None, nobody)
         | inl found ↦
             let k = summary_of set known found.0 found.1 in
-            let status = status_of k.0 k.2 in
+            let status = some_status text f set k.0 roster (known (Request k.0.request) k.2.asked) k.2 in
             (Some status.0, subst (λ (n : RequestName). IsStatus f set n status.0) (ap name_of k.1 ∙ name_from_named found.0 name found.2) status.1)
       ]

@@ -30,7 +30,7 @@ use Rattle.grants.specs.Summaries.{Kept}
 use Rattle.grants.specs.GrantLines.{AreWritten, lasts_until, rules_left, stays}
 use Rattle.grants.proofs.LawfulRules.{extended_policy}
 use Rattle.outcomes.specs.private.Behind.{AreBehind, AreNamesLines}
-use Rattle.outcomes.specs.private.ByHost.{if_kept}
+use Rattle.outcomes.specs.private.Index.{if_kept}
 use Rattle.outcomes.specs.private.InTurn.{Give}
 use Rattle.grants.specs.declared.host_fault.HostFault.{HostFault}
 use Rattle.grants.specs.declared.host_fault.HostFault.TheVariants.{NoMemory}
@@ -40,8 +40,8 @@ use Rattle.outcomes.specs.HostFile.{Line, IsLine, LinePrecedes, AreLines, IsHost
 use Rattle.outcomes.specs.LinesLeft.{IsFileLeft, IsPast, lines_left}
 use Rattle.outcomes.specs.Rights.{GivesRights, GivesRightsAfter}
 use Rattle.outcomes.proofs.Filters.{all_left, kept, passes, was_there}
-use Rattle.outcomes.proofs.GivenLists.{IsHostRoll, all_both, one_given}
-use Rattle.outcomes.proofs.HostLines.{are_host_lines, left_given, rule_in}
+use Rattle.outcomes.proofs.GivenLists.{IsLeftAt, IsRollOf, all_both, one_given}
+use Rattle.outcomes.proofs.HostLines.{left_given, rule_in, same_left}
 use Rattle.outcomes.proofs.Headline.{SpeakFor, all_speak, bare_as_base, covered_allowed, entries_of_rules, left_speak}
 use Rattle.outcomes.proofs.Membership.{Contains-head, Contains-behind, Contains-from_get}
 use Rattle.outcomes.proofs.Orders.{lines_strict, same_lists}
@@ -69,11 +69,11 @@ one_file_after f base set host moment x y a b =
 abbrev pub HasRules : RosterFields Cmnd → List Message → List ℕ → Option ℕ → List Rule → Type 0
 HasRules f set host after rules = (lines : List Line) × AreLines f set host lines × (rules ≡ map rule_in (lines_left after lines))
 
-pub has_rules : (f : RosterFields Cmnd) (set : List Message) (host : List ℕ) (after : Option ℕ) (ks : List Kept) (rules : List Rule)
-    → IsHostRoll set host ks → Give f set (rules_left after host) ks rules → HasRules f set host after rules
-has_rules f set host after ks rules roll given =
+pub has_rules : (f : RosterFields Cmnd) (set : List Message) (host : List ℕ) (after : Option ℕ) (ks : List Kept) (rules : List Rule) (all : List Line)
+    → AreLines f set host all → IsRollOf set (IsLeftAt host after) ks → Give f set (rules_left after host) ks rules → HasRules f set host after rules
+has_rules f set host after ks rules all are roll given =
     let found = left_given f set host after ks rules given in
-    (found.0, are_host_lines f set host ks roll found.0 found.1, found.2)
+    (all, are, found.2 ∙ ap (map rule_in) (same_left f set host after ks roll found.0 all found.1 are))
 
 pub extended : (base : List Entry) (rules : List Rule) (lines : List Line) → rules ≡ map rule_in lines → with_rules base rules ≡ with_lines base lines
 extended base rules lines e =
@@ -135,19 +135,19 @@ named_behind f set host after seen (Some k) first old new count more before w = 
 
 -- the base's text and the lines after it are the file
 pub is_file_left : (f : RosterFields Cmnd) (base : List Entry) (set : List Message) (host : List ℕ) (after : Option ℕ) (ks : List Kept)
-    (text : List ℕ) → FitsBase base → IsHostRoll set host ks → AreBehind f set host after ks (canon base) text → IsFileLeft f base set host after text
-is_file_left f base set host after ks text fits roll b =
+    (text : List ℕ) (all : List Line) → FitsBase base → AreLines f set host all → IsRollOf set (IsLeftAt host after) ks
+    → AreBehind f set host after ks (canon base) text → IsFileLeft f base set host after text
+is_file_left f base set host after ks text all fits are roll b =
     let spelled = canon_spells (with_rules base b.rules) (extended_policy base b.rules fits b.few b.grants) in
     let is : text ≡ canon (with_rules base b.rules) = b.text_is ∙ sym (canon_both base (map entries.Rule b.rules)) in
-    is_left f base set host after text b.rules (has_rules f set host after ks b.rules roll b.given) is
+    is_left f base set host after text b.rules (has_rules f set host after ks b.rules all are roll b.given) is
     (subst (λ (t : List ℕ). Spells t (with_rules base b.rules)) (sym is) spelled)
 
 -- and in that case they are not too many
-pub not_past :
-    (f : RosterFields Cmnd) (set : List Message) (host : List ℕ) (after : Option ℕ) (ks : List Kept) (old new : List ℕ) (lines : List Line)
-    → IsHostRoll set host ks → AreBehind f set host after ks old new → AreLines f set host lines → 8_192 < length (lines_left after lines) → ⊥
+pub not_past : (f : RosterFields Cmnd) (set : List Message) (host : List ℕ) (after : Option ℕ) (ks : List Kept) (old new : List ℕ) (lines : List Line)
+    → IsRollOf set (IsLeftAt host after) ks → AreBehind f set host after ks old new → AreLines f set host lines → 8_192 < length (lines_left after lines) → ⊥
 not_past f set host after ks old new lines roll b are past =
-    omega (arith, past, b.few, same_count f set host after b.rules lines (has_rules f set host after ks b.rules roll b.given) are)
+    omega (arith, past, b.few, same_count f set host after b.rules lines (has_rules f set host after ks b.rules lines are roll b.given) are)
 
 -- if the lines are few enough, only want of memory is a reason to have none
 pub memory_alone : (f : RosterFields Cmnd) (set : List Message) (host : List ℕ) (after : Option ℕ) (e : HostFault) (lines : List Line)

@@ -1,5 +1,5 @@
 -- What the summaries of a set give in turn.
-use Rattle.std.proofs.Common.{◌≡◌, ℕ, List, [], ◌∷◌, ◌++◌, Option, Some, None, refl, sym, ap, ◌∙◌, subst, inl, inr, append_assoc}
+use Rattle.std.proofs.Common.{◌≡◌, ℕ, true, List, [], ◌∷◌, ◌++◌, Option, Some, None, refl, sym, ap, ◌∙◌, subst, inl, inr, append_assoc}
 use Rattle.std.proofs.lemmas.List.{append-nil}
 use Rattle.std.specs.List.{Contains, AllByRecursion}
 use Rattle.std.specs.List.Sorted.{IsStrictlySortedBy}
@@ -24,7 +24,8 @@ use Rattle.messages.specs.Order.{AreInOrder}
 use Rattle.messages.proofs.NameOrder.{lower_from_less}
 use Rattle.outcomes.specs.Summaries.{SummaryPrecedes}
 use Rattle.outcomes.specs.private.ByName.{Gathers, IsSummaryOf, at_name}
-use Rattle.outcomes.specs.private.InTurn.{Adds, Give}
+use Rattle.outcomes.specs.private.Index.{if_kept, is_left}
+use Rattle.outcomes.specs.private.InTurn.{Adds, AddsAt, Give}
 use Rattle.outcomes.proofs.GatherLemmas.{IsAt}
 use Rattle.outcomes.proofs.Membership.{no_member, Contains-head, Contains-behind, Contains-cases}
 use Rattle.outcomes.proofs.NameMaps.{at_entry, value_at, value_from_entry}
@@ -87,36 +88,37 @@ module _ (set : List Message) (m : BTreeMap RequestName Kept) (g : Gathers set m
       let found = kept_asked q alone.asked in
       (found.0, found.1, alone.alone found.0.request (kept_stands found.0 found.1).asked found.2)
 
--- Summaries of the set, in the order of their names; a request that stands alone is the request of one of them.
-pub record IsRoll (set : List Message) (ks : List Kept) : Type 0 where
+-- Summaries of the set, in the order of their names; a request that stands alone, and of which P holds, is the request of one of them.
+pub record IsRollOf (set : List Message) (P : RequestFields → Type 0) (ks : List Kept) : Type 0 where
   pub in_order : AreInOrder SummaryPrecedes ks
   pub stands : (k : Kept) → Contains ks k → StandsFor set k
-  pub alone : (q : RequestFields) → StandsAlone set q → (k : Kept) × Contains ks k × (k.request ≡ q)
+  pub alone : (q : RequestFields) → StandsAlone set q → P q → (k : Kept) × Contains ks k × (k.request ≡ q)
+
+-- and each request that stands alone
+abbrev pub IsRoll : List Message → List Kept → Type 0
+IsRoll set ks = IsRollOf set (λ q. Unit {0}) ks
 
 pub is_roll : (set : List Message) (m : BTreeMap RequestName Kept) → Gathers set m → IsRoll set (values m)
 is_roll set m g =
-    record { in_order = kept_in_order set m g; stands = kept_stands set m g; alone = kept_alone set m g }
+    record { in_order = kept_in_order set m g; stands = kept_stands set m g; alone = λ q alone any. kept_alone set m g q alone }
 
--- The same of a host: a request that stands alone and lists the host is the request of one of them.
-pub record IsHostRoll (set : List Message) (host : List ℕ) (ks : List Kept) : Type 0 where
-  pub in_order : AreInOrder SummaryPrecedes ks
-  pub stands : (k : Kept) → Contains ks k → StandsFor set k
-  pub alone : (q : RequestFields) → StandsAlone set q → Contains q.hosts host → (k : Kept) × Contains ks k × (k.request ≡ q)
+-- the request lists the host, and asks for an end that is left
+abbrev pub IsLeftAt : List ℕ → Option ℕ → RequestFields → Type 0
+IsLeftAt host after q = Contains q.hosts host × (is_left after q.until ≡ true)
 
-pub is_host_roll : (set : List Message) (host : List ℕ) (ks : List Kept) → IsRoll set ks → IsHostRoll set host ks
-is_host_roll set host ks roll =
-    record { in_order = roll.in_order; stands = roll.stands; alone = λ q alone lists. roll.alone q alone }
+-- it asks for the moment or a later one
+abbrev pub AsksPast : ℕ → RequestFields → Type 0
+AsksPast at q = is_left (Some at) q.until ≡ true
+
+pub roll_of_some : (set : List Message) (P : RequestFields → Type 0) (ks : List Kept) → IsRoll set ks → IsRollOf set P ks
+roll_of_some set P ks roll =
+    record { in_order = roll.in_order; stands = roll.stands; alone = λ q alone is. roll.alone q alone tt }
 
 -- ---- one turn of a loop over them
 
 pub turn_split : {X : Type 0} (seen rest next all : List X) (k : X) → seen ++ rest ≡ all → rest ≡ k ∷ next → (seen ++ k ∷ []) ++ next ≡ all
 turn_split {X} seen rest next all k split steps =
     append_assoc seen (k ∷ []) next ∙ ap (λ (ks : List X). seen ++ ks) (sym steps) ∙ split
-
-pub turn_among : (seen rest next all : List Kept) (k : Kept) → seen ++ rest ≡ all → rest ≡ k ∷ next → Contains all k
-turn_among seen rest next all k split steps =
-    subst (λ (ks : List Kept). Contains ks k) split
-    (Contains-append_right seen rest k (subst (λ (ks : List Kept). Contains ks k) (sym steps) (Contains-head k next)))
 
 -- ---- what they give
 
@@ -135,6 +137,13 @@ module _ {X : Type 0} (f : RosterFields Cmnd) (set : List Message) (give : Reque
     g.3,
     a.2 ∙ ap (λ (l : List X). l ++ give k.request a.0) g.4 ∙ append_assoc (give j.request g.1) g.0 (give k.request a.0),
   )
+
+  -- or nothing, where a name has no summary
+  pub some_given : (ks : List Kept) (o : Option Kept) (xs ys : List X) → Give f set give ks xs → AddsAt f set give o xs ys
+      → Give f set give (ks ++ if_kept o) ys
+  some_given ks None xs ys g a =
+      subst (λ (js : List Kept). Give f set give js ys) (sym (append-nil ks)) (subst (Give f set give ks) (sym a) g)
+  some_given ks (Some k) xs ys g a = one_given ks k xs ys g a
 
   pub record IsGivenBy (ks : List Kept) (x : X) : Type 0 where
     pub k : Kept

@@ -1,8 +1,9 @@
 -- The rules that the summaries of a set give a host are those of its lines.
-use Rattle.std.proofs.Common.{◌≡◌, ℕ, zero, suc, ◌+◌, ◌<◌, ◌≤◌, Bool, true, false, cond, List, [], ◌∷◌}
-use Rattle.std.proofs.Common.{◌++◌, map, length, Option, Some, refl, sym, ap, ◌∙◌, subst, inl, inr, arith}
+use Rattle.std.proofs.Common.{◌≡◌, ℕ, zero, suc, ◌+◌, ◌<◌, ◌≤◌, leb, Bool, true, false, cond, List, [], ◌∷◌}
+use Rattle.std.proofs.Common.{◌++◌, map, length, Option, Some, None, refl, sym, ap, ◌∙◌, subst, inl, inr, arith}
 use Rattle.std.specs.List.{Contains, filter, list_any, slice_get}
 use Rattle.std.specs.Str.{bytes_eq}
+use Rattle.std.proofs.lemmas.Bool.{leb-true, le-leb}
 use Rattle.std.proofs.lemmas.List.{length-map, map-append}
 use Rattle.std.proofs.lemmas.List.Elements.{Contains-append_left}
 use Rattle.sudo_words.specs.declared.cmnd.Cmnd.{Cmnd}
@@ -20,14 +21,15 @@ use Rattle.grants.specs.declared.outcome.Status.TheVariants.{Disputed, Lapsed, R
 use Rattle.grants.specs.declared.outcome.Window.{Window}
 use Rattle.outcomes.specs.Summaries.{SummaryPrecedes}
 use Rattle.grants.specs.GrantLines.{rules_left, stays}
+use Rattle.outcomes.specs.private.Index.{is_left}
 use Rattle.outcomes.specs.private.InTurn.{Give}
 use Rattle.messages.specs.Order.{AllAfter, AreInOrder}
 use Rattle.outcomes.specs.HostFile.{Line, IsLine, LinePrecedes, AreLines}
 use Rattle.outcomes.specs.LinesLeft.{lines_left}
 use Rattle.outcomes.proofs.Filters.{kept, left_in_order, left_of_given, left_of_map, passes, was_there}
-use Rattle.outcomes.proofs.GivenLists.{IsHostRoll, IsRoll, given_by, given_in_order, gives, is_host_roll}
+use Rattle.outcomes.proofs.GivenLists.{IsLeftAt, IsRoll, IsRollOf, given_by, given_in_order, gives}
 use Rattle.outcomes.proofs.Membership.{no_member, Contains-head, Contains-behind, Contains-cases, member_from_test, test_from_member}
-use Rattle.outcomes.proofs.Orders.{lines_strict, no_longer, ordered_front}
+use Rattle.outcomes.proofs.Orders.{lines_strict, no_longer, ordered_front, same_lists}
 
 -- ---- the lines of one request
 
@@ -256,20 +258,37 @@ module _ (f : RosterFields Cmnd) (set : List Message) (host : List ℕ) where
       subst (λ (b : Bool). Contains (cond b (cmnd_lines host q l.first l.last 0 q.cmnds) []) line)
       (sym (test_from_member q.hosts host l.names_host)) (subst (λ (x : Line). Contains (cmnd_lines host q l.first l.last 0 q.cmnds) x) same there)
 
-  module _ (ks : List Kept) (roll : IsHostRoll set host ks) where
-    all_lines : (lines : List Line) → Give f set (lines_for host) ks lines → (line : Line) → IsLine f set host line → Contains lines line
-    all_lines lines given line l =
-        let found = roll.alone l.request l.first_is.inside.alone l.names_host in
-        let k = found.0 in
-        let status : Status = Granted (record { start = l.first; end = l.last }) in
-        let is =
-        subst (λ (q : RequestFields). IsStatus f set (name_of q) status) (sym found.2) (granted_name f set l.request l.first l.last l.first_is l.last_is) in
-        gives f set (lines_for host) ks lines given k found.1 status is line
-        (subst (λ (q : RequestFields). Contains (lines_for host q status) line) (sym found.2) (line_inside line l))
+  -- a line whose request is that of one of the summaries is among theirs
+  line_among : (P : RequestFields → Type 0) (ks : List Kept) → IsRollOf set P ks → (lines : List Line) → Give f set (lines_for host) ks lines
+      → (line : Line) → (l : IsLine f set host line) → P l.request → Contains lines line
+  line_among P ks roll lines given line l held =
+      let found = roll.alone l.request l.first_is.inside.alone held in
+      let k = found.0 in
+      let status : Status = Granted (record { start = l.first; end = l.last }) in
+      let is =
+      subst (λ (q : RequestFields). IsStatus f set (name_of q) status) (sym found.2) (granted_name f set l.request l.first l.last l.first_is l.last_is) in
+      gives f set (lines_for host) ks lines given k found.1 status is line
+      (subst (λ (q : RequestFields). Contains (lines_for host q status) line) (sym found.2) (line_inside line l))
 
-    pub are_host_lines : (lines : List Line) → Give f set (lines_for host) ks lines → AreLines f set host lines
-    are_host_lines lines given =
-        record { in_order = lines_ordered ks lines roll.in_order given; each = each_line ks lines roll.stands given; all = all_lines lines given }
+  -- no window ends later than its request asks for
+  asked_past : (after : Option ℕ) (line : Line) → (l : IsLine f set host line) → stays after line.rule ≡ true → is_left after l.request.until ≡ true
+  asked_past None line l left = refl
+  asked_past (Some moment) line l left =
+      let ends : leb moment l.last ≡ true = sym (ap (stays (Some moment)) l.rule_is) ∙ left in
+      le-leb moment l.request.until (omega (arith, leb-true moment l.last ends, l.last_is.inside.until))
+
+  -- what is left of the lines of the requests that ask for an end that is left is what is left of all lines
+  pub same_left : (after : Option ℕ) (ks : List Kept) → IsRollOf set (IsLeftAt host after) ks → (lines all : List Line)
+      → Give f set (lines_for host) ks lines → AreLines f set host all → lines_left after lines ≡ lines_left after all
+  same_left after ks roll lines all given are =
+      let p : Line → Bool = λ line. stays after line.rule in
+      same_lists LinePrecedes lines_strict (lines_left after lines) (lines_left after all)
+      (left_in_order p LinePrecedes lines (lines_ordered ks lines roll.in_order given)) (left_in_order p LinePrecedes all are.in_order)
+      (λ line m. kept p all line (are.all line (each_line ks lines roll.stands given line (was_there p lines line m))) (passes p lines line m))
+      (λ line m.
+      let l = are.each line (was_there p all line m) in
+      let left = passes p all line m in
+      kept p lines line (line_among (IsLeftAt host after) ks roll lines given line l (l.names_host, asked_past after line l left)) left)
 
   -- the first few summaries leave no more lines than the set does
   pub some_lines : (ks : List Kept) → AreInOrder SummaryPrecedes ks → ((k : Kept) → Contains ks k → StandsFor set k)
@@ -288,4 +307,8 @@ module _ (f : RosterFields Cmnd) (set : List Message) (host : List ℕ) where
       omega (arith, fewer, ap length found.2, length-map (lines_left after found.0) rule_in)
 
   pub are_lines : (ks : List Kept) → IsRoll set ks → (lines : List Line) → Give f set (lines_for host) ks lines → AreLines f set host lines
-  are_lines ks roll lines given = are_host_lines ks (is_host_roll set host ks roll) lines given
+  are_lines ks roll lines given = record {
+    in_order = lines_ordered ks lines roll.in_order given;
+    each = each_line ks lines roll.stands given;
+    all = λ line l. line_among (λ q. Unit {0}) ks roll lines given line l tt;
+  }

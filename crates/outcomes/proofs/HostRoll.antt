@@ -1,13 +1,13 @@
--- The summaries of the names that are listed at a host are those that a host's lines come from.
-use Rattle.std.proofs.Common.{◌≡◌, ℕ, ◌++◌, List, [], ◌∷◌, Option, Some, None, refl, sym, ap, ◌∙◌, subst, inl, inr, append_assoc}
+-- The summaries of the names that are left at a host are those that what is left of its lines comes from, and the grants in force those of all names.
+use Rattle.std.proofs.Common.{◌≡◌, ℕ, ◌++◌, true, List, [], ◌∷◌, Option, Some, None, refl, sym, ap, ◌∙◌, subst, inl, inr, append_assoc}
 use Rattle.std.proofs.lemmas.List.{append-nil}
-use Rattle.std.specs.List.{Contains, AllByRecursion}
+use Rattle.std.specs.List.{Contains}
 use Rattle.std.specs.List.Sorted.{IsStrictlySortedBy}
-use Rattle.std.specs.BTreeMap.{BTreeMap}
+use Rattle.std.specs.BTreeMap.{BTreeMap, values}
 use Rattle.std.specs.declared.cmp.Ordering.TheVariants.{Less}
 use Rattle.std.proofs.lemmas.List.Elements.{Contains-append_left, Contains-append_right, Contains-append_cases}
 use Rattle.std.proofs.lemmas.Map.Keys.{sorted_head, sorted_tail}
-use Rattle.messages.specs.Fields.{RequestFields}
+use Rattle.messages.specs.Fields.{IsRequest, RequestFields}
 use Rattle.messages.specs.Names.{NamePrecedes, name_cmp, name_of}
 use Rattle.messages.specs.Order.{AreInOrder}
 use Rattle.messages.specs.declared.message.Message.{Message}
@@ -15,11 +15,14 @@ use Rattle.messages.specs.declared.request_name.RequestName.{RequestName}
 use Rattle.messages.proofs.NameOrder.{lower_from_less}
 use Rattle.grants.specs.Summaries.{Kept, StandsFor}
 use Rattle.outcomes.specs.Summaries.{SummaryPrecedes}
-use Rattle.outcomes.specs.private.ByHost.{AreListed, Hosts, if_kept, kept_of, names_at}
-use Rattle.outcomes.specs.private.ByName.{Gathers, at_name}
+use Rattle.outcomes.specs.declared.index.Ending.{Ending}
+use Rattle.outcomes.specs.declared.index.Index.{Index}
+use Rattle.outcomes.specs.private.Index.{AreListed, AreNamesLeft, IsListed, ending_of, endings_at, if_kept, is_left, kept_of}
+use Rattle.outcomes.specs.private.ByName.{AreRequests, Gathers, at_name}
 use Rattle.outcomes.proofs.ByNameLemmas.{kept_at}
 use Rattle.outcomes.proofs.GatherLemmas.{named_at}
-use Rattle.outcomes.proofs.GivenLists.{IsHostRoll, kept_alone, kept_stands}
+use Rattle.outcomes.proofs.GivenLists.{AsksPast, IsLeftAt, IsRollOf, kept_alone, kept_stands}
+use Rattle.outcomes.proofs.IndexLemmas.{each_at}
 use Rattle.outcomes.proofs.Membership.{no_member, Contains-head, Contains-behind, Contains-cases}
 use Rattle.outcomes.proofs.NameMaps.{value_at}
 use Rattle.outcomes.proofs.Orders.{ordered_both}
@@ -35,14 +38,6 @@ if_kept_is (Some j) k m =
 if_kept_ordered : (o : Option Kept) → AreInOrder SummaryPrecedes (if_kept o)
 if_kept_ordered None = tt
 if_kept_ordered (Some k) = (tt, tt)
-
-each_at : (P : RequestName → Type 0) (xs : List RequestName) → AllByRecursion P xs → (x : RequestName) → Contains xs x → P x
-each_at P [] all x m = absurd (no_member x m)
-each_at P (y ∷ xs) all x m =
-    elim (Contains-cases y xs x m) as (λ _. P x) [
-      | inl same ↦ subst P same all.0
-      | inr later ↦ each_at P xs all.1 x later
-    ]
 
 module _ (m : BTreeMap RequestName Kept) where
   pub kept_more : (names : List RequestName) (name : RequestName) → kept_of m (names ++ name ∷ []) ≡ kept_of m names ++ if_kept (at_name m name)
@@ -97,15 +92,33 @@ module _ (m : BTreeMap RequestName Kept) where
     kept_of_stands names k among =
         let found = kept_from names k among in kept_stands set m g k (value_at m found.0 k found.2)
 
-    pub host_roll : (h : Hosts) (host : List ℕ) → AreListed h m → IsStrictlySortedBy name_cmp (names_at h host)
-        → IsHostRoll set host (kept_of m (names_at h host))
-    host_roll h host listed sorted = record {
-      in_order = kept_of_ordered (names_at h host) sorted;
-      stands = kept_of_stands (names_at h host);
-      alone = λ q alone lists.
+    -- the request of one of them is each request that stands alone and whose ending is left where it is listed
+    roll_from : (P : RequestFields → Type 0) (after : Option ℕ) (h : Index) (endings : List Ending) (names : List RequestName)
+        → AreListed h m → AreNamesLeft after endings names
+        → ((name : RequestName) (q : RequestFields) → IsListed h name q → P q → Contains endings (ending_of name q) × (is_left after q.until ≡ true))
+        → IsRollOf set P (kept_of m names)
+    roll_from P after h endings names listed are where_listed = record {
+      in_order = kept_of_ordered names are.in_order;
+      stands = kept_of_stands names;
+      alone = λ q alone is.
           let found = kept_alone set m g q alone in
           let k = found.0 in
-          let there : at_name m (name_of k.request) ≡ Some k = kept_at set m g k found.1 in
-          let own : Contains k.request.hosts host = subst (λ (x : RequestFields). Contains x.hosts host) (sym found.2) lists in
-          (k, kept_has (names_at h host) (name_of k.request) k (listed (name_of k.request) k there host own) there, found.2);
+          let name = name_of k.request in
+          let there : at_name m name ≡ Some k = kept_at set m g k found.1 in
+          let own : P k.request = subst P (sym found.2) is in
+          let both = where_listed name k.request (listed name k there) own in
+          (k, kept_has names name k (are.all (ending_of name k.request) both.0 both.1) there, found.2);
     }
+
+    pub host_roll : (h : Index) (host : List ℕ) (after : Option ℕ) (names : List RequestName) → AreListed h m
+        → AreNamesLeft after (endings_at h.hosts host) names → IsRollOf set (IsLeftAt host after) (kept_of m names)
+    host_roll h host after names listed are =
+        roll_from (IsLeftAt host after) after h (endings_at h.hosts host) names listed are (λ name q is left. (is.at_hosts host left.0, left.1))
+
+    pub live_roll : (h : Index) (at : ℕ) (names : List RequestName) → AreListed h m
+        → AreNamesLeft (Some at) h.all.keys names → IsRollOf set (AsksPast at) (kept_of m names)
+    live_roll h at names listed are =
+        roll_from (AsksPast at) (Some at) h h.all.keys names listed are (λ name q is left. (is.among_all, left))
+
+    pub values_are : AreRequests m → (k : Kept) → Contains (values m) k → IsRequest k.request
+    values_are are k among = are (name_of k.request) k (kept_at set m g k among)

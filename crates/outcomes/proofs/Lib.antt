@@ -20,7 +20,7 @@ pub mod Existence
 pub mod SummaryLemmas
 pub mod PastGrants
 pub mod ByNameLemmas
-pub mod ByHostLemmas
+pub mod IndexLemmas
 pub mod HostRoll
 pub mod RowLemmas
 mod WorkedGrant

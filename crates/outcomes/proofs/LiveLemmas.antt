@@ -16,7 +16,7 @@ use Rattle.grants.specs.declared.outcome.Window.{Window}
 use Rattle.outcomes.specs.private.InTurn.{Give, grant_of, grants_of, live_for}
 use Rattle.messages.specs.Order.{AreInOrder}
 use Rattle.outcomes.specs.Outcomes.{AreLive, IsLive, LiveGrant, LivePrecedes}
-use Rattle.outcomes.proofs.GivenLists.{IsRoll, given_by, given_in_order, gives}
+use Rattle.outcomes.proofs.GivenLists.{AsksPast, IsRollOf, given_by, given_in_order, gives}
 use Rattle.outcomes.proofs.HostLines.{granted_moments, granted_name}
 use Rattle.outcomes.proofs.Membership.{no_member, Contains-head, Contains-cases}
 use Rattle.outcomes.proofs.Standing.{name_from_named}
@@ -63,7 +63,7 @@ each_ordered at q Void = tt
 each_ordered at q (Granted w) = either_ordered (leb w.start at && leb at w.end) q w
 
 module _ (f : RosterFields Cmnd) (set : List Message) (at : ℕ) (ks : List Kept)
-    (roll : IsRoll set ks) (list : List LiveGrant) (given : Give f set (live_for at) ks list) where
+    (roll : IsRollOf set (AsksPast at) ks) (list : List LiveGrant) (given : Give f set (live_for at) ks list) where
   is_live : (k : Kept) (status : Status) (l : LiveGrant) → StandsFor set k
       → IsStatus f set (name_of k.request) status → IsGrant at k.request status l → IsLive f set at l
   is_live k status l stands is i =
@@ -95,7 +95,7 @@ module _ (f : RosterFields Cmnd) (set : List Message) (at : ℕ) (ks : List Kept
 
   all_live : (l : LiveGrant) → IsLive f set at l → Contains list l
   all_live l is =
-      let found = roll.alone is.request is.inside.alone in
+      let found = roll.alone is.request is.inside.alone (le-leb at is.request.until is.inside.until) in
       let status : Status = Granted l.window in
       let here = subst (λ (q : RequestFields). IsStatus f set (name_of q) status) (sym found.2)
       (granted_name f set is.request l.window.start l.window.end is.first is.last) in

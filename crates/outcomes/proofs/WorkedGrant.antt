@@ -28,7 +28,7 @@ use Rattle.outcomes.specs.Parked.{AreParked, IsParked}
 use Rattle.outcomes.specs.WorkedSet.{asked, base, early, grant, worked}
 use Rattle.outcomes.specs.private.InTurn.{live_for}
 use Rattle.outcomes.proofs.Existence.{asked_alone}
-use Rattle.outcomes.proofs.GivenLists.{IsRoll}
+use Rattle.outcomes.proofs.GivenLists.{AsksPast, IsRoll, roll_of_some}
 use Rattle.outcomes.proofs.HostLines.{are_lines, lines_for}
 use Rattle.outcomes.proofs.LiveLemmas.{are_live}
 use Rattle.outcomes.proofs.Membership.{no_member, Contains-head, Contains-behind, Contains-cases}
@@ -98,13 +98,13 @@ roll = record {
   in_order = (tt, tt);
   stands = λ k m.
       elim (Contains-cases kept [] k m) as (λ _. StandsFor worked k) [ inl same ↦ subst (StandsFor worked) same stands | inr none ↦ absurd (no_member k none) ];
-  alone = λ q alone. (kept, Contains-head kept [], only_request q alone.asked);
+  alone = λ q alone any. (kept, Contains-head kept [], only_request q alone.asked);
 }
 
 -- ---- what they give
 
 pub live : (moment : ℕ) (list : List LiveGrant) → list ≡ live_for moment asked status ++ [] → AreLive site worked moment list
-live moment list is = are_live site worked moment (kept ∷ []) roll list ([], status, refl, granted, is)
+live moment list is = are_live site worked moment (kept ∷ []) (roll_of_some worked (AsksPast moment) (kept ∷ []) roll) list ([], status, refl, granted, is)
 
 abbrev pub lines_on : List ℕ → List Line
 lines_on host = lines_for host asked status ++ []

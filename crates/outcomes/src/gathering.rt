@@ -15,33 +15,34 @@ ghost use Rattle.outcomes.specs.Gathered.{AreGathered};
 ghost use Rattle.outcomes.specs.private.ByName.{AreAlone, AreByName, Gathers};
 ghost use Rattle.outcomes.specs.private.ByName.{GathersRows, HasNoVerdict, IsByName};
 ghost use Rattle.outcomes.specs.private.ByName.{IsRowOf, at_name, verdicts_at};
-ghost use Rattle.outcomes.specs.private.ByHost.{AreListed, Hosts};
+ghost use Rattle.outcomes.specs.private.Index.{AreListed};
+ghost use Rattle.outcomes.specs.declared.index.Index.{Index as AnyIndex};
 
-use crate::by_host::list_hosts;
+use crate::index::Index;
 use grants::{Summary, apply, ask, ask_again, ask_disputed};
 use messages::{Message, NameRow, Request, RequestName, Verdict};
 use std::alloc::Global;
-use std::collections::{BTreeMap, BTreeSet};
+use std::collections::BTreeMap;
 use std::marker::Model;
-use sudo_words::{HostName, NoMemory};
+use sudo_words::NoMemory;
 
 /// What is known of a set of messages: a summary for each name that somebody asks under, and the
 /// verdicts that wait for their request. Both are kept by name: a verdict is kept as it is until
-/// its request comes, and is part of the summary from then on. The index has, for each host, the
-/// names of the requests that list it, so that a host's file costs what the host has.
+/// its request comes, and is part of the summary from then on. The index has the names by the ends
+/// that the requests ask for, for each host and of all, so that what has ended costs nothing.
 #[derive(Drop)]
 pub struct Gathered {
     pub(crate) alloc: Global,
     pub(crate) summaries: BTreeMap<RequestName, Summary>,
     pub(crate) waiting: BTreeMap<RequestName, Vec<Verdict>>,
-    pub(crate) hosts: BTreeMap<HostName, BTreeSet<RequestName>>,
+    pub(crate) index: Index,
 }
 
 impl Model for Gathered {
     ghost use Rattle.std.specs.BTreeMap.{values};
     ghost use Rattle.outcomes.specs.Gathered.{Known};
     ghost use Rattle.outcomes.specs.private.ByName.{IsByName, in_turn};
-    ghost use Rattle.outcomes.specs.private.ByHost.{AreListed};
+    ghost use Rattle.outcomes.specs.private.Index.{AreListed};
 
     ghost Value = { Known };
 
@@ -50,7 +51,7 @@ impl Model for Gathered {
       waiting = in_turn (values g.waiting);
     } };
 
-    ghost invariant = { λ g. IsByName g.summaries g.waiting × AreListed g.hosts g.summaries };
+    ghost invariant = { λ g. IsByName g.summaries g.waiting × AreListed g.index g.summaries };
 }
 
 /// The verdicts that wait under a name.
@@ -81,27 +82,27 @@ fn first_of(alloc: Global, request: &Request, verdicts: &[Verdict]) -> Result<Su
 }
 
 /// Adds the first request of its name: the verdicts that waited for it are part of its summary, and
-/// wait no longer. Its name is listed at each of its hosts first: if memory runs out later, a name
-/// that has no summary may stay listed, which no answer shows.
+/// wait no longer. It is listed first: if memory runs out later, a name with no summary may stay
+/// listed, which no answer shows.
 fn put_first(
     alloc: Global,
     summaries: &mut BTreeMap<RequestName, Summary>,
     waiting: &mut BTreeMap<RequestName, Vec<Verdict>>,
-    hosts: &mut BTreeMap<HostName, BTreeSet<RequestName>>,
+    index: &mut Index,
     name: RequestName,
     request: &Request,
 ) -> Result<(), NoMemory>
     requires known { IsByName summaries.old waiting.old }
     requires named { name ≡ name_of request.now }
     requires first { at_name summaries.old name ≡ None }
-    ensures listed { AreListed hosts.old summaries.old → AreListed hosts.new summaries.new }
+    ensures listed { AreListed index.old summaries.old → AreListed index.new summaries.new }
     ensures known { (set : List AnyMessage) → AreByName set summaries.old waiting.old
         → MatchResult result
         (λ _. AreByName (set ++ message_of.Request request.now ∷ []) summaries.new waiting.new)
         (λ _. AreByName set summaries.new waiting.new) }
 {
     let summary = first_of(alloc, request, waited(waiting, &name))?;
-    list_hosts(alloc, hosts, request.hosts(), &name)?;
+    index.list(alloc, request, &name)?;
     let settled = name.clone()?;
     summaries.insert(name, summary)?;
     let _part_of_it = waiting.remove(&settled);
@@ -113,11 +114,11 @@ fn put_request(
     alloc: Global,
     summaries: &mut BTreeMap<RequestName, Summary>,
     waiting: &mut BTreeMap<RequestName, Vec<Verdict>>,
-    hosts: &mut BTreeMap<HostName, BTreeSet<RequestName>>,
+    index: &mut Index,
     request: &Request,
 ) -> Result<(), NoMemory>
     requires { IsByName summaries.old waiting.old }
-    ensures listed { AreListed hosts.old summaries.old → AreListed hosts.new summaries.new }
+    ensures listed { AreListed index.old summaries.old → AreListed index.new summaries.new }
     ensures known { (set : List AnyMessage) → AreByName set summaries.old waiting.old
         → MatchResult result
         (λ _. AreByName (set ++ message_of.Request request.now ∷ []) summaries.new waiting.new)
@@ -129,7 +130,7 @@ fn put_request(
             ask_again(summary, request);
             Ok(())
         }
-        None => put_first(alloc, summaries, waiting, hosts, name, request),
+        None => put_first(alloc, summaries, waiting, index, name, request),
     }
 }
 
@@ -167,8 +168,8 @@ fn put_verdict(
     verdict: &Verdict,
 ) -> Result<(), NoMemory>
     requires { IsByName summaries.old waiting.old }
-    ensures listed { (hosts : Hosts) → AreListed hosts summaries.old
-        → AreListed hosts summaries.new }
+    ensures listed { (index : AnyIndex) → AreListed index summaries.old
+        → AreListed index summaries.new }
     ensures known { (set : List AnyMessage) → AreByName set summaries.old waiting.old
         → MatchResult result
         (λ _. AreByName (set ++ message_of.Verdict verdict.now ∷ []) summaries.new waiting.new)
@@ -198,10 +199,10 @@ fn summary_of(alloc: Global, row: &NameRow) -> Result<Summary, NoMemory>
 fn put_row(
     alloc: Global,
     summaries: &mut BTreeMap<RequestName, Summary>,
-    hosts: &mut BTreeMap<HostName, BTreeSet<RequestName>>,
+    index: &mut Index,
     row: &NameRow,
 ) -> Result<(), NoMemory>
-    ensures listed { AreListed hosts.old summaries.old → AreListed hosts.new summaries.new }
+    ensures listed { AreListed index.old summaries.old → AreListed index.new summaries.new }
     ensures alone { AreAlone summaries.old → OnOk result (AreAlone summaries.new) }
     ensures rows { (set : List AnyMessage) (rows : List AnyRow) → HasNoVerdict set
         → IsRowOf set row.now → GathersRows set rows summaries.old
@@ -212,7 +213,7 @@ fn put_row(
         Some(_) => Ok(()),
         None => {
             let summary = summary_of(alloc, row)?;
-            list_hosts(alloc, hosts, row.request.hosts(), &name)?;
+            index.list(alloc, &row.request, &name)?;
             summaries.insert(name, summary)?;
             Ok(())
         }
@@ -223,17 +224,17 @@ fn put_row(
 /// names.
 fn summaries_of(
     alloc: Global,
-    hosts: &mut BTreeMap<HostName, BTreeSet<RequestName>>,
+    index: &mut Index,
     rows: &[NameRow],
 ) -> Result<BTreeMap<RequestName, Summary>, NoMemory>
-    ensures listed { IfOk result (AreListed hosts.new) }
+    ensures listed { IfOk result (AreListed index.new) }
     ensures alone { IfOk result AreAlone }
     ensures known { (set : List AnyMessage)
         → ShowSet (λ m. Contains set m) rows.now [] → IfOk result (Gathers set) }
 {
     let mut summaries = BTreeMap::new(alloc);
     for row in rows {
-        put_row(alloc, &mut summaries, hosts, row)?;
+        put_row(alloc, &mut summaries, index, row)?;
     }
     Ok(summaries)
 }
@@ -247,7 +248,7 @@ impl Gathered {
             alloc,
             summaries: BTreeMap::new(alloc),
             waiting: BTreeMap::new(alloc),
-            hosts: BTreeMap::new(alloc),
+            index: Index::new(alloc),
         }
     }
 
@@ -256,13 +257,13 @@ impl Gathered {
         ensures { (set : List AnyMessage) → ShowSet (λ m. Contains set m) names.now []
             → IfOk result (AreGathered set) }
     {
-        let mut hosts = BTreeMap::new(alloc);
-        let summaries = summaries_of(alloc, &mut hosts, names)?;
+        let mut index = Index::new(alloc);
+        let summaries = summaries_of(alloc, &mut index, names)?;
         Ok(Gathered {
             alloc,
             summaries,
             waiting: BTreeMap::new(alloc),
-            hosts,
+            index,
         })
     }
 
@@ -290,7 +291,7 @@ impl Gathered {
                 self.alloc,
                 &mut self.summaries,
                 &mut self.waiting,
-                &mut self.hosts,
+                &mut self.index,
                 request,
             ),
             Message::Verdict(verdict) => self.hear(verdict),

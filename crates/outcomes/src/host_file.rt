@@ -2,8 +2,6 @@
 
 ghost use Rattle.std.specs.Prelude.{◌≡◌, ◌⊎◌, ◌<◌, ◌≤◌, List, IfOk, IfErr};
 ghost use Rattle.std.specs.Prelude.{OnOk, MatchResult, length, string_bytes};
-ghost use Rattle.std.specs.List.Sorted.{IsStrictlySortedBy};
-ghost use Rattle.messages.specs.Names.{name_cmp};
 ghost use Rattle.messages.specs.declared.message.Message.{Message as AnyMessage};
 ghost use Rattle.grants.specs.Bases.{FitsBase};
 ghost use Rattle.grants.specs.declared.host_fault.HostFault.TheVariants as fault;
@@ -11,8 +9,8 @@ ghost use Rattle.outcomes.specs.Gathered.{AreGathered};
 ghost use Rattle.outcomes.specs.HostFile.{Line, AreLines};
 ghost use Rattle.outcomes.specs.LinesLeft as left;
 ghost use Rattle.outcomes.specs.private.Behind.{AreBehind, AreNamesLines};
-ghost use Rattle.outcomes.specs.private.ByHost.{kept_of, names_at};
-ghost use Rattle.outcomes.specs.private.ByName.{Gathers, at_name};
+ghost use Rattle.outcomes.specs.private.ByName.{AreRequests, Gathers, at_name};
+ghost use Rattle.outcomes.specs.private.Index.{kept_of};
 
 use crate::base::Base;
 use crate::gathering::Gathered;
@@ -61,7 +59,6 @@ fn push_all(
     ensures ok { (set : List AnyMessage) → Gathers set summaries.now
         → OnOk result (AreBehind roster.now.says set host.now after.now
         (kept_of summaries.now names.now.keys) (string_bytes text.old) (string_bytes text.new)) }
-    ensures ordered { OnOk result (IsStrictlySortedBy name_cmp names.now.keys) }
     ensures err { (set : List AnyMessage) → Gathers set summaries.now
         → IfErr result (left.IsPast roster.now.says set host.now after.now) }
 {
@@ -76,30 +73,15 @@ fn push_all(
     Ok(())
 }
 
-/// Adds the lines that the requests give the host and that are left, in the order of their names:
-/// `TooManyRules` if they are more than 8,192. Only the names that are listed at the host are
-/// looked at.
-fn push_listed(
-    alloc: Global,
-    text: &mut String,
-    roster: &Roster,
-    summaries: &BTreeMap<RequestName, Summary>,
-    hosts: &BTreeMap<HostName, BTreeSet<RequestName>>,
-    host: &HostName,
-    after: &Option<Moment>,
-) -> Result<(), HostFault>
-    ensures ok { (set : List AnyMessage) → Gathers set summaries.now
-        → OnOk result (AreBehind roster.now.says set host.now after.now
-        (kept_of summaries.now (names_at hosts.now host.now))
-        (string_bytes text.old) (string_bytes text.new)) }
-    ensures ordered { OnOk result (IsStrictlySortedBy name_cmp (names_at hosts.now host.now)) }
-    ensures err { (set : List AnyMessage) → Gathers set summaries.now
-        → IfErr result (left.IsPast roster.now.says set host.now after.now) }
+/// States that the set gives the host lines: all of them, also those that have ended, which nothing
+/// makes. The file is what is left of all.
+fn has_lines(roster: &Roster, summaries: &BTreeMap<RequestName, Summary>, host: &HostName)
+    ensures { (set : List AnyMessage) → Gathers set summaries.now → AreRequests summaries.now
+        → (ls : List Line) × AreLines roster.now.says set host.now ls }
 {
-    match hosts.get(host) {
-        Some(names) => push_all(alloc, text, roster, summaries, names, host, after),
-        None => Ok(()),
-    }
+    // Only under a roster does each request have a status, and so its lines or none. The text's
+    // clause says that this is one.
+    let _text = roster.text();
 }
 
 /// The text of the host's sudoers file: the base's canonical text, and after it a line for each
@@ -131,7 +113,9 @@ pub fn host_file_in(
     ensures base { base.new ≡ base.old }
 {
     let mut text = base.text(alloc)?;
-    let (summaries, hosts) = (&gathered.summaries, &gathered.hosts);
-    push_listed(alloc, &mut text, roster, summaries, hosts, host, &after)?;
+    let names = gathered.index.names_at(alloc, host, &after)?;
+    let summaries = &gathered.summaries;
+    has_lines(roster, summaries, host);
+    push_all(alloc, &mut text, roster, summaries, &names, host, &after)?;
     Ok(text)
 }

@@ -5,10 +5,10 @@
 
 mod about;
 mod base;
-mod by_host;
 mod gathering;
 mod grant_laws;
 mod host_file;
+mod index;
 pub mod laws;
 mod live;
 mod name_status;

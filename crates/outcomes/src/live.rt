@@ -1,20 +1,20 @@
 //! Grants in force at a moment.
 
 ghost use Rattle.std.specs.Prelude.{◌≡◌, List, IfOk, OnOk};
-ghost use Rattle.std.specs.BTreeMap.{values};
 ghost use Rattle.messages.specs.declared.message.Message.{Message as AnyMessage};
 ghost use Rattle.grants.specs.Summaries.{StandsFor};
 ghost use Rattle.outcomes.specs.Gathered.{AreGathered};
 ghost use Rattle.outcomes.specs.Outcomes.{AreLive};
-ghost use Rattle.outcomes.specs.private.ByName.{Gathers};
-ghost use Rattle.outcomes.specs.private.InTurn.{Adds, Give, grant_of, live_for};
+ghost use Rattle.outcomes.specs.private.ByName.{Gathers, at_name};
+ghost use Rattle.outcomes.specs.private.Index.{kept_of};
+ghost use Rattle.outcomes.specs.private.InTurn.{Adds, AddsAt, Give, grant_of, live_for};
 
 use crate::gathering::Gathered;
 use grants::{Summary, Window, status};
 use messages::{Request, RequestName};
 use roster::Roster;
 use std::alloc::Global;
-use std::collections::BTreeMap;
+use std::collections::{BTreeMap, BTreeSet};
 use std::marker::Model;
 use sudo_words::{Label, Moment, NoMemory};
 
@@ -70,24 +70,46 @@ fn push_live(
     }
 }
 
-/// The grants of the summaries that are in force at the moment, in the order of their names.
+/// Adds the grant of the request of a name, where it is in force at the moment.
+fn push_named(
+    list: &mut Vec<Live>,
+    roster: &Roster,
+    summaries: &BTreeMap<RequestName, Summary>,
+    name: &RequestName,
+    at: Moment,
+) -> Result<(), NoMemory>
+    ensures { (set : List AnyMessage) → Gathers set summaries.now → OnOk result
+        (AddsAt roster.now.says set (live_for at) (at_name summaries.now name.now)
+        list.old.items list.new.items) }
+{
+    match summaries.get(name) {
+        Some(summary) => push_live(list, roster, summary, at),
+        None => Ok(()),
+    }
+}
+
+/// The grants of the requests of these names that are in force at the moment, in the order of the
+/// names.
 fn live_among(
     alloc: Global,
     roster: &Roster,
     summaries: &BTreeMap<RequestName, Summary>,
+    names: &BTreeSet<RequestName>,
     at: Moment,
 ) -> Result<Vec<Live>, NoMemory>
     ensures { (set : List AnyMessage) → Gathers set summaries.now → IfOk result
-        (λ list. Give roster.now.says set (live_for at) (values summaries.now) list.items) }
+        (λ list. Give roster.now.says set (live_for at)
+        (kept_of summaries.now names.now.keys) list.items) }
 {
     let mut list = Vec::new(alloc);
-    for summary in summaries.values() {
-        push_live(&mut list, roster, summary, at)?;
+    for name in names {
+        push_named(&mut list, roster, summaries, name, at)?;
     }
     Ok(list)
 }
 
-/// The grants that are in force at the moment, by the asker in byte order, then by the number.
+/// The grants that are in force at the moment, by the asker in byte order, then by the number. Only
+/// the requests that ask for an end then or later are looked at.
 pub fn live_in(
     alloc: Global,
     roster: &Roster,
@@ -97,5 +119,6 @@ pub fn live_in(
     ensures { (set : List AnyMessage) → AreGathered set gathered.now
         → IfOk result (λ list. AreLive roster.now.says set at list.items) }
 {
-    live_among(alloc, roster, &gathered.summaries, at)
+    let names = gathered.index.names_of_all(alloc, &Some(at))?;
+    live_among(alloc, roster, &gathered.summaries, &names, at)
 }

@@ -3,7 +3,7 @@ use Rattle.std.specs.Prelude.{◌≡◌, ◌↔◌, List, [], ◌∷◌, ◌++�
 use Rattle.std.specs.Prelude.{Option, Some, None, MatchOption, Vec}
 use Rattle.std.specs.declared.alloc.Global.{Global}
 use Rattle.std.specs.BTreeMap.{BTreeMap, IsOrdered, get}
-use Rattle.messages.specs.Fields.{VerdictFields}
+use Rattle.messages.specs.Fields.{IsRequest, VerdictFields}
 use Rattle.messages.specs.Names.{IsNamed, NobodyAsks, name_cmp, name_meant}
 use Rattle.messages.specs.NameRows.{IsMarked}
 use Rattle.messages.specs.declared.name_row.NameRow.{NameRow}
@@ -29,6 +29,11 @@ pub record Gathers (messages : List Message) (summaries : BTreeMap RequestName K
   pub ordered : IsOrdered name_cmp summaries
   pub each : (name : RequestName)
       → MatchOption (at_name summaries name) (NobodyAsks messages name) (IsSummaryOf messages name)
+
+-- Each keeps a request that can be written.
+abbrev pub AreRequests : BTreeMap RequestName Kept → Type 0
+AreRequests summaries =
+    (name : RequestName) (k : Kept) → at_name summaries name ≡ Some k → IsRequest k.request
 
 -- ---- summaries of requests alone
 

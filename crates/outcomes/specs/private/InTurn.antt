@@ -18,6 +18,11 @@ module _ {X : Type 0} (f : RosterFields Cmnd) (messages : List Message) (give : 
   Adds k old new = (status : Status) × IsStatus f messages (name_of k.request) status
       × (new ≡ old ++ give k.request status)
 
+  -- or none, where a name has no summary
+  abbrev pub AddsAt : Option Kept → (old new : List X) → Type 0
+  AddsAt None old new = new ≡ old
+  AddsAt (Some k) old new = Adds k old new
+
   abbrev pub Give : List Kept → List X → Type 0
   Give [] xs = xs ≡ []
   Give (k ∷ ks) xs =

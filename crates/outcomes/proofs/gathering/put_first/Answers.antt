@@ -1,4 +1,4 @@
-use Rattle.std.proofs.Common.{◌≡◌, ℕ, ◌∙◌, List, ◌∷◌, None, map, sym, ap, subst}
+use Rattle.std.proofs.Common.{◌≡◌, ◌∙◌, List, ◌∷◌, None, map, sym, ap, subst}
 use Rattle.std.specs.List.{Contains}
 use Rattle.std.proofs.lemmas.Result.{err_from_is_err_and}
 use Rattle.messages.specs.Fields.{VerdictFields}
@@ -10,7 +10,7 @@ use Rattle.outcomes.specs.private.ByName.{at_name, verdicts_at}
 use Rattle.outcomes.proofs.ByNameLemmas.{request_first}
 use Rattle.outcomes.proofs.GatherLemmas.{gathers_same, of_verdict}
 use Rattle.outcomes.proofs.NameMaps.{SetsAt, others_from, sets_from}
-use Rattle.outcomes.proofs.ByHostLemmas.{listed_first, listed_more, listed_same}
+use Rattle.outcomes.proofs.IndexLemmas.{listed_first, listed_more, listed_same}
 use Rattle.outcomes.proofs.gathering.put_first.Goals as goal
 
 pub first_of-requires : goal.first_of-requires
@@ -59,18 +59,18 @@ returns-clause-known c = λ set by.
 
 -- ---- the index
 
-pub returns-in_err-list_hosts-clause-listed : goal.returns-in_err-list_hosts-clause-listed
-returns-in_err-list_hosts-clause-listed c =
-    listed_more c.args.hosts.now c.list_hosts.new.hosts c.args.summaries.now c.list_hosts.ensures.stays
+pub returns-in_err-list-clause-listed : goal.returns-in_err-list-clause-listed
+returns-in_err-list-clause-listed c =
+    listed_more c.args.index.now c.list.new.self c.args.summaries.now c.list.ensures.stays
 
 pub returns-in_err-settled-clause-listed : goal.returns-in_err-settled-clause-listed
 returns-in_err-settled-clause-listed c =
-    listed_more c.args.hosts.now c.list_hosts.new.hosts c.args.summaries.now c.list_hosts.ensures.stays
+    listed_more c.args.index.now c.list.new.self c.args.summaries.now c.list.ensures.stays
 
 pub returns-in_err-insert-clause-listed : goal.returns-in_err-insert-clause-listed
 returns-in_err-insert-clause-listed c = λ listed.
-    let more = listed_more c.args.hosts.now c.list_hosts.new.hosts c.args.summaries.now c.list_hosts.ensures.stays listed in
-    listed_same c.list_hosts.new.hosts c.args.summaries.now c.insert.new.self c.in_err-insert.ensures.err more
+    let more = listed_more c.args.index.now c.list.new.self c.args.summaries.now c.list.ensures.stays listed in
+    listed_same c.list.new.self c.args.summaries.now c.insert.new.self c.in_err-insert.ensures.err more
 
 pub returns-clause-listed : goal.returns-clause-listed
 returns-clause-listed c =
@@ -78,6 +78,5 @@ returns-clause-listed c =
     let new = c.insert.new.self in
     let k = c.in_ok-summary.summary in
     let sets = sets_from old new c.args.name k c.in_ok-insert.ensures.updates in
-    listed_first c.args.hosts.now c.list_hosts.new.hosts old new c.args.name k c.args.request.now sets c.in_ok-summary.ensures.same_request
-    (λ host lists. c.in_ok-list_hosts.ensures.here host (subst (λ (hs : List (List ℕ)). Contains hs host) (sym c.hosts.ensures.value) lists))
-    c.list_hosts.ensures.stays
+    listed_first c.args.index.now c.list.new.self old new c.args.name k c.args.request.now sets c.in_ok-summary.ensures.same_request
+    c.in_ok-list.ensures.here c.list.ensures.stays

@@ -5,8 +5,8 @@ use Rattle.outcomes.specs.private.ByName.{AreByName, IsByName, at_name}
 use Rattle.outcomes.proofs.ByNameLemmas.{Summaries, request_again}
 use Rattle.outcomes.proofs.GatherLemmas.{named_at}
 use Rattle.outcomes.proofs.NameMaps.{SetsAt, sets_from}
-use Rattle.outcomes.specs.private.ByHost.{AreListed}
-use Rattle.outcomes.proofs.ByHostLemmas.{listed_again}
+use Rattle.outcomes.specs.private.Index.{AreListed}
+use Rattle.outcomes.proofs.IndexLemmas.{listed_again}
 use Rattle.outcomes.proofs.gathering.put_request.Goals as goal
 use Rattle.outcomes.proofs.gathering.put_request.Goals.{In-Some}
 
@@ -53,9 +53,9 @@ returns-in-Some-clause-listed c =
     let new = c.get_mut.follows.lender after in
     let holds = c.get_mut.follows.holds after in
     let sets = sets_from old new c.in_ok-name.name after (holds.3 (search rules)) in
-    listed_again c.args.hosts.now old new c.in_ok-name.name c.in-Some.summary.now after
+    listed_again c.args.index.now old new c.in_ok-name.name c.in-Some.summary.now after
     (sym c.in-Some.ensures.value) sets c.ask_again.ensures.same_request
 
 pub returns-in-None-clause-listed : goal.returns-in-None-clause-listed
 returns-in-None-clause-listed c = λ listed.
-    c.put_first.ensures.listed (subst (λ (m : Summaries). AreListed c.args.hosts.now m) (sym c.get_mut.follows.holds-at-none) listed)
+    c.put_first.ensures.listed (subst (λ (m : Summaries). AreListed c.args.index.now m) (sym c.get_mut.follows.holds-at-none) listed)

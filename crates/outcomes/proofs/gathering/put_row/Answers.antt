@@ -1,11 +1,10 @@
-use Rattle.std.proofs.Common.{◌≡◌, ℕ, List, Some, None, sym, subst}
-use Rattle.std.specs.List.{Contains}
+use Rattle.std.proofs.Common.{◌≡◌, Some, None, sym, subst}
 use Rattle.messages.specs.Names.{name_of}
 use Rattle.messages.specs.declared.request_name.RequestName.{RequestName}
 use Rattle.outcomes.specs.private.ByName.{at_name}
 use Rattle.outcomes.proofs.NameMaps.{SetsAt, sets_from}
 use Rattle.outcomes.proofs.RowLemmas.{alone_first, rows_again, rows_first}
-use Rattle.outcomes.proofs.ByHostLemmas.{listed_first, listed_more, listed_same}
+use Rattle.outcomes.proofs.IndexLemmas.{listed_first, listed_more, listed_same}
 use Rattle.outcomes.proofs.gathering.put_row.Goals as goal
 use Rattle.outcomes.proofs.gathering.put_row.Goals.{Joined-branch-5}
 
@@ -33,14 +32,14 @@ returns-in_ok-insert-in-None-clause-rows c =
 
 -- ---- the index
 
-pub returns-in_err-list_hosts-in-None-clause-listed : goal.returns-in_err-list_hosts-in-None-clause-listed
-returns-in_err-list_hosts-in-None-clause-listed c =
-    listed_more c.args.hosts.now c.list_hosts.new.hosts c.args.summaries.now c.list_hosts.ensures.stays
+pub returns-in_err-list-in-None-clause-listed : goal.returns-in_err-list-in-None-clause-listed
+returns-in_err-list-in-None-clause-listed c =
+    listed_more c.args.index.now c.list.new.self c.args.summaries.now c.list.ensures.stays
 
 pub returns-in_err-insert-in-None-clause-listed : goal.returns-in_err-insert-in-None-clause-listed
 returns-in_err-insert-in-None-clause-listed c = λ listed.
-    let more = listed_more c.args.hosts.now c.list_hosts.new.hosts c.args.summaries.now c.list_hosts.ensures.stays listed in
-    listed_same c.list_hosts.new.hosts c.args.summaries.now c.insert.new.self c.in_err-insert-in-None.ensures.err more
+    let more = listed_more c.args.index.now c.list.new.self c.args.summaries.now c.list.ensures.stays listed in
+    listed_same c.list.new.self c.args.summaries.now c.insert.new.self c.in_err-insert-in-None.ensures.err more
 
 pub returns-in_ok-insert-in-None-clause-listed : goal.returns-in_ok-insert-in-None-clause-listed
 returns-in_ok-insert-in-None-clause-listed c =
@@ -48,7 +47,6 @@ returns-in_ok-insert-in-None-clause-listed c =
     let new = c.insert.new.self in
     let k = c.in_ok-summary-in-None.summary in
     let sets = sets_from old new c.in_ok-name.name k c.in_ok-insert-in-None.ensures.updates in
-    listed_first c.args.hosts.now c.list_hosts.new.hosts old new c.in_ok-name.name k c.args.row.now.request sets
+    listed_first c.args.index.now c.list.new.self old new c.in_ok-name.name k c.args.row.now.request sets
     c.in_ok-summary-in-None.ensures.same_request
-    (λ host lists. c.in_ok-list_hosts-in-None.ensures.here host (subst (λ (hs : List (List ℕ)). Contains hs host) (sym c.hosts.ensures.value) lists))
-    c.list_hosts.ensures.stays
+    c.in_ok-list-in-None.ensures.here c.list.ensures.stays

@@ -7,8 +7,8 @@ use Rattle.outcomes.specs.private.ByName.{AreByName, at_name}
 use Rattle.outcomes.proofs.ByNameLemmas.{Summaries, verdict_heard, verdict_waits}
 use Rattle.outcomes.proofs.GatherLemmas.{named_at}
 use Rattle.outcomes.proofs.NameMaps.{SetsAt, sets_from}
-use Rattle.outcomes.specs.private.ByHost.{AreListed}
-use Rattle.outcomes.proofs.ByHostLemmas.{listed_again}
+use Rattle.outcomes.specs.private.Index.{AreListed}
+use Rattle.outcomes.proofs.IndexLemmas.{listed_again}
 use Rattle.outcomes.proofs.gathering.put_verdict.Goals as goal
 use Rattle.outcomes.proofs.gathering.put_verdict.Goals.{In-Some}
 
@@ -51,15 +51,15 @@ returns-in-None-clause-known c = λ set by.
 -- ---- the index
 
 pub returns-in-Some-clause-listed : goal.returns-in-Some-clause-listed
-returns-in-Some-clause-listed c = λ hosts.
+returns-in-Some-clause-listed c = λ index.
     let old = c.args.summaries.now in
     let after = c.apply.new.s in
     let new = c.get_mut.follows.lender after in
     let holds = c.get_mut.follows.holds after in
     let sets = sets_from old new c.in_ok-name.name after (holds.3 (search rules)) in
-    listed_again hosts old new c.in_ok-name.name c.in-Some.summary.now after
+    listed_again index old new c.in_ok-name.name c.in-Some.summary.now after
     (sym c.in-Some.ensures.value) sets c.apply.ensures.same_request
 
 pub returns-in-None-clause-listed : goal.returns-in-None-clause-listed
-returns-in-None-clause-listed c = λ hosts listed.
-    subst (λ (m : Summaries). AreListed hosts m) (sym c.get_mut.follows.holds-at-none) listed
+returns-in-None-clause-listed c = λ index listed.
+    subst (λ (m : Summaries). AreListed index m) (sym c.get_mut.follows.holds-at-none) listed

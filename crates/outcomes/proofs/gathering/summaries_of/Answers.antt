@@ -6,12 +6,12 @@ use Rattle.messages.specs.declared.name_row.NameRow.{NameRow}
 use Rattle.sudo_decide.proofs.AnswerLemmas.{take_one_more}
 use Rattle.outcomes.specs.private.ByName.{GathersRows}
 use Rattle.outcomes.proofs.RowLemmas.{no_rows, none_alone, rows_gathered, shown_none}
-use Rattle.outcomes.proofs.ByHostLemmas.{listed_none}
+use Rattle.outcomes.proofs.IndexLemmas.{listed_none}
 use Rattle.outcomes.proofs.gathering.summaries_of.Goals as goal
 
 pub loop-row-init : goal.loop-row-init
 loop-row-init c = (
-  listed_none c.args.hosts.now c.new-summaries.result c.new-summaries.ensures.empty,
+  listed_none c.args.index.now c.new-summaries.result c.new-summaries.ensures.empty,
   none_alone c.new-summaries.result c.new-summaries.ensures.ordered c.new-summaries.ensures.empty,
   λ set show. no_rows set c.new-summaries.result c.new-summaries.ensures.ordered c.new-summaries.ensures.empty,
 )

@@ -3,7 +3,7 @@ use Rattle.std.specs.Prelude.{string_bytes}
 use Rattle.messages.specs.declared.request_name.RequestName.{RequestName}
 use Rattle.grants.specs.Summaries.{Kept}
 use Rattle.grants.specs.GrantLines.{rules_left}
-use Rattle.outcomes.specs.private.ByHost.{kept_of}
+use Rattle.outcomes.specs.private.Index.{kept_of}
 use Rattle.outcomes.specs.private.ByName.{at_name}
 use Rattle.outcomes.specs.private.InTurn.{Give}
 use Rattle.outcomes.proofs.FileLemmas.{named_behind}

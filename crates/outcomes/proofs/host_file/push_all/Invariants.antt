@@ -10,7 +10,7 @@ use Rattle.messages.specs.declared.message.Message.{Message}
 use Rattle.messages.specs.declared.request_name.RequestName.{RequestName}
 use Rattle.grants.specs.GrantRules.{IsGrantRule}
 use Rattle.grants.specs.GrantLines.{rules_left}
-use Rattle.outcomes.specs.private.ByHost.{kept_of}
+use Rattle.outcomes.specs.private.Index.{kept_of}
 use Rattle.outcomes.specs.private.ByName.{Gathers}
 use Rattle.outcomes.specs.private.InTurn.{Give}
 use Rattle.outcomes.proofs.host_file.push_all.Given as goal

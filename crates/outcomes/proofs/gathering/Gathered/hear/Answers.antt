@@ -8,7 +8,7 @@ invariant_of-self c =
     let some = c.self.invariant.0 in (
       still_by_name c.put_verdict.result some.0 (some.0 ++ Verdict c.args.verdict.now ∷ [])
           c.put_verdict.new.summaries c.put_verdict.new.waiting (c.put_verdict.ensures.known some.0 some.1),
-      c.put_verdict.ensures.listed c.self.inside.hosts c.self.invariant.1,
+      c.put_verdict.ensures.listed c.self.inside.index c.self.invariant.1,
     )
 
 pub returns-clause-ok : goal.returns-clause-ok

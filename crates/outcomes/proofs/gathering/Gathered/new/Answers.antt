@@ -1,6 +1,6 @@
 use Rattle.std.proofs.Common.{[]}
 use Rattle.outcomes.proofs.ByNameLemmas.{gathered_from, none_by_name}
-use Rattle.outcomes.proofs.ByHostLemmas.{listed_none}
+use Rattle.outcomes.proofs.IndexLemmas.{listed_none}
 use Rattle.outcomes.proofs.gathering.Gathered.new.Goals as goal
 
 pub invariant_of-result : goal.invariant_of-result

@@ -3,9 +3,9 @@ use Rattle.std.specs.List.{Contains}
 use Rattle.std.proofs.lemmas.List.{take_all}
 use Rattle.std.proofs.lemmas.List.Elements.{Contains-append_cases}
 use Rattle.sudo_decide.proofs.AnswerLemmas.{take_one_more}
-use Rattle.outcomes.specs.private.ByHost.{names_at}
+use Rattle.outcomes.specs.private.Index.{endings_at}
 use Rattle.outcomes.proofs.Membership.{no_member, Contains-cases}
-use Rattle.outcomes.proofs.by_host.list_hosts.Goals as goal
+use Rattle.outcomes.proofs.index.list_hosts.Goals as goal
 
 pub returns-in_err-list_host-clause-stays : goal.returns-in_err-list_host-clause-stays
 returns-in_err-list_host-clause-stays c = λ at other among. c.list_host.ensures.stays at other (c.loop-host.invariant.1 at other among)
@@ -15,14 +15,14 @@ loop-host-preserved c =
     let hosts = c.args.of.now in
     let i = c.loop-host.host-index in
     let item = c.host-item.result in
-    let name = c.args.name.now in
+    let ending = c.args.ending.now in
     let new = c.list_host.new.hosts in (
       λ host among. elim (Contains-append_cases (take i hosts) (item ∷ []) host
           (subst (λ (hs : List (List ℕ)). Contains hs host) (take_one_more hosts i item c.loop-host-test.true c.host-item.is) among))
-          as (λ _. Contains (names_at new host) name) [
-            | inl before ↦ c.list_host.ensures.stays host name (c.loop-host.invariant.0 host before)
-            | inr last ↦ elim (Contains-cases item [] host last) as (λ _. Contains (names_at new host) name) [
-              | inl same ↦ subst (λ (h : List ℕ). Contains (names_at new h) name) same c.in_ok-list_host.ensures.here
+          as (λ _. Contains (endings_at new host) ending) [
+            | inl before ↦ c.list_host.ensures.stays host ending (c.loop-host.invariant.0 host before)
+            | inr last ↦ elim (Contains-cases item [] host last) as (λ _. Contains (endings_at new host) ending) [
+              | inl same ↦ subst (λ (h : List ℕ). Contains (endings_at new h) ending) same c.in_ok-list_host.ensures.here
               | inr none ↦ absurd (no_member host none)
             ]
           ],

@@ -2,11 +2,11 @@ use Rattle.std.proofs.Common.{ℕ, List, Some, rules, sym, subst}
 use Rattle.std.specs.BTreeMap.{Updates}
 use Rattle.std.specs.Cmp.Lexicographic.{slice_cmp}
 use Rattle.std.specs.Ordering.{nat_cmp}
-use Rattle.outcomes.specs.private.ByHost.{Hosts}
+use Rattle.outcomes.specs.private.Index.{Hosts, ending_cmp}
 use Rattle.std.specs.List.{Contains}
-use Rattle.messages.specs.declared.request_name.RequestName.{RequestName}
-use Rattle.outcomes.proofs.ByHostLemmas.{host_set, inserted_here, inserted_stays, listed_here, names_first, names_more}
-use Rattle.outcomes.proofs.by_host.list_host.Goals as goal
+use Rattle.outcomes.specs.declared.index.Ending.{Ending}
+use Rattle.outcomes.proofs.IndexLemmas.{endings_first, endings_more, host_set, inserted_here, inserted_stays, listed_here, same_ending}
+use Rattle.outcomes.proofs.index.list_host.Goals as goal
 
 pub returns-in_err-insert-in-Some-clause-stays : goal.returns-in_err-insert-in-Some-clause-stays
 returns-in_err-insert-in-Some-clause-stays c =
@@ -14,29 +14,29 @@ returns-in_err-insert-in-Some-clause-stays c =
     let hosts = c.args.hosts.now in
     let holds = c.get_mut.follows.holds after in
     host_set hosts (c.get_mut.follows.lender after) c.args.host.now after (holds.3 (search rules))
-    (names_more hosts c.args.host.now c.in-Some.names.now after.keys (sym c.in-Some.ensures.value)
-    (λ other among. subst (λ (ks : List RequestName). Contains ks other) (sym c.in_err-insert-in-Some.ensures.err) among))
+    (endings_more hosts c.args.host.now c.in-Some.endings.now after.keys (sym c.in-Some.ensures.value)
+    (λ other among. subst (λ (ks : List Ending). Contains ks other) (sym c.in_err-insert-in-Some.ensures.err) among))
 
 pub returns-in_ok-insert-in-Some-clause-here : goal.returns-in_ok-insert-in-Some-clause-here
 returns-in_ok-insert-in-Some-clause-here c =
     let after = c.insert.new.self in
     let holds = c.get_mut.follows.holds after in
-    let name = c.args.name.now in
-    let here : Contains after.keys name =
-    subst (λ (ks : List RequestName). Contains ks name) (sym c.in_ok-insert-in-Some.ensures.keys)
-    (subst (Contains _) c.in_ok-copy.ensures.cases (inserted_here c.in-Some.names.now.keys c.in_ok-copy.copy)) in
-    listed_here (c.get_mut.follows.lender after) c.args.host.now after name (holds.3 (search rules)).1 here
+    let ending = c.args.ending.now in
+    let here : Contains after.keys ending =
+    subst (λ (ks : List Ending). Contains ks ending) (sym c.in_ok-insert-in-Some.ensures.keys)
+    (subst (Contains _) c.in_ok-copy.ensures.cases (inserted_here ending_cmp same_ending c.in-Some.endings.now.keys c.in_ok-copy.copy)) in
+    listed_here (c.get_mut.follows.lender after) c.args.host.now after ending (holds.3 (search rules)).1 here
 
 pub returns-in_ok-insert-in-Some-clause-stays : goal.returns-in_ok-insert-in-Some-clause-stays
 returns-in_ok-insert-in-Some-clause-stays c =
     let after = c.insert.new.self in
     let hosts = c.args.hosts.now in
     let holds = c.get_mut.follows.holds after in
-    let before = c.in-Some.names.now in
+    let before = c.in-Some.endings.now in
     host_set hosts (c.get_mut.follows.lender after) c.args.host.now after (holds.3 (search rules))
-    (names_more hosts c.args.host.now before after.keys (sym c.in-Some.ensures.value) (λ other among.
-    subst (λ (ks : List RequestName). Contains ks other) (sym c.in_ok-insert-in-Some.ensures.keys)
-    (inserted_stays before.keys c.in_ok-copy.copy other among)))
+    (endings_more hosts c.args.host.now before after.keys (sym c.in-Some.ensures.value) (λ other among.
+    subst (λ (ks : List Ending). Contains ks other) (sym c.in_ok-insert-in-Some.ensures.keys)
+    (inserted_stays ending_cmp same_ending before.keys c.in_ok-copy.copy other among)))
 
 pub returns-in_ok-insert-in-None-2-clause-stays : goal.returns-in_ok-insert-in-None-2-clause-stays
 returns-in_ok-insert-in-None-2-clause-stays c =
@@ -47,4 +47,4 @@ returns-in_ok-insert-in-None-2-clause-stays c =
     let there = subst (λ (m : Hosts). Updates (slice_cmp nat_cmp) m new c.in_ok-copied-in-None.field-0 (Some t)) c.get_mut.follows.holds-at-none
     c.in_ok-insert-in-None-2.ensures.updates in
     let same = subst (λ (h : List ℕ). Updates (slice_cmp nat_cmp) hosts new h (Some t)) c.in_ok-copied-in-None.ensures there in
-    host_set hosts new host t same (names_first hosts host t.keys (sym c.in-None.ensures.value))
+    host_set hosts new host t same (endings_first hosts host t.keys (sym c.in-None.ensures.value))
