@@ -12,12 +12,15 @@ use Rattle.sqlite.specs.Collation.TheVariants.{Binary}
 use Rattle.sqlite.specs.Schema.{Schema}
 use Rattle.sqlite.specs.State.{State as Store, Shown}
 use Rattle.sqlite.specs.Command.TheVariants as command
+use Rattle.sqlite.specs.Listing.{understood}
 use Rattle.sqlite.proofs.Callers.{reads_as}
 use Rattle.sqlite_tied.specs.Compute.{everything}
 use Rattle.sqlite_sql.specs.declared.ops.BinaryOp.TheVariants.{Compare}
 use Rattle.sqlite_sql.specs.declared.ops.CompareOp.TheVariants.{Eq}
 use Rattle.sqlite_schema.specs.Names.{same_name}
 use Rattle.sqlite_schema.specs.declared.schema.Kind.TheVariants as kind
+use Rattle.sqlite_resolve.specs.Compile.{compiled}
+use Rattle.sqlite_resolve.specs.declared.compiled.Compiled.{Compiled}
 use Rattle.sqlite_resolve.specs.Lowering.{chosen, first_found}
 use Rattle.sqlite_resolve.specs.declared.state.State.{State}
 use Rattle.sqlite_resolve.specs.declared.state.Passes.TheVariants.{Nothing}
@@ -38,14 +41,14 @@ use Rattle.sqlite_rules.proofs.ProbeLemmas.{has_mapped, mapped_has}
 use Rattle.std.proofs.lemmas.List.Sorted.{IsPermutation-sym}
 use Rattle.store_tables.specs.DeskTables.{column_of, messages_at}
 use Rattle.store_tables.specs.Stored.{Finds}
-use Rattle.store_tables.proofs.Layers.{find_one, lower_column, result_one}
+use Rattle.store_tables.proofs.Layers.{find_one, lower_column, result_one, understood_is}
 use Rattle.store_tables.proofs.Exists.{lower_node, opened_equal, opened_parameter, tests_some, opening}
 use Rattle.store_tables.proofs.LookupLemmas.{hit_is, missing_test}
 use Rattle.store_tables.proofs.NameLemmas.{has_permuted, has_picked, picked, picked_has}
-use Rattle.store_tables.proofs.QueriesOf.{Means, IsColumn, column_shown, shown_column, after_column}
+use Rattle.store_tables.proofs.QueriesOf.{Means, means, IsColumn, column_shown, shown_column, after_column}
 use Rattle.store_tables.proofs.Selects.{begun, level_at}
 use Rattle.store_tables.proofs.TextSets.{has_text, same_test}
-use Rattle.store_tables.proofs.Where.{IsFiltered, IsLowered, draft_where, filtered_is, scope_of}
+use Rattle.store_tables.proofs.Where.{IsFiltered, IsLowered, draft_where, filtered_compiled, scope_of}
 
 abbrev pub text_select : List ℕ
 text_select = codes "SELECT body FROM messages WHERE body = ?1"
@@ -64,6 +67,7 @@ record IsByBody (e : Expr) : Type 0 where
 
 parts : (it : IsFiltered text_select (codes "messages")) × (a : Written)
     × ((out-Core (out-Select it.sel).first).shown ≡ a ∷ []) × IsColumn a (codes "body") × IsByBody it.e
+    × (it.p.tail ≡ length text_select) × (length it.p.names ≡ 1)
 unfolding everything
 parts = (
   record {
@@ -90,9 +94,11 @@ parts = (
   refl,
   record { e = _; text = _; one = refl; expr = refl },
   record { a = _; b = _; equals = refl; column = refl; parameter = refl; e_hands = refl; b_hands = refl },
+  refl,
+  refl,
 )
 
-abbrev looking : ℕ → Query
+abbrev pub looking : ℕ → Query
 looking tree = record {
   from = inner tree end;
   filter = missing_test;
@@ -133,9 +139,17 @@ module _ (s : Schema) (at tree : ℕ) (found : Finds s (codes "messages") at (me
   unfolding program
   typed = rw (found.stored, found.by_tree) refl
 
-  pub text_selects : Means s text_select (command.Select (record { lets = []; body = looking tree }) (codes "body" ∷ []))
+  text_compiled : compiled s text_select ≡ Ok (record {
+    command = command.Select (record { lets = []; body = looking tree }) (codes "body" ∷ []);
+    returning = None;
+    names = parts.0.p.names;
+    formats = [];
+    start = parts.0.p.start;
+    end = parts.0.p.end;
+    tail = parts.0.p.tail;
+  })
   unfolding same_name
-  text_selects =
+  text_compiled =
       let it = parts.0 in
       let t = messages_at tree in
       let c = column_of (codes "body") kind.Text true in
@@ -143,8 +157,15 @@ module _ (s : Schema) (at tree : ℕ) (found : Finds s (codes "messages") at (me
       let one = column_shown s (codes "messages") (codes "body") at 0 t c parts.1 [] begun parts.3 refl found.has refl refl in
       let st = after_column t 0 c begun in
       let columns = shown_column t 0 c ∷ [] in
-      filtered_is s text_select (codes "messages") it at t columns missing_test st _ found.named found.has (result_one lower (outermost s)
+      filtered_compiled s text_select (codes "messages") it at t columns missing_test st _ found.named found.has (result_one lower (outermost s)
       (level_at (codes "messages") at) core parts.1 columns begun st parts.2 one) refl refl (body_lowered columns it.e parts.4 st refl refl refl) typed
+
+  pub text_selects : Means s text_select (command.Select (record { lets = []; body = looking tree }) (codes "body" ∷ []))
+  text_selects = means s text_select _ text_compiled refl refl
+
+  -- it is one statement, with one parameter
+  pub text_understood : (c : Compiled) × (understood s text_select ≡ Ok c) × (c.tail ≡ length text_select) × (length c.names ≡ 1) × (c.formats ≡ [])
+  text_understood = (_, (understood_is s text_select _ text_compiled).0, parts.5, parts.6, refl)
 
 -- ---- what it shows
 

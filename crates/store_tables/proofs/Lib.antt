@@ -23,6 +23,7 @@ pub mod RequestLemmas
 pub mod ReceiveLemmas
 pub mod OneSchema
 pub mod ArriveLemmas
+pub mod CauseLemmas
 pub mod RefillLemmas
 pub mod RosterLemmas
 pub mod ReplaceLemmas

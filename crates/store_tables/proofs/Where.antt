@@ -18,7 +18,7 @@ use Rattle.sqlite_draft.specs.declared.query.Draft.{Draft}
 use Rattle.sqlite_draft.specs.declared.join.Step.TheVariants.{Inner}
 use Rattle.sqlite_draft.specs.Join.{chain}
 use Rattle.sqlite_resolve.specs.Lowering.{fresh, max_budget, chosen, first_found}
-use Rattle.sqlite_resolve.specs.Compile.{first, command as command_in, returning, timed, delete, shows}
+use Rattle.sqlite_resolve.specs.Compile.{compiled, first, command as command_in, returning, timed, delete, shows}
 use Rattle.sqlite_resolve.specs.Write.{deleted, picked}
 use Rattle.sqlite_resolve.specs.declared.state.State.{State}
 use Rattle.sqlite_resolve.specs.declared.state.Passes.TheVariants.{Nothing}
@@ -283,12 +283,20 @@ command_select : (s : Schema) (p : Parsed) (sel : Select) (base : ℕ) (c : Comm
 unfolding command_in
 command_select s p sel base c is h = rw (is, h) refl
 
-pub filtered_is : (s : Schema) (text : List ℕ) (table : Name) (it : IsFiltered text table) (m : ℕ) (t : Table) (columns : List Output)
+pub filtered_compiled : (s : Schema) (text : List ℕ) (table : Name) (it : IsFiltered text table) (m : ℕ) (t : Table) (columns : List Output)
     (filter : List Term) (st : State) (prog : Program) → table_named s table ≡ Some m → slice_get s.tables m ≡ Some t
     → result lower (outermost s) (level_at table m) (out-Select it.sel).first begun ≡ Ok (columns, st) → st.aggregates ≡ [] → st.steps ≡ []
     → IsLowered (scope_of s table m columns) it.e filter st → program s [] (draft_where t.tree filter (map (λ (o : Output). o.term) columns)) ≡ Ok prog
-    → Means s text (command.Select prog (map (λ (o : Output). o.name) columns))
-filtered_is s text table it m t columns filter st prog named has shows no_sums no_steps lowered typed =
+    → compiled s text ≡ Ok (record {
+      command = command.Select prog (map (λ (o : Output). o.name) columns);
+      returning = None;
+      names = it.p.names;
+      formats = [];
+      start = it.p.start;
+      end = it.p.end;
+      tail = it.p.tail;
+    })
+filtered_compiled s text table it m t columns filter st prog named has shows no_sums no_steps lowered typed =
     let core = (out-Select it.sel).first in
     let last = lowered.after in
     let bound = bounds_one s it.src table m (fresh 1 max_budget) it.origin it.alias it.none named refl in
@@ -300,8 +308,16 @@ filtered_is s text table it m t columns filter st prog named has shows no_sums n
     (rw it.distinct (assembled_where _ _ _ last refl (lowered.steps ∙ no_steps) refl)) in
     let queried = query_one s it.sel it.src table _ it.alone it.from it.origin shown in
     let reads = read_is s it.sel _ _ _ [] prog queried typed in
-    means s text _ (compiled_is s text it.p _ it.parsed (untimed_select s it.p it.sel it.statement it.formats)
-    (plain_select s it.p it.sel _ it.statement) (command_select s it.p it.sel _ _ it.statement reads)) refl refl
+    compiled_is s text it.p _ it.parsed (untimed_select s it.p it.sel it.statement it.formats)
+    (plain_select s it.p it.sel _ it.statement) (command_select s it.p it.sel _ _ it.statement reads)
+
+pub filtered_is : (s : Schema) (text : List ℕ) (table : Name) (it : IsFiltered text table) (m : ℕ) (t : Table) (columns : List Output)
+    (filter : List Term) (st : State) (prog : Program) → table_named s table ≡ Some m → slice_get s.tables m ≡ Some t
+    → result lower (outermost s) (level_at table m) (out-Select it.sel).first begun ≡ Ok (columns, st) → st.aggregates ≡ [] → st.steps ≡ []
+    → IsLowered (scope_of s table m columns) it.e filter st → program s [] (draft_where t.tree filter (map (λ (o : Output). o.term) columns)) ≡ Ok prog
+    → Means s text (command.Select prog (map (λ (o : Output). o.name) columns))
+filtered_is s text table it m t columns filter st prog named has shows no_sums no_steps lowered typed =
+    means s text _ (filtered_compiled s text table it m t columns filter st prog named has shows no_sums no_steps lowered typed) refl refl
 
 -- ---- the texts
 

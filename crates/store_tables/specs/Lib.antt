@@ -5,5 +5,6 @@ pub mod Stored
 pub mod Kept
 pub mod SqliteStates
 pub mod Committed
+pub mod Causes
 pub mod Steps
 pub mod private

@@ -1,13 +1,15 @@
 //! How an arriving message changes a desk's tables, within a transaction.
 
-ghost use Rattle.std.specs.Prelude.{◌≡◌, IfOk, OnOk};
+ghost use Rattle.std.specs.Prelude.{◌≡◌, true, IfErr, IfOk, IsTrue, OnOk};
 ghost use Rattle.sqlite.specs.Held.{state};
 ghost use Rattle.messages.specs.Fields.{IsRequest};
 ghost use Rattle.messages.specs.Names.{name_of};
 ghost use Rattle.messages.specs.Wire.{kind_text, wire};
 ghost use Rattle.messages.specs.declared.message.Message.TheVariants as message_of;
 ghost use Rattle.store_tables.specs.Rows.{verdict_row, parked_row};
-ghost use Rattle.store_tables.specs.Stored.{IsWritten};
+ghost use Rattle.store_tables.specs.Causes.{IsExplained};
+ghost use Rattle.store_tables.specs.Kept.{IsDeskDatabase};
+ghost use Rattle.store_tables.specs.Stored.{IsWritten, content_of, has};
 ghost use Rattle.store_tables.specs.private.Changes.{Gains};
 ghost use Rattle.store_tables.specs.Steps.{InStep};
 ghost use Rattle.store_tables.specs.Steps.{IsStep};
@@ -208,6 +210,10 @@ pub(crate) fn receive<S: Alter>(
     ensures same_reference { tx.new.conn.ghost_name ≡ tx.old.conn.ghost_name }
     ensures received { InStep (state S.Store tx.old.conn.now)
         (state S.Store tx.new.conn.now) (λ a b. OnOk result (Received body.now a b)) }
+    // Of a message that is there.
+    ensures explained { InStep (state S.Store tx.old.conn.now) (state S.Store tx.new.conn.now)
+        (λ a b. IfErr result (λ e. IsTrue a.is_open → IsDeskDatabase a.now
+        → has (content_of a.now) body.now ≡ true → IsExplained a b e)) }
     ensures step { IsStep (state S.Store tx.old.conn.now) (state S.Store tx.new.conn.now) }
 {
     if has_text(tx, body)? {

@@ -1,6 +1,6 @@
 //! A message's arrival, and a new roster's text, each in one commit.
 
-ghost use Rattle.std.specs.Prelude.{◌≡◌, ◌≢◌, true, false, AllPairs, Contains, OnOk, OnErr};
+ghost use Rattle.std.specs.Prelude.{◌≡◌, ◌≢◌, true, false, AllPairs, Contains, IfErr, OnOk, OnErr};
 ghost use Rattle.sqlite.specs.State.{HasCleanDisk, IsLive, Survives};
 ghost use Rattle.sqlite.specs.Held.{state};
 ghost use Rattle.messages.specs.Wire.{wire, IsMessage};
@@ -10,6 +10,7 @@ ghost use Rattle.store_tables.specs.Kept.{HoldsText, IsDeskDatabase, Spares};
 ghost use Rattle.store_tables.specs.SqliteStates.{IsUp, Rests};
 ghost use Rattle.store_tables.specs.Stored.{IsWritten, content_of, has, with_roster, with_text};
 ghost use Rattle.store_tables.specs.Committed.{ArrivesAt, ChangesAt};
+ghost use Rattle.store_tables.specs.Causes.{IsExplained};
 
 use crate::arrival::receive;
 use crate::fault::Fault;
@@ -55,6 +56,10 @@ pub fn arrive<S: Alter>(
         → OnOk result (Spares (state S.Store conn.old).now (state S.Store conn.new).now) }
     ensures unchanged { IsUp (state S.Store conn.new)
         → OnErr result ((state S.Store conn.new).now ≡ (state S.Store conn.old).now) }
+    // Why one that is there already is refused.
+    ensures explained { IsUp (state S.Store conn.old) → HasCleanDisk (state S.Store conn.new)
+        → has (content_of (state S.Store conn.old).now) body.now ≡ true
+        → IfErr result (IsExplained (state S.Store conn.old) (state S.Store conn.new)) }
     // A connection that is not up commits nothing.
     ensures survives { Survives (state S.Store conn.old) (state S.Store conn.new) (λ trees.
         IsUp (state S.Store conn.old) × ArrivesAt body.now (state S.Store conn.old).now trees) }

@@ -1,16 +1,18 @@
 //! The statements of a transaction on a desk's tables, each in a function of its own.
 
-ghost use Rattle.std.specs.Prelude.{◌≡◌, codes, IfOk, OnOk};
+ghost use Rattle.std.specs.Prelude.{◌≡◌, codes, IfErr, IfOk, IsTrue, OnOk};
 ghost use Rattle.sqlite.specs.State.{KeepsCommit, Survives};
 ghost use Rattle.sqlite.specs.Held.{state};
 ghost use Rattle.store_tables.specs.Rows.{OfName};
-ghost use Rattle.store_tables.specs.Kept.{IsKeyed};
+ghost use Rattle.store_tables.specs.Causes.{IsExplained};
+ghost use Rattle.store_tables.specs.Kept.{IsKeyed, IsTidy};
 ghost use Rattle.store_tables.specs.private.Changes.{Gains, IsEmptied, Loses};
 ghost use Rattle.store_tables.specs.Steps.{InStep};
 ghost use Rattle.store_tables.specs.private.Stepping.{Finds, FindsParked, FindsText};
 ghost use Rattle.store_tables.specs.Steps.{IsBare, Marked, Says};
 ghost use Rattle.store_tables.specs.private.Stepping.{Wrote, WroteText};
 ghost use Rattle.store_tables.specs.private.Stepping.{name_values, verdict_values, parked_values};
+ghost use Rattle.store_tables.specs.declared.fault.Fault.TheVariants as fault;
 
 use sqlite::{Alter, Error, Row, Transaction, params};
 
@@ -19,6 +21,9 @@ pub(crate) fn has_text<S: Alter>(tx: &mut Transaction<'_, S>, text: &str) -> Res
     ensures same_reference { tx.new.conn.ghost_name ≡ tx.old.conn.ghost_name }
     ensures finds { InStep (state S.Store tx.old.conn.now) (state S.Store tx.new.conn.now)
         (λ a b. IfOk result (λ told. FindsText text.now told a b)) }
+    ensures explained { InStep (state S.Store tx.old.conn.now) (state S.Store tx.new.conn.now)
+        (λ a b. IfErr result (λ e. IsTrue a.is_open → IsTidy a.now
+        → IsExplained a b (fault.Database e))) }
     ensures kept { InStep (state S.Store tx.old.conn.now)
         (state S.Store tx.new.conn.now) KeepsCommit }
     ensures survives { Survives (state S.Store tx.old.conn.now)

@@ -1,10 +1,12 @@
 use Rattle.std.proofs.Common.{rules, ℕ, not, length, ◌==◌, ◌≡◌, Bool, List, [], ◌∷◌, IsTrue, codes, ap, sym, ◌∙◌}
+use Rattle.std.proofs.lemmas.Result.{err_from_is_err_and}
 use Rattle.sqlite.specs.declared.types.Value.TheVariants.{Text}
 use Rattle.sqlite.specs.Order.{Row}
 use Rattle.sqlite.specs.State.{State, Shown}
 use Rattle.sqlite.specs.Held.{state}
 use Rattle.store_tables.specs.Stored.{tree_of}
 use Rattle.store_tables.specs.private.Stepping.{FindsText}
+use Rattle.store_tables.proofs.CauseLemmas.{explained}
 use Rattle.store_tables.proofs.Found.{text_select, text_selects, text_told}
 use Rattle.store_tables.proofs.QueryLemmas.{asks_inside, keeps_query, shown_same}
 use Rattle.store_tables.proofs.TextSets.{contains_bodies}
@@ -33,3 +35,11 @@ returns-clause-kept g c clean inside = keeps_query _ _ (state g.S.Store c.args.t
 pub returns-in_err-rows-clause-kept : goal.returns-in_err-rows-clause-kept
 returns-in_err-rows-clause-kept g c clean inside = keeps_query _ _ (state g.S.Store c.args.tx.now.conn.now)
     (state g.S.Store c.query_all.new.self.conn.now) c.query_all.result inside (c.query_all.ensures.ok clean) (c.query_all.ensures.err clean)
+
+pub returns-in_err-rows-clause-explained : goal.returns-in_err-rows-clause-explained
+returns-in_err-rows-clause-explained g c clean inside =
+    let p = err_from_is_err_and c.from_residual.result c.from_residual.ensures.1 in
+    let old = state g.S.Store c.args.tx.now.conn.now in
+    rw (p.1, p.2) (λ is_open tidy.
+    explained c.args.text.now tidy.desk.m (tree_of old.now.schema (codes "messages")) old (state g.S.Store c.query_all.new.self.conn.now)
+    c.in_err-rows.field-0.0 tidy.desk.messages is_open (rw c.params-to_sql.ensures at (c.in_err-rows.ensures.err clean)))
