@@ -13,7 +13,7 @@ use Rattle.desk.specs.declared.refusal.Refusal.{Refusal}
 use Rattle.desk.specs.declared.refusal.Refusal.TheVariants.{Storage, BaseTooLarge}
 
 -- the call answered `Storage` where the refusal is that
-told_storage : {A B : Type 0} (error : KeeperError) (s : Result B KeeperError) (r : Result A Refusal) → s ≡ Err error
+pub told_storage : {A B : Type 0} (error : KeeperError) (s : Result B KeeperError) (r : Result A Refusal) → s ≡ Err error
     → IsErrAnd r (λ e. e ≡ refusal_of_error error) → r ≡ Err Storage → s ≡ Err errors.Storage
 told_storage errors.Storage s r was is told = was
 told_storage errors.NoMemory s (Ok x) was is told = absurd is

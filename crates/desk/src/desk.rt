@@ -4,6 +4,7 @@ ghost use Rattle.std.specs.Prelude.{◌≡◌, ◌≢◌, ◌⊎◌, ◌↔◌, 
 ghost use Rattle.std.specs.Prelude.{Contains, IfOk, IsOkAnd, IfErr, OnOk, OnErr, MatchResult, Err};
 ghost use Rattle.messages.specs.declared.message.Message.{Message as AnyMessage};
 ghost use Rattle.grants.specs.Bases.{FitsBase};
+ghost use Rattle.desk_store.specs.Keeping.{HasFailed};
 ghost use Rattle.desk_store.specs.Left.{AddsOnly, IsDeskOf, LeavesOnly};
 ghost use Rattle.desk_store.specs.Serves.{Serves};
 ghost use Rattle.desk.specs.Crash.{IsAddedByDelivery, IsLeftByDeliveries, IsLeftByDelivery};
@@ -171,6 +172,13 @@ impl<K: Keeper> Desk<K> {
         ensures unasked { IfErr result
             (λ e. IsWant e ⊎ (self.new.keeper ≡ self.old.keeper)) }
         ensures served { ServesAnswer K.Keeper self.old.keeper self.new.keeper result }
+        // For a message that it held, `Storage` comes only where the storage's own count of
+        // failures rose or stands at the greatest number of 64 bits, or the steps of a query are
+        // limited.
+        ensures cause { K.is_up self.old.keeper → K.is_clean self.new.keeper → (m : AnyMessage)
+            → IsBodyOf body.now m → K.holds self.old.keeper m → result ≡ Err refusal.Storage
+            → HasFailed (K.faults self.old.keeper) (K.faults self.new.keeper)
+            ⊎ K.is_limited self.old.keeper }
         ensures crash { K.is_up self.old.keeper → K.is_clean self.new.keeper
             → LeavesOnly (K.may_leave self.new.keeper)
             (IsLeftByDelivery self.old.roster.says self.old.roster.text

@@ -1,15 +1,12 @@
 -- A message put into a list beside the texts.
 use Rattle.std.proofs.Common.{◌≡◌, ◌≢◌, ◌⊎◌, ℕ, ◌<◌, List, [], ◌∷◌, ◌++◌, length, get_or, Bool, true, false}
-use Rattle.std.proofs.Common.{◌||◌, Ordering, Less, Equal, Greater, Global, refl, sym, ap, ◌∙◌, subst, inl, inr}
-use Rattle.std.specs.Prelude.{String, Contains}
-use Rattle.std.specs.BTreeMap.{is_at}
-use Rattle.std.specs.BTreeSet.{insert_key}
-use Rattle.std.specs.Cmp.Lexicographic.{slice_cmp, nat_list_cmp_total}
-use Rattle.std.specs.FinSet.{nat_cmp-IsAntisymmetric, slice_cmp-IsAntisymmetric}
-use Rattle.std.specs.Ordering.{nat_cmp, match_ordering, is_eq, ordering_reverse}
-use Rattle.std.specs.String.{string_bytes, string_cmp}
+use Rattle.std.proofs.Common.{◌||◌, Global, refl, sym, ap, ◌∙◌, subst, inl, inr, IsPermutation}
+use Rattle.std.specs.Prelude.{String, Contains, string_bytes}
+use Rattle.std.specs.Str.{bytes_eq}
 use Rattle.std.proofs.lemmas.List.Elements.{Contains-append_left, Contains-push, Contains-push_cases, Contains-get_or}
 use Rattle.std.proofs.lemmas.List.Quantifiers.{all_pairs_push}
+use Rattle.std.proofs.lemmas.List.Sorted.{list_any-IsPermutation}
+use Rattle.std.proofs.lemmas.Slice.Eq.{bytes_eq-Decides}
 use Rattle.messages.specs.Wire.{wire, IsMessage}
 use Rattle.messages.specs.declared.message.Message.{Message}
 use Rattle.messages.proofs.Uniqueness.{one_message}
@@ -21,46 +18,17 @@ Text = String Global
 -- ---- the texts
 
 abbrev same : List ℕ → Text → Bool
-same t = is_at (λ x. slice_cmp nat_cmp t (string_bytes x))
+same t k = bytes_eq t (string_bytes k)
 
-swap : (a b c : Bool) → (a || (b || c)) ≡ (b || (a || c))
-swap true true c = refl
-swap true false c = refl
-swap false b c = refl
+-- the texts with one more, in any order
+inserted : (t : List ℕ) (k : Text) (old new : List Text) → IsPermutation (k ∷ old) new → has_text new t ≡ (same t k || has_text old t)
+inserted t k old new more = sym (list_any-IsPermutation (same t) (k ∷ old) new more)
 
-twice : (a c : Bool) → (a || c) ≡ (a || (a || c))
-twice true c = refl
-twice false c = refl
-
--- a text put among texts is there, and so are the others
-inserted : (t : List ℕ) (k : Text) (ks : List Text) → has_text (insert_key string_cmp ks k) t ≡ (same t k || has_text ks t)
-inserted t k [] = refl
-inserted t k (x ∷ xs) = go (string_cmp k x) refl (inserted t k xs)
-  where
-    go : (o : Ordering) → string_cmp k x ≡ o → has_text (insert_key string_cmp xs k) t ≡ (same t k || has_text xs t)
-        → has_text (match_ordering o (k ∷ x ∷ xs) (x ∷ xs) (x ∷ insert_key string_cmp xs k)) t ≡ (same t k || has_text (x ∷ xs) t)
-    go Less is more = refl
-    go Equal is more =
-        let bytes : string_bytes k ≡ string_bytes x = slice_cmp-IsAntisymmetric nat_cmp-IsAntisymmetric (string_bytes k) (string_bytes x) is in
-        twice (same t x) (has_text xs t) ∙ ap (λ b. is_eq (slice_cmp nat_cmp t b) || has_text (x ∷ xs) t) (sym bytes)
-    go Greater is more = ap (λ b. same t x || b) more ∙ swap (same t x) (same t k) (has_text xs t)
-
--- an order that is its own reverse is equality
-own_reverse : (o : Ordering) → o ≡ ordering_reverse o → o ≡ Equal
-own_reverse Less is = cc
-own_reverse Equal is = refl
-own_reverse Greater is = cc
-
-pub is_itself : (t : List ℕ) → is_eq (slice_cmp nat_cmp t t) ≡ true
-is_itself t = ap is_eq (own_reverse (slice_cmp nat_cmp t t) (nat_list_cmp_total.antisymm t t))
-
-from_is_eq : (o : Ordering) → is_eq o ≡ true → o ≡ Equal
-from_is_eq Less is = cc
-from_is_eq Equal is = refl
-from_is_eq Greater is = cc
+pub is_itself : (t : List ℕ) → bytes_eq t t ≡ true
+is_itself t = (bytes_eq-Decides t t).1 refl
 
 bytes_from_same : (t : List ℕ) (k : Text) → same t k ≡ true → t ≡ string_bytes k
-bytes_from_same t k is = slice_cmp-IsAntisymmetric nat_cmp-IsAntisymmetric t (string_bytes k) (from_is_eq (slice_cmp nat_cmp t (string_bytes k)) is)
+bytes_from_same t k is = (bytes_eq-Decides t (string_bytes k)).0 is
 
 or_cases : (a b : Bool) → (a || b) ≡ true → (a ≡ true) ⊎ (b ≡ true)
 or_cases true b is = inl refl
@@ -73,16 +41,16 @@ or_right false b is = is
 -- ---- the messages
 
 -- a new message and its text
-pub stays_kept : (ms : List Message) (ks : List Text) (m : Message) (k : Text) → IsKept ms ks → IsMessage m → string_bytes k ≡ wire m
-    → ¬ Contains ms m → IsKept (ms ++ m ∷ []) (insert_key string_cmp ks k)
-stays_kept ms ks m k kept is text absent = record {
+pub stays_kept : (ms : List Message) (ks new : List Text) (m : Message) (k : Text) → IsKept ms ks → IsMessage m → string_bytes k ≡ wire m
+    → IsPermutation (k ∷ ks) new → ¬ Contains ms m → IsKept (ms ++ m ∷ []) new
+stays_kept ms ks new m k kept is text more absent = record {
   only = λ n there. elim (Contains-push_cases ms m n there) as (λ _. IsMessage n) [
     | inl before ↦ kept.only n before
     | inr equal ↦ subst IsMessage equal is
   ];
   once = all_pairs_push (λ a b. a ≢ b) ms m kept.once (λ i d inside. apart i d inside);
-  known = λ n message there. inserted (wire n) k ks ∙ known_now n message (Contains-push_cases ms m n there);
-  found = λ n message has. found_now n message (or_cases (same (wire n) k) (has_text ks (wire n)) (sym (inserted (wire n) k ks) ∙ has));
+  known = λ n message there. inserted (wire n) k ks new more ∙ known_now n message (Contains-push_cases ms m n there);
+  found = λ n message has. found_now n message (or_cases (same (wire n) k) (has_text ks (wire n)) (sym (inserted (wire n) k ks new more) ∙ has));
 }
   where
     apart : (i : ℕ) (d : Message) → i < length ms → get_or ms i d ≢ m
@@ -92,7 +60,7 @@ stays_kept ms ks m k kept is text absent = record {
     known_now n message (inl before) = or_right (same (wire n) k) (has_text ks (wire n)) (kept.known n message before)
     known_now n message (inr equal) =
         let bytes : string_bytes k ≡ wire n = text ∙ ap wire equal in
-        ap (λ b. is_eq (slice_cmp nat_cmp (wire n) b) || has_text ks (wire n)) bytes ∙ ap (λ b. b || has_text ks (wire n)) (is_itself (wire n))
+        ap (λ b. bytes_eq (wire n) b || has_text ks (wire n)) bytes ∙ ap (λ b. b || has_text ks (wire n)) (is_itself (wire n))
 
     found_now : (n : Message) → IsMessage n → ((same (wire n) k ≡ true) ⊎ (has_text ks (wire n) ≡ true)) → Contains (ms ++ m ∷ []) n
     found_now n message (inl now) =
@@ -111,6 +79,5 @@ module _ (ms : List Message) (ks : List Text) (m : Message) (kept : IsKept ms ks
   is_there known = kept.found m is known
 
   pub put_kept : (k : Text) (new : List Text) → string_bytes k ≡ wire m
-      → has_text ks (wire m) ≡ false → new ≡ insert_key string_cmp ks k → IsKept (ms ++ m ∷ []) new
-  put_kept k new text missing keys =
-      subst (λ (x : List Text). IsKept (ms ++ m ∷ []) x) (sym keys) (stays_kept ms ks m k kept is text (is_absent missing))
+      → has_text ks (wire m) ≡ false → IsPermutation (k ∷ ks) new → IsKept (ms ++ m ∷ []) new
+  put_kept k new text missing more = stays_kept ms ks new m k kept is text more (is_absent missing)

@@ -1,9 +1,12 @@
 -- The outcome of one call, after which another tells the outcome of both.
-use Rattle.std.proofs.Common.{◌≡◌, ◌∙◌, ◌⊎◌, inl, inr, ℕ, ◌≤◌, Result, Ok, Err, arith}
+use Rattle.std.proofs.Common.{◌≡◌, ◌∙◌, ◌⊎◌, ◌↔◌, inl, inr, ℕ, ◌≤◌, Result, Ok, Err, IsSome, arith, sym}
 use Rattle.std.specs.Prelude.{OnOk, OnErr, IsOk, IsErr, IsErrAnd}
 use Rattle.desk_store.specs.declared.error.KeeperError.{KeeperError}
 use Rattle.desk_store.specs.declared.error.KeeperError.TheVariants.{NoMemory, Storage}
 use Rattle.desk_store.specs.Keeping.{HasFailed}
+use Rattle.sqlite.specs.State.{State}
+use Rattle.store_tables.specs.Causes.{IsExplained, IsOfMemory}
+use Rattle.store_tables.specs.declared.fault.Fault.{Fault}
 
 module _ {T U E F : Type 0} (r : Result T E) (s : Result U F) where
   -- the Ok of the first says what the Ok of the second says
@@ -74,3 +77,9 @@ on_err (Err e) P Q on p = on p
 -- a failure that was counted later
 pub failed_since : (a b c : ℕ) → a ≤ b → HasFailed b c → HasFailed a c
 failed_since a b c before failed = elim failed [ inl rose ↦ inl (omega (arith, before, rose)) | inr most ↦ inr most ]
+
+-- what is told as the storage's, and has a cause, is no want of memory
+pub storage_caused : (old new : State) (f : Fault) (e : KeeperError) → ((e ≡ NoMemory) ↔ IsOfMemory f) → IsExplained old new f
+    → e ≡ Storage → HasFailed old.faults new.faults ⊎ IsSome old.step_limit
+storage_caused old new f e told (inl memory) is = absurd (let e = sym (told.1 memory) ∙ is in cc)
+storage_caused old new f e told (inr cause) is = cause

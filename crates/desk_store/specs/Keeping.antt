@@ -1,9 +1,10 @@
 -- What a look at a keeper tells, what it knows of its messages, and what a count of failures says.
-use Rattle.std.specs.Prelude.{◌≡◌, ◌⊎◌, ⊤, ℕ, ◌<◌, ◌≤◌, ◌+◌, ◌-◌, ◌^◌, List, min, string_bytes}
+use Rattle.std.specs.Prelude.{◌≡◌, ⊤, ℕ, ◌+◌, ◌-◌, ◌^◌, List, min, string_bytes}
 use Rattle.std.specs.Prelude.{IfSome}
 use Rattle.messages.specs.declared.message.Message.{Message}
 use Rattle.store_tables.specs.Sets.{Lists}
 use Rattle.outcomes.specs.Gathered.{AreGathered, Known}
+pub use Rattle.store_tables.specs.Causes.{HasFailed}
 use Rattle.desk_store.specs.declared.found.Found.{Found}
 use Rattle.desk_store.specs.declared.found.Found.TheVariants as found
 
@@ -32,10 +33,6 @@ TellsKnown S found.Empty = ⊤
 TellsKnown S (found.Desk desk) = IfSome desk.known (IsKnownOf S)
 TellsKnown S found.OldDesk = ⊤
 TellsKnown S found.NotADesk = ⊤
-
--- the count of failures rose, or stands at the greatest number of 64 bits
-abbrev pub HasFailed : (before after : ℕ) → Type 0
-HasFailed before after = (before < after) ⊎ (2 ^ 64 - 1 ≤ after)
 
 -- two counts of failures as one, up to the greatest number of 64 bits
 abbrev pub together : (below own : ℕ) → ℕ

@@ -13,6 +13,7 @@ pub use Rattle.store_tables.specs.Rows
 pub use Rattle.store_tables.specs.Stored
 pub use Rattle.store_tables.specs.Kept
 pub use Rattle.store_tables.specs.SqliteStates
+pub use Rattle.store_tables.specs.Causes
 pub use Rattle.store_schema.specs.Shapes
 pub use Rattle.store_opening.specs.Opened
 pub use Rattle.store_migration.specs.Migrated

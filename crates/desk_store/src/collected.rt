@@ -1,9 +1,8 @@
 //! Messages, each once.
 
-ghost use Rattle.std.specs.Prelude.{◌≡◌, ◌≢◌, ◌<◌, [], AllPairs, Contains, IfOk, OnOk};
-ghost use Rattle.std.specs.Prelude.{OnErr, IfErr, string_bytes, vec_len, vec_capacity};
-ghost use Rattle.std.specs.BTreeSet.{insert_key};
-ghost use Rattle.std.specs.String.{string_cmp};
+ghost use Rattle.std.specs.Prelude.{◌≡◌, ◌≢◌, ◌<◌, [], ◌∷◌, false, AllPairs, Contains, IfOk};
+ghost use Rattle.std.specs.Prelude.{OnOk, OnErr, IfErr, IsPermutation, string_bytes, vec_len};
+ghost use Rattle.std.specs.Prelude.{vec_capacity};
 ghost use Rattle.messages.specs.Wire.{IsMessage, wire};
 ghost use Rattle.messages.specs.declared.message.Message.{Message as AnyMessage};
 ghost use Rattle.desk_store.specs.private.Collected.{IsPut, has_text};
@@ -12,7 +11,7 @@ ghost use Rattle.desk_store.specs.declared.error.KeeperError.TheVariants as erro
 use crate::error::KeeperError;
 use messages::Message;
 use std::alloc::Global;
-use std::collections::BTreeSet;
+use std::collections::HashSet;
 use std::marker::Model;
 
 /// Messages, each once, in the order in which they came. Contracts see the list.
@@ -20,8 +19,8 @@ use std::marker::Model;
 pub(crate) struct Collected {
     alloc: Global,
     messages: Vec<Message>,
-    /// The text of each, in which a repeat is found in logarithmic time.
-    texts: BTreeSet<String>,
+    /// The text of each, by which a repeat is found.
+    texts: HashSet<String>,
 }
 
 impl Model for Collected {
@@ -37,7 +36,7 @@ impl Model for Collected {
 }
 
 /// Whether the text is one of the texts.
-fn knows(texts: &BTreeSet<String>, text: &str) -> bool
+fn knows(texts: &HashSet<String>, text: &str) -> bool
     ensures { result ≡ has_text texts.now.keys text.now }
 {
     texts.contains(text)
@@ -62,9 +61,10 @@ fn copies(
     Ok((copy, key))
 }
 
-/// Adds the text to the texts.
-fn add_text(texts: &mut BTreeSet<String>, key: String) -> Result<(), KeeperError>
-    ensures keys { OnOk result (texts.new.keys ≡ insert_key string_cmp texts.old.keys key) }
+/// Adds the text, which is new, to the texts.
+fn add_text(texts: &mut HashSet<String>, key: String) -> Result<(), KeeperError>
+    requires new { has_text texts.old.keys (string_bytes key) ≡ false }
+    ensures keys { OnOk result (IsPermutation (key ∷ texts.old.keys) texts.new.keys) }
     ensures unchanged { OnErr result (texts.new.keys ≡ texts.old.keys) }
     ensures err { IfErr result (λ e. e ≡ error.NoMemory) }
 {
@@ -80,7 +80,7 @@ impl Collected {
         Collected {
             alloc,
             messages: Vec::new(alloc),
-            texts: BTreeSet::new(alloc),
+            texts: HashSet::new(alloc),
         }
     }
 

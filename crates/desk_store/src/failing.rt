@@ -1,8 +1,8 @@
 //! Failures of a keeper over a database, reported and counted.
 
 ghost use Rattle.std.specs.Prelude.{◌≡◌, ◌↔◌, ◌≤◌, IsTrue};
+ghost use Rattle.store_tables.specs.Causes.{IsOfMemory};
 ghost use Rattle.desk_store.specs.Keeping.{HasFailed};
-ghost use Rattle.desk_store.specs.private.Failing.{IsOfMemory};
 ghost use Rattle.desk_store.specs.declared.error.KeeperError.TheVariants as errors;
 
 use crate::error::KeeperError;

@@ -83,6 +83,10 @@ impl<K: Keeper> Keeper for FailingKeeper<K> {
 
     ghost failures = { λ k. together (K.failures k.kept) k.refused };
 
+    ghost faults = { λ k. together (K.faults k.kept) k.refused };
+
+    ghost is_limited = { λ k. K.is_limited k.kept };
+
     ghost beside = { λ k. K.beside k.kept };
 
     ghost is_same = { λ a b. K.is_same a.kept b.kept };

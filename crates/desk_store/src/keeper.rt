@@ -5,7 +5,7 @@ ghost use Rattle.messages.specs.Wire.{IsMessage, wire};
 ghost use Rattle.messages.specs.declared.message.Message.{Message as AnyMessage};
 ghost use Rattle.store_schema.specs.Beside.{TableWithRows};
 ghost use Rattle.store_tables.specs.Sets.{IsNothing, SameSet, IsWith, Lists, With};
-ghost use Rattle.desk_store.specs.Keeping.{IsKnownOf, IsSomeDesk, Tells, TellsKnown};
+ghost use Rattle.desk_store.specs.Keeping.{HasFailed, IsKnownOf, IsSomeDesk, Tells, TellsKnown};
 ghost use Rattle.desk_store.specs.Left.{Left, AddsOnly, IsAsKept, IsCommitted, IsDeskOf};
 ghost use Rattle.desk_store.specs.Left.{IsNothingOrFresh, IsReplacedOrNot, IsWithOrWithout};
 ghost use Rattle.desk_store.specs.Left.{LeavesOnly};
@@ -58,6 +58,12 @@ pub trait Keeper {
 
     /// How many failures were counted.
     ghost failures: { Self → ℕ };
+
+    /// How many failures the storage itself has counted.
+    ghost faults: { Self → ℕ };
+
+    /// The steps of a query are limited.
+    ghost is_limited: { Self → Type 0 };
 
     /// The table is kept too, with these rows, and is not one of a desk's.
     ghost beside: { Self → TableWithRows → Type 0 };
@@ -124,6 +130,11 @@ pub trait Keeper {
         ensures roster { is_up self.new → roster self.new ≡ roster self.old }
         ensures served { IsServed is_up is_clean failures beside self.old self.new
             (result ≡ Err KeeperError.Storage) (IsErr result) }
+        // For a message that it has, `Storage` comes only where the storage's own count of failures
+        // rose or stands at the greatest number of 64 bits, or the steps of a query are limited.
+        ensures cause { is_up self.old → is_clean self.new → holds self.old message.now
+            → result ≡ Err KeeperError.Storage
+            → HasFailed (faults self.old) (faults self.new) ⊎ is_limited self.old }
         ensures live { is_clean self.new → OnOk result (is_up self.new) }
         ensures crash { is_up self.old → is_clean self.new → LeavesOnly (may_leave self.new)
             (IsWithOrWithout (roster self.old) (holds self.old) message.now) }

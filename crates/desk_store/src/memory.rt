@@ -73,6 +73,10 @@ impl Keeper for MemoryKeeper {
 
     ghost failures = { λ k. 0 };
 
+    ghost faults = { λ k. 0 };
+
+    ghost is_limited = { λ k. ⊥ };
+
     ghost beside = { λ k it. ⊥ };
 
     ghost is_same = { λ a b. b ≡ a };

@@ -1,6 +1,6 @@
 //! A keeper over a database.
 
-ghost use Rattle.std.specs.Prelude.{◌≡◌, ◌↔◌, false, IfSome};
+ghost use Rattle.std.specs.Prelude.{◌≡◌, ◌↔◌, false, IfSome, IsSome};
 ghost use Rattle.sqlite.specs.State.{HasCleanDisk};
 ghost use Rattle.sqlite.specs.Held.{state};
 ghost use Rattle.store_tables.specs.Kept.{HoldsText};
@@ -178,6 +178,10 @@ impl<S: Alter> Keeper for SqliteKeeper<S> {
     ghost is_clean = { λ k. HasCleanDisk (state S.Store k.conn) };
 
     ghost failures = { λ k. k.failed };
+
+    ghost faults = { λ k. (state S.Store k.conn).faults };
+
+    ghost is_limited = { λ k. IsSome k.conn.step_limit };
 
     ghost beside = { λ k. StandsBeside (state S.Store k.conn).now };
 

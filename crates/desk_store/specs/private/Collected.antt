@@ -2,9 +2,7 @@
 use Rattle.std.specs.Prelude.{◌≡◌, ◌≢◌, ◌⊎◌, ℕ, Bool, true, List, [], ◌∷◌}
 use Rattle.std.specs.Prelude.{◌++◌, AllPairs, Contains, String, string_bytes}
 use Rattle.std.specs.List.{list_any}
-use Rattle.std.specs.BTreeMap.{is_at}
-use Rattle.std.specs.Cmp.Lexicographic.{slice_cmp}
-use Rattle.std.specs.Ordering.{nat_cmp}
+use Rattle.std.specs.Str.{bytes_eq}
 use Rattle.std.specs.declared.alloc.Global.{Global}
 use Rattle.messages.specs.Wire.{wire, IsMessage}
 use Rattle.messages.specs.declared.message.Message.{Message}
@@ -15,7 +13,7 @@ IsPut old m new = (Contains old m × (new ≡ old)) ⊎ ((¬ Contains old m) × 
 
 -- one of the texts has these bytes
 abbrev pub has_text : List (String Global) → List ℕ → Bool
-has_text texts bytes = list_any (is_at (λ t. slice_cmp nat_cmp bytes (string_bytes t))) texts
+has_text texts bytes = list_any (λ t. bytes_eq bytes (string_bytes t)) texts
 
 -- Each is a message, none comes twice, and a message is among them exactly where its text is among
 -- the texts.

@@ -1,16 +1,19 @@
-use Rattle.std.proofs.Common.{◌≡◌, ◌∙◌, Ok, true, rules, subst, sym}
+use Rattle.std.proofs.Common.{◌≡◌, ◌∙◌, ◌⊎◌, Ok, Err, true, rules, subst, sym}
 use Rattle.std.proofs.lemmas.Result.{err_from_is_err_and}
 use Rattle.messages.specs.declared.message.Message.{Message}
 use Rattle.roster.specs.Rules.{is_among}
 use Rattle.store_tables.specs.Sets.{With}
+use Rattle.desk_store.specs.Keeping.{HasFailed}
 use Rattle.desk_store.specs.Left.{AddsOnly}
 use Rattle.desk_store.proofs.SameLeft.{same_left}
 use Rattle.desk.specs.Crash.{IsAddedByDelivery}
 use Rattle.desk.specs.Delivery.{Delivery, IsBodyOf, IsDeliveryAnswer}
 use Rattle.desk.specs.private.Known.{IsKnown}
+use Rattle.desk.specs.declared.refusal.Refusal.TheVariants.{Storage}
 use Rattle.desk.proofs.DeliveryLemmas.{acknowledged, held_at_ok, refused, same_body}
 use Rattle.desk.proofs.KnownLemmas.{known_more}
 use Rattle.desk.proofs.LeftLemmas.{adds_as, known_of_up}
+use Rattle.desk.proofs.RefusalLemmas.{told_storage}
 use Rattle.desk.proofs.desk.Desk.deliver.Goals as goal
 
 pub returns-in_err-message-clause-answer : goal.returns-in_err-message-clause-answer
@@ -106,3 +109,16 @@ returns-clause-leaves g c = λ clean.
       ),
     )) (c.add-added.ensures.leaves clean) in
     rw (← c.self.view_is) adds
+
+pub returns-in_err-added-clause-cause : goal.returns-in_err-added-clause-cause
+returns-in_err-added-clause-cause g c =
+    let K = g.K.Keeper in
+    let old = c.self.inside.keeper in
+    let new = c.add-added.new.self in
+    let n = c.in_ok-message.message in
+    let caused : K.is_up old → K.is_clean new → (m : Message) → IsBodyOf c.args.body.now m → K.holds old m → c.from_residual-in_err-added.result ≡ Err Storage
+    → HasFailed (K.faults old) (K.faults new) ⊎ K.is_limited old = λ up clean m body held told.
+    c.add-added.ensures.cause up clean (subst (K.holds old) (same_body c.args.body.now m n body c.in_ok-message.ensures.found.0) held)
+    (told_storage c.in_err-added.field-0.0 c.add-added.result c.from_residual-in_err-added.result c.in_err-added.was
+    c.from_residual-in_err-added.ensures.1 told) in
+    rw (← c.self.view_is) caused

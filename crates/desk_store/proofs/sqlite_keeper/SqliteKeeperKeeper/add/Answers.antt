@@ -8,7 +8,7 @@ use Rattle.store_tables.specs.Committed.{ArrivesAt}
 use Rattle.desk_store.proofs.ArrivalLemmas.{arrival_keeps, content_wired, held_wired}
 use Rattle.desk_store.proofs.FoundLemmas.{arrival_lasts, one_more, up_left, with_message, with_or_without}
 use Rattle.store_schema.proofs.BesideLemmas.{same_beside, spared_beside}
-use Rattle.desk_store.proofs.OutcomeLemmas.{ok_no_err}
+use Rattle.desk_store.proofs.OutcomeLemmas.{ok_no_err, storage_caused}
 use Rattle.desk_store.proofs.sqlite_keeper.SqliteKeeperKeeper.add.Goals as goal
 
 pub arrive-arrived-requires-clause-desk : goal.arrive-arrived-requires-clause-desk
@@ -174,3 +174,16 @@ returns-in-Err-clause-leaves g c clean left may =
     (subst (λ t. Survives (state g.S.Store c.args.self.now.conn) (state g.S.Store c.arrive-arrived.new.conn)
     (λ trees. IsUp (state g.S.Store c.args.self.now.conn) × ArrivesAt t (state g.S.Store c.args.self.now.conn).now trees)) c.requires.text
     c.arrive-arrived.ensures.survives)
+
+pub returns-then-not-is_autocommit-clause-cause : goal.returns-then-not-is_autocommit-clause-cause
+returns-then-not-is_autocommit-clause-cause g c up clean held is =
+    absurd (let auto = (c.args.self.now.rests up).autocommit in let waits = c.if-not-is_autocommit.true in let shown = c.is_autocommit.ensures.value in cc)
+
+pub returns-in-Ok-clause-cause : goal.returns-in-Ok-clause-cause
+returns-in-Ok-clause-cause g c up clean held is = ok_no_err _ _ is
+
+pub returns-in-Err-clause-cause : goal.returns-in-Err-clause-cause
+returns-in-Err-clause-cause g c up clean held is =
+    let old = state g.S.Store c.args.self.now.conn in
+    storage_caused old (state g.S.Store c.arrive-arrived.new.conn) c.in-Err.refused c.told.result c.told.ensures.memory
+    (c.in-Err.ensures.explained up clean (held_wired old.now c.args.message.now c.args.text.now c.requires.text held)) cc
