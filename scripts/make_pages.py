@@ -115,7 +115,7 @@ serves
 .It Pa /etc/desk/base.sudo
 its base policy
 .It Pa /etc/desk/serve.conf
-where it finds these, and where it listens
+where it finds these, where it listens, and how often a commit syncs
 .It Pa /run/desk/desk.sock
 its socket, which the group desk-front may open
 .It Pa /var/lib/desk/desk.db

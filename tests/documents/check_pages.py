@@ -26,7 +26,11 @@ TYPED: list[tuple[list[str], set[str]]] = [
     (["desk", "re"], {"rebuild", "review"}),
     (["desk", "check", "base."], {"base.sudo"}),
     (["desk", "decide", "base.sudo", ""], set()),
-    (["desk", "print", "roster.toml", "site.sudo", "desk.db", "--"], {"--after", "--help"}),
+    (
+        ["desk", "print", "roster.toml", "site.sudo", "desk.db", "--"],
+        {"--after", "--help", "--sync"},
+    ),
+    (["desk", "rebuild", "--s"], {"--sync"}),
     (["desk", "print", "--after", ""], set()),
     (["desk", "print", "--after", "20260105093000Z", "ros"], {"roster.toml"}),
     (["desk", "beyond", "site.sudo", "--u"], {"--user"}),

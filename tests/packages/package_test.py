@@ -327,7 +327,7 @@ def bad_starts(trial: Trial) -> None:
     )
     refused(trial, "an address of another machine", "F1 .*ADDR", {"ADDR": "192.0.2.1:8080"})
     for address, says in (
-        ("unix:desk.sock", "F2 .*ADDR or another word has not its form"),
+        ("unix:desk.sock", "F2 .*ADDR, SYNC or another word has not its form"),
         ("unix:/run/none/desk.sock", "F1 .*there is no folder /run/none for the socket"),
         ("unix:/run/desk.sock", "F1 .*desk cannot make the socket /run/desk.sock"),
         (f"unix:/run/desk/{'x' * 97}", "F1 .*is too long"),

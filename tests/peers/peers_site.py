@@ -577,6 +577,8 @@ def checks(count: Count, words: list[str], folder: str) -> None:
     site("a store in no folder", "F1 FileFailed: cannot read and write", STORE="/none/desk.db")
     site("a store that is a folder", "F1 FileFailed: ", STORE=folder)
     site("no form of an address", "F2 BadWord: ADDR", ADDR="nowhere")
+    site("no number of syncs", "F2 BadWord: ADDR, SYNC", SYNC="thrice")
+    site("a site that syncs twice", SYNC="twice")
     site("a socket in no folder", "F1 FileFailed: there is no folder", ADDR="unix:/none/desk.sock")
     with contextlib.closing(socket.create_server(("127.0.0.1", free_port()))) as other:
         address = f"127.0.0.1:{other.getsockname()[1]}"
@@ -590,6 +592,22 @@ def checks(count: Count, words: list[str], folder: str) -> None:
         said, status = served.ask("--check")
         is_right = "a desk is served over" in said and status == 0
         count.holds("--check: while it is served", is_right, (said, status))
+
+
+def syncs(count: Count, words: list[str], folder: str) -> None:
+    """`desk-serve` serves with as many syncs as SYNC says, and with one where it says nothing."""
+    for given, wanted in (({}, "once"), ({"SYNC": "once"}, "once"), ({"SYNC": "twice"}, "twice")):
+        with site_of(words, folder) as served:
+            room = os.path.dirname(served.base)
+            said = os.path.join(room, "said")
+            wrapper = f'#!/bin/sh\necho "$*" >> {said}\nexec {words[-1]} "$@"\n'
+            served.environment |= {"DESK": desk.write(room, "desk", wrapper), **given}
+            os.chmod(os.path.join(room, "desk"), 0o755)
+            served.start()
+            is_up = comes(served.file, PATIENCE) is not None
+            count.holds(f"it serves with {given}", is_up, served.said())
+            last = desk.read(said).splitlines()[-1]
+            count.holds(f"as {given} says", last.endswith(f" --sync {wanted}"), last)
 
 
 # ---- desk-audit beside a desk that is written to
@@ -633,6 +651,7 @@ PARTS = (
     struck_out,
     reloads,
     checks,
+    syncs,
     audit_meanwhile,
 )
 

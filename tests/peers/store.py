@@ -10,8 +10,9 @@ is the whole store. A server that is killed must have kept each message that it 
 answer alike when it is started again over the file. Last, `deliver` is killed (SIGKILL) at 200
 random moments while it takes 1,500 messages: after each, the file must open and hold a beginning of
 what was sent; delivered once more, each line must be acknowledged, and the file hold what it holds
-after a run that nobody stopped. `python3 -m tests.peers.store WORDS..` runs another program than
-build/desk.
+after a run that nobody stopped. The calls that sync the files are counted too: one a commit, and
+two where the words say `--sync twice`. `python3 -m tests.peers.store WORDS..` runs another program
+than build/desk.
 """
 
 import concurrent.futures
@@ -32,6 +33,7 @@ from tests.common import desk, store_files
 
 KILLS = 200
 SENT = 1_500
+COMMITS = 50  # of so many messages more the syncs are counted
 PATIENCE = 300  # the seconds after which a program hangs: the machine may be busy
 LINE = "ann db1 = (root) NOTBEFORE=20260105090000Z NOTAFTER=20260105110000Z /usr/bin/id\n"
 
@@ -303,6 +305,33 @@ def kill_serving(count: Count, store: str) -> None:
         before = held
 
 
+def syncs(count: Count, folder: str, number: int, *options: str) -> int:
+    """How often a delivery of so many messages, over a new file, syncs the file and its log."""
+    store, trace = (os.path.join(folder, f"synced.{end}") for end in ("db", "trace"))
+    traced = ["strace", "-f", "-qq", "-e", "trace=fsync,fdatasync", "-o", trace, *desk.named()]
+    words = ["deliver", desk.ROSTER, desk.BASE, store, "chat", *options]
+    given = "".join(desk.approval(no) + "\n" for no in range(number))
+    done = desk.run([*traced, *words], given, PATIENCE)
+    count.same(f"delivered {options}", (done.stdout, done.returncode), ("ack\n" * number, 0))
+    count.same(f"held {options}", len(store_files.read(store)[1]), number)
+    made = sum(line.endswith(" = 0") for line in desk.read(trace).splitlines())
+    for path in (store, store + "-wal", trace):
+        os.unlink(path)
+    return made
+
+
+def count_syncs(count: Count, folder: str) -> None:
+    """A commit syncs once, and twice where the words say so. (The opening and the first commit sync
+    more often: what so many messages more cost is counted.)"""
+    for options, wanted in (
+        ((), 1),
+        (("--sync", "once"), 1),
+        (("--sync", "twice"), 2),
+    ):
+        few, many = (syncs(count, folder, number, *options) for number in (COMMITS, 2 * COMMITS))
+        count.same(f"syncs of {COMMITS} messages {options}", many - few, COMMITS * wanted)
+
+
 def held_by(store: str) -> list[str]:
     """The messages of the file, if it is a desk's by now."""
     if not os.path.exists(store):
@@ -383,6 +412,7 @@ def kill_delivering(count: Count, folder: str) -> None:
 
 def main() -> None:
     desk.tool("sqlite3")
+    desk.tool("strace")
     count = Count()
     with tempfile.TemporaryDirectory(dir=desk.MEMORY) as folder:
         for part in (
@@ -390,6 +420,7 @@ def main() -> None:
             write_by_sqlite,
             rest_as_one_file,
             serve_over,
+            count_syncs,
             kill_delivering,
         ):
             try:

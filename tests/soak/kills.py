@@ -5,7 +5,8 @@
 the file must be whole for Python's `sqlite3`, hold all that it held and a beginning of what was
 sent, and nothing else; delivered once more, each line is acknowledged, and the file holds what it
 holds after a run that nobody stopped. Half of the moments lie before the first write to the log,
-half behind it.
+half behind it. So is `deliver --sync twice`, and what that leaves is opened by a desk that syncs
+once a commit.
 
 `rebuild` is killed 200 times while it gives the desk another roster: after each, the file is the
 desk of the old roster or of the new one, whole, and the same command ends well when it is given
@@ -135,10 +136,10 @@ def refusal(no: int) -> str:
 
 
 class Delivering:
-    """Deliveries of more messages, in an order by chance."""
+    """Deliveries of more messages, in an order by chance, by words with these options."""
 
-    def __init__(self, trial: Trial) -> None:
-        self.trial = trial
+    def __init__(self, trial: Trial, *options: str) -> None:
+        self.trial, self.options = trial, options
         self.lines = [refusal(no) for no in range(SENT)]
         random.Random(13).shuffle(self.lines)
         with trial.copy() as store:
@@ -146,7 +147,7 @@ class Delivering:
             self.wanted = store_files.read(store)
 
     def words(self, store: str) -> list[str]:
-        return ["deliver", desk.ROSTER, desk.BASE, store, "chat"]
+        return ["deliver", desk.ROSTER, desk.BASE, store, "chat", *self.options]
 
     def kill(self, count: Count, moment: Moment, is_asked: bool) -> tuple[bool, str]:
         with self.trial.copy() as store:
@@ -244,11 +245,15 @@ def kill_delivering(trial: Trial) -> Count:
     return kill_all(Delivering(trial), "deliver")
 
 
+def kill_syncing_twice(trial: Trial) -> Count:
+    return kill_all(Delivering(trial, "--sync", "twice"), "deliver --sync twice")
+
+
 def kill_rebuilding(trial: Trial) -> Count:
     return kill_all(Rebuilding(trial), "rebuild")
 
 
-PARTS = (kill_delivering, kill_rebuilding)
+PARTS = (kill_delivering, kill_syncing_twice, kill_rebuilding)
 
 
 def main() -> int:

@@ -69,9 +69,16 @@ class Desk:
     def systemctl(self, verb: str) -> None:
         served.run(["systemctl", verb, self.service])
 
+    def rebuilding(self, roster: str, store: str) -> list[str]:
+        """The words that give a store a roster. A commit syncs as often as the service's do; once
+        is not said, for a desk of before 0.17.0 does not know the option."""
+        base, sync = self.settings.base, self.settings.sync
+        often = [] if sync == "once" else ["--sync", sync]
+        return [self.desk, "rebuild", roster, base, store, *often]
+
     def rebuild(self, text: bytes, journal: Journal) -> None:
         """(The lock is the rebuild's, too: if this program is killed, the next one waits.)"""
-        words = [self.desk, "rebuild", self.stage(text), self.settings.base, self.settings.store]
+        words = self.rebuilding(self.stage(text), self.settings.store)
         served.run(words, keep=(journal.lock,), owner=self.settings.store)
 
     def put(self, text: bytes) -> None:
@@ -124,7 +131,7 @@ def compare(desk: Desk, new: bytes, folder: str, now: str) -> Compared:
                 file.write(text)
         began = time.monotonic()
         rebuilt = served.copy_of(copy, os.path.join(room, "rebuilt.db"))
-        served.run([desk.desk, "rebuild", paths[1], base, rebuilt])
+        served.run(desk.rebuilding(paths[1], rebuilt))
         took = time.monotonic() - began
         questions = [(paths[0], copy), (paths[1], rebuilt)]
         before, after = served.audits(desk.audit, base, questions, told, now)

@@ -22,6 +22,7 @@ DEFAULTS = {
     "BASE": "/etc/desk/base.sudo",
     "STORE": "/var/lib/desk/desk.db",
     "ADDR": "unix:/run/desk/desk.sock",
+    "SYNC": "once",
 }
 READINGS = 20
 ANSWERS_IN = 60.0  # seconds: it reads all its messages to count them
@@ -38,6 +39,7 @@ class Settings(NamedTuple):
     base: str
     store: str
     address: str
+    sync: str
 
 
 def settings(path: str) -> Settings:

@@ -33,6 +33,7 @@ WRAPPER = """\
 #!/bin/bash
 when=$(cat "$ROOM/kill-rebuild" 2> /dev/null)
 if [ "$1" != rebuild ] || [ "${4#*store/}" = "$4" ]; then exec "$REAL" "$@"; fi
+echo "${*:5}" > "$ROOM/rebuilt"
 if [ "$when" = fail ]; then rm "$ROOM/kill-rebuild"; echo "K4 Storage" >&2; exit 2; fi
 if [ "$when" = spoil ]; then
     rm "$ROOM/kill-rebuild"

@@ -69,6 +69,15 @@ def test_a_roster_is_changed(running: Running) -> None:
     assert again.stdout.endswith("The desk has this roster.\n") and again.returncode == 0, again
 
 
+@pytest.mark.parametrize("setting, says", [("", ""), ("SYNC=twice\n", "--sync twice")])
+def test_the_store_syncs_as_it_is_served(running: Running, setting: str, says: str) -> None:
+    asked(running)
+    running.conf.write_text(running.conf.read_text() + setting)
+    ran = running.change(running.new(WITH_KIM), "--yes")
+    assert ran.returncode == 0, ran
+    assert (running.folder / "rebuilt").read_text() == f"{says}\n"
+
+
 def test_nobody_says_yes(running: Running) -> None:
     asked(running)
     before = running.serves()

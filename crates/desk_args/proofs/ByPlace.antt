@@ -1,14 +1,16 @@
 -- For each of the program's commands, words that are not options are positional.
 use Rattle.std.specs.Prelude.{◌≡◌, ℕ, List, [], ◌∷◌, Some, None, true, codes, slice_index_or, refl}
 use Rattle.std.specs.List.{list_all}
-use Rattle.std.proofs.Common.{◌∙◌, ap, subst, sym}
+use Rattle.std.proofs.Common.{◌∙◌, ap, inl, subst, sym}
 use Rattle.clap.proofs.OnLiterals.{clap_on_literals}
 use Rattle.clap.specs.Simple.{Shape, built}
-use Rattle.clap.specs.Walk.{Row, Text, finished}
-use Rattle.desk_args.specs.CommandLine.{IsCommandLine, Says, check, desk}
-use Rattle.desk_args.specs.Operands.{SaysByPlace, is_operand}
+use Rattle.clap.specs.Walk.{Row, Text, finished, first_of}
+use Rattle.desk_args.specs.CommandLine.{ArePlaces, HasSync, HasValue, IsCommandLine, Says, check, desk}
+use Rattle.desk_args.specs.Operands.{SaysByPlace, SaysPlace, is_operand}
 use Rattle.desk_args.specs.declared.task.Job.{Job}
 use Rattle.desk_args.specs.declared.task.Job.TheVariants.{Beyond, Check, Decide, Deliver, Print, Rebuild, Review, Serve}
+use Rattle.desk_args.specs.declared.task.Places.{Places}
+use Rattle.desk_args.specs.declared.task.Sync.TheVariants.{Once}
 use Rattle.desk_args.proofs.Placed.{Enters, entered_named, faultless_named, level_place, never_trails, placed, placed_level, rows_place}
 use Rattle.desk_args.proofs.ArgsPlaced.{args_are, args_row, six, six_faultless, six_rows}
 
@@ -111,6 +113,18 @@ decides f u h r t p args all = record {
   finds = six_rows f u h r t p args;
 }
 
+-- the places of a command on a desk without an option
+placed_at : (rows : List Row) (places : Places) (store : Text) → SaysPlace store places → HasValue (codes "ROSTER") rows places.roster
+    → HasValue (codes "BASE") rows places.base → HasValue (codes "STORE") rows store → first_of (codes "SYNC") rows ≡ None → ArePlaces rows places
+placed_at rows places store says is_roster is_base is_store none =
+    let once : HasSync (codes "SYNC") rows Once = inl none in
+    record {
+      roster = is_roster;
+      base = is_base;
+      store = (store, is_store, says.0);
+      sync = subst (λ s. HasSync (codes "SYNC") rows s) (sym says.1) once;
+    }
+
 pub said : (program : Text) (words : List Text) (job : Job) → list_all is_operand words ≡ true → SaysByPlace words job → IsCommandLine (program ∷ words) job
 unfolding clap_on_literals
 said program words (Check file) all is =
@@ -141,29 +155,29 @@ said program words (Deliver places relay) all is =
     let (store, says, same) = is in
     subst (λ ws. list_all is_operand ws ≡ true → IsCommandLine (program ∷ ws) (Deliver places relay)) (sym same)
     (λ operands. line program (codes "deliver") (nth 3) (places.roster ∷ places.base ∷ store ∷ relay ∷ []) _ (Deliver places relay)
-    (delivers places.roster places.base store relay operands) (refl, record { roster = refl; base = refl; store = (store, refl, says) }, refl)) all
+    (delivers places.roster places.base store relay operands) (refl, placed_at _ places store says refl refl refl refl, refl)) all
 said program words (Print places host after) all is =
     let (store, says, same, name, none) = is in
     subst (λ ws. list_all is_operand ws ≡ true → IsCommandLine (program ∷ ws) (Print places host after)) (sym same)
     (λ operands. subst (λ m. IsCommandLine (program ∷ codes "print" ∷ places.roster ∷ places.base ∷ store ∷ host ∷ []) (Print places host m)) (sym none)
     (line program (codes "print") (nth 4) (places.roster ∷ places.base ∷ store ∷ host ∷ []) _ (Print places host None)
     (prints places.roster places.base store host operands)
-    (refl, record { roster = refl; base = refl; store = (store, refl, says) }, (refl, name), refl))) all
+    (refl, placed_at _ places store says refl refl refl refl, (refl, name), refl))) all
 said program words (Review places at) all is =
     let (store, text, says, stamp, same) = is in
     subst (λ ws. list_all is_operand ws ≡ true → IsCommandLine (program ∷ ws) (Review places at)) (sym same)
     (λ operands. line program (codes "review") (nth 5) (places.roster ∷ places.base ∷ store ∷ text ∷ []) _ (Review places at)
     (reviews places.roster places.base store text operands)
-    (refl, record { roster = refl; base = refl; store = (store, refl, says) }, (text, refl, stamp))) all
+    (refl, placed_at _ places store says refl refl refl refl, (text, refl, stamp))) all
 said program words (Rebuild places) all is =
     let (store, says, same) = is in
     subst (λ ws. list_all is_operand ws ≡ true → IsCommandLine (program ∷ ws) (Rebuild places)) (sym same)
     (λ operands. line program (codes "rebuild") (nth 6) (places.roster ∷ places.base ∷ store ∷ []) _ (Rebuild places)
-    (rebuilds places.roster places.base store operands) (refl, record { roster = refl; base = refl; store = (store, refl, says) })) all
+    (rebuilds places.roster places.base store operands) (refl, placed_at _ places store says refl refl refl refl)) all
 said program words (Serve places addr requests) all is =
     let (store, text, says, listens, same, none) = is in
     subst (λ ws. list_all is_operand ws ≡ true → IsCommandLine (program ∷ ws) (Serve places addr requests)) (sym same)
     (λ operands. subst (λ r. IsCommandLine (program ∷ codes "serve" ∷ places.roster ∷ places.base ∷ store ∷ text ∷ []) (Serve places addr r)) (sym none)
     (line program (codes "serve") (nth 7) (places.roster ∷ places.base ∷ store ∷ text ∷ []) _ (Serve places addr None)
     (serves places.roster places.base store text operands)
-    (refl, record { roster = refl; base = refl; store = (store, refl, says) }, (text, refl, listens), refl))) all
+    (refl, placed_at _ places store says refl refl refl refl, (text, refl, listens), refl))) all

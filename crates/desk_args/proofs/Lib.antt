@@ -10,6 +10,7 @@ pub mod Runs
 pub mod Filled
 pub mod Complete
 pub mod ReviewWords
+pub mod ServeWords
 pub mod Placed
 pub mod ArgsPlaced
 pub mod ByPlace

@@ -1,10 +1,12 @@
 -- The value of an option, or that it is left out.
-use Rattle.std.proofs.Common.{◌≡◌, ℕ, Bool, true, false, List, Option, Some, None, ap, inl, inr, refl, subst, sym, ◌∙◌}
+use Rattle.std.proofs.Common.{◌≡◌, ℕ, Bool, true, false, List, Option, Some, None, ap, codes, inl, inr, refl, subst, sym, ◌∙◌}
 use Rattle.std.proofs.lemmas.Bool.{cases_Bool}
 use Rattle.std.specs.Str.Parse.{digits_value}
 use Rattle.clap.specs.Words.{Row, Text, first_of}
 use Rattle.sudo_words.specs.Moment.{IsStamp}
-use Rattle.desk_args.specs.CommandLine.{HasCount, HasMomentIfGiven, HasOption, is_count}
+use Rattle.desk_args.specs.CommandLine.{HasCount, HasMomentIfGiven, HasOption, HasSync, is_count}
+use Rattle.desk_args.specs.declared.task.Sync.{Sync}
+use Rattle.desk_args.specs.declared.task.Sync.TheVariants.{Once, Twice}
 
 pub left_out : (form : Text → Bool) (id : Text) (rows : List Row) → first_of id rows ≡ None → (value : Option Text) → HasOption form id rows value
     → ◌≡◌ {A = Option Text} None value
@@ -67,3 +69,11 @@ moment_given id rows text is None has =
 moment_given id rows text is (Some n) has =
     let both : ◌≡◌ {A = Option Text} (Some has.0) (Some text) = sym has.1 ∙ is in
     let same : has.0 ≡ text = cc in (n, refl, subst (λ (t : Text). IsStamp t n) same has.2)
+
+-- ---- the option that says how often a commit syncs
+
+pub no_sync : (id : Text) (rows : List Row) → first_of id rows ≡ None → (s : Sync) → HasSync id rows s → Once ≡ s
+no_sync id rows none Once has = refl
+no_sync id rows none Twice has =
+    let both : ◌≡◌ {A = Option Text} None (Some (codes "twice")) = sym none ∙ has in
+    absurd cc

@@ -17,6 +17,8 @@ use Rattle.desk_args.specs.declared.task.Address.TheVariants.{Tcp, Unix}
 use Rattle.desk_args.specs.declared.task.Places.{Places}
 use Rattle.desk_args.specs.declared.task.Store.{Store}
 use Rattle.desk_args.specs.declared.task.Store.TheVariants.{Memory, File}
+use Rattle.desk_args.specs.declared.task.Sync.{Sync}
+use Rattle.desk_args.specs.declared.task.Sync.TheVariants.{Once, Twice}
 use Rattle.desk_args.specs.declared.task.Job.{Job}
 use Rattle.desk_args.specs.declared.task.Job.TheVariants.{Beyond, Check, Decide, Deliver}
 use Rattle.desk_args.specs.declared.task.Job.TheVariants.{Print, Rebuild, Review, Serve}
@@ -51,6 +53,10 @@ decide_args =
 abbrev pub beyond_args : List Text
 beyond_args = codes "A" ∷ codes "B" ∷ []
 
+-- how often a commit syncs: an option of each command on a desk
+abbrev pub sync : Rule
+sync = optional (codes "SYNC") (codes "sync")
+
 -- where the parts of a desk are: all that `rebuild` wants
 abbrev pub place_args : List Text
 place_args = codes "ROSTER" ∷ codes "BASE" ∷ codes "STORE" ∷ []
@@ -76,26 +82,26 @@ beyond =
 
 -- a command on a desk, with an argument of its own
 abbrev pub on_desk : (name id : Text) → App
-on_desk name id = with_wanted (new_app name) (desk_args id)
+on_desk name id = with_rule (with_wanted (new_app name) (desk_args id)) sync
 
--- `deliver ROSTER BASE STORE RELAY`
+-- `deliver ROSTER BASE STORE RELAY [--sync SYNC]`
 abbrev pub deliver : App
 deliver = on_desk (codes "deliver") (codes "RELAY")
 
--- `print ROSTER BASE STORE HOST [--after AFTER]`
+-- `print ROSTER BASE STORE HOST [--sync SYNC] [--after AFTER]`
 abbrev pub print : App
 print =
     with_rule (on_desk (codes "print") (codes "HOST")) (optional (codes "AFTER") (codes "after"))
 
--- `review ROSTER BASE STORE AT`
+-- `review ROSTER BASE STORE AT [--sync SYNC]`
 abbrev pub review : App
 review = on_desk (codes "review") (codes "AT")
 
--- `rebuild ROSTER BASE STORE`
+-- `rebuild ROSTER BASE STORE [--sync SYNC]`
 abbrev pub rebuild : App
-rebuild = with_wanted (new_app (codes "rebuild")) place_args
+rebuild = with_rule (with_wanted (new_app (codes "rebuild")) place_args) sync
 
--- `serve ROSTER BASE STORE ADDR [--requests REQUESTS]`
+-- `serve ROSTER BASE STORE ADDR [--sync SYNC] [--requests REQUESTS]`
 abbrev pub serve : App
 serve = with_rule (on_desk (codes "serve") (codes "ADDR"))
     (optional (codes "REQUESTS") (codes "requests"))
@@ -195,12 +201,22 @@ SaysStore text (File path) = (text ≡ path) × (path ≢ codes "-")
 abbrev pub HasStore : Text → List Row → Store → Type 0
 HasStore id rows store = (text : Text) × HasValue id rows text × SaysStore text store
 
--- the places that the values give: the paths of the roster and of the base, and where messages are
--- kept
+-- The option's value says how often a commit syncs. Where it is left out, a commit syncs once.
+abbrev pub SaysSync : Option Text → Sync → Type 0
+SaysSync given Once = (given ≡ None) ⊎ (given ≡ Some (codes "once"))
+SaysSync given Twice = given ≡ Some (codes "twice")
+
+-- the option, or that it is left out, says how often a commit syncs
+abbrev pub HasSync : Text → List Row → Sync → Type 0
+HasSync id rows sync = SaysSync (first_of id rows) sync
+
+-- the places that the values give: the paths of the roster and of the base, where messages are
+-- kept, and how often a commit syncs them
 pub record ArePlaces (rows : List Row) (places : Places) : Type 0 where
   pub roster : HasValue (codes "ROSTER") rows places.roster
   pub base : HasValue (codes "BASE") rows places.base
   pub store : HasStore (codes "STORE") rows places.store
+  pub sync : HasSync (codes "SYNC") rows places.sync
 
 -- ---- where `serve` listens
 
@@ -297,6 +313,12 @@ pub record HasBadAddress (id : Text) (rows : List Row) : Type 0 where
   pub value : HasValue id rows text
   pub bad : SaysNoAddress text
 
+-- the option has a value, which does not say how often a commit syncs
+pub record HasBadSync (id : Text) (rows : List Row) : Type 0 where
+  pub text : Text
+  pub value : HasValue id rows text
+  pub bad : (sync : Sync) → SaysSync (Some text) sync → ⊥
+
 -- too many values, or one that is not of the form
 abbrev pub HasBadWords : (Text → Bool) → ℕ → Text → List Row → Type 0
 HasBadWords form most id rows =
@@ -327,6 +349,12 @@ pub data HasBadServing (rows : List Row) : Type 0 where
   bad_addr : HasBadAddress (codes "ADDR") rows → HasBadServing rows
   bad_requests : HasBadWord is_count (codes "REQUESTS") rows → HasBadServing rows
 
+-- the command is one on a desk
+abbrev pub IsOnDesk : Text → Type 0
+IsOnDesk name =
+    (name ≡ codes "deliver") ⊎ (name ≡ codes "print") ⊎ (name ≡ codes "review")
+    ⊎ (name ≡ codes "rebuild") ⊎ (name ≡ codes "serve")
+
 -- the command's name, with a value that is not of its form
 abbrev pub SaysBadly : Option (Text × List Row) → Type 0
 SaysBadly None = ⊥
@@ -336,6 +364,7 @@ SaysBadly (Some line) =
     ⊎ ((line.0 ≡ codes "print") × HasBadPlace line.1)
     ⊎ ((line.0 ≡ codes "review") × HasBadMoment (codes "AT") line.1)
     ⊎ ((line.0 ≡ codes "serve") × HasBadServing line.1)
+    ⊎ (IsOnDesk line.0 × HasBadSync (codes "SYNC") line.1)
 
 -- By clap's rules the words are a command of the program, without a fault, but a value is not of
 -- its form.

@@ -9,6 +9,8 @@ use Rattle.desk_args.specs.CommandLine.{SaysAddress, SaysStore}
 use Rattle.desk_args.specs.declared.task.Job.{Job}
 use Rattle.desk_args.specs.declared.task.Job.TheVariants.{Beyond, Check, Decide, Deliver}
 use Rattle.desk_args.specs.declared.task.Job.TheVariants.{Print, Rebuild, Review, Serve}
+use Rattle.desk_args.specs.declared.task.Places.{Places}
+use Rattle.desk_args.specs.declared.task.Sync.TheVariants.{Once}
 
 -- A word is an operand where it does not begin with `-`, or is `-` alone (POSIX.1-2017, XBD 12.2,
 -- guidelines 4 and 13).
@@ -26,6 +28,10 @@ pub record HasForms (run : Invocation) : Type 0 where
   pub args : list_all is_arg run.args ≡ true
   pub few : length run.args ≤ 64
 
+-- the word says where messages are kept, and a commit syncs once
+abbrev pub SaysPlace : Text → Places → Type 0
+SaysPlace word places = SaysStore word places.store × (places.sync ≡ Once)
+
 -- the words after the program's name say the job, each by its position
 abbrev pub SaysByPlace : List Text → Job → Type 0
 SaysByPlace words (Check file) = words ≡ codes "check" ∷ file ∷ []
@@ -35,18 +41,18 @@ SaysByPlace words (Decide file run) =
 SaysByPlace words (Beyond a b scope) = (words ≡ codes "beyond" ∷ a ∷ b ∷ [])
     × (scope ≡ record { user = None; host = None; runas = None })
 SaysByPlace words (Deliver places relay) =
-    (store : Text) × SaysStore store places.store
+    (store : Text) × SaysPlace store places
     × (words ≡ codes "deliver" ∷ places.roster ∷ places.base ∷ store ∷ relay ∷ [])
 SaysByPlace words (Print places host after) =
-    (store : Text) × SaysStore store places.store
+    (store : Text) × SaysPlace store places
     × (words ≡ codes "print" ∷ places.roster ∷ places.base ∷ store ∷ host ∷ [])
     × (is_host_name host ≡ true) × (after ≡ None)
 SaysByPlace words (Review places at) =
-    (store text : Text) × SaysStore store places.store
+    (store text : Text) × SaysPlace store places
     × IsStamp text at × (words ≡ codes "review" ∷ places.roster ∷ places.base ∷ store ∷ text ∷ [])
 SaysByPlace words (Rebuild places) =
-    (store : Text) × SaysStore store places.store
+    (store : Text) × SaysPlace store places
     × (words ≡ codes "rebuild" ∷ places.roster ∷ places.base ∷ store ∷ [])
 SaysByPlace words (Serve places addr requests) =
-    (store text : Text) × SaysStore store places.store × SaysAddress text addr
+    (store text : Text) × SaysPlace store places × SaysAddress text addr
     × (words ≡ codes "serve" ∷ places.roster ∷ places.base ∷ store ∷ text ∷ []) × (requests ≡ None)

@@ -44,19 +44,28 @@ const BEYOND_OPTIONS: [(&str, &str, &str); 3] = [
     ("RUNAS", "runas", "Look at this target alone"),
 ];
 
-/// The option of `print`.
-const PRINT_OPTIONS: [(&str, &str, &str); 1] = [(
-    "AFTER",
-    "after",
-    "Leave out the lines that end before this moment",
-)];
+/// The option of each command on a desk.
+const SYNC: (&str, &str, &str) = (
+    "SYNC",
+    "sync",
+    "Sync STORE once or twice a commit [default: once]",
+);
 
-/// The option of `serve`.
-const SERVE_OPTIONS: [(&str, &str, &str); 1] = [(
-    "REQUESTS",
-    "requests",
-    "End after so many connections",
-)];
+/// The options of `print`.
+const PRINT_OPTIONS: [(&str, &str, &str); 2] = [
+    SYNC,
+    (
+        "AFTER",
+        "after",
+        "Leave out the lines that end before this moment",
+    ),
+];
+
+/// The options of `serve`.
+const SERVE_OPTIONS: [(&str, &str, &str); 2] = [
+    SYNC,
+    ("REQUESTS", "requests", "End after so many connections"),
+];
 
 /// The arguments that `rebuild` wants.
 const REBUILD_ARGS: [(&str, &str); 3] = [
@@ -223,7 +232,7 @@ fn deliver<'a>(alloc: Global) -> Result<Command<'a>, AllocError>
 {
     let about = "Deliver the messages on standard input, and print the answer to each";
     let help = "The relay that the messages come from";
-    on_desk(alloc, "deliver", about, "RELAY", help, &[])
+    on_desk(alloc, "deliver", about, "RELAY", help, &[SYNC])
 }
 
 fn print<'a>(alloc: Global) -> Result<Command<'a>, AllocError>
@@ -238,14 +247,14 @@ fn review<'a>(alloc: Global) -> Result<Command<'a>, AllocError>
 {
     let about = "Print who holds what at a moment, and which approvals do not count";
     let help = "The moment, as 20260105093000Z";
-    on_desk(alloc, "review", about, "AT", help, &[])
+    on_desk(alloc, "review", about, "AT", help, &[SYNC])
 }
 
 fn rebuild<'a>(alloc: Global) -> Result<Command<'a>, AllocError>
     ensures { IfOk result (IsCommand line.rebuild) }
 {
     let about = "Take a desk over to another roster, and keep its messages";
-    command_with(alloc, "rebuild", about, &REBUILD_ARGS, &[])
+    command_with(alloc, "rebuild", about, &REBUILD_ARGS, &[SYNC])
 }
 
 fn serve<'a>(alloc: Global) -> Result<Command<'a>, AllocError>

@@ -6,8 +6,8 @@ ghost use Rattle.clap.specs.Words.{fault_of, found_of, rows_of, subcommand_rows_
 ghost use Rattle.sudo_decide.specs.declared.invocation.Invocation.{Invocation as Run};
 ghost use Rattle.sudo_decide.specs.declared.scope.Scope.{Scope as Fixed};
 ghost use Rattle.desk_args.specs.CommandLine as line;
-ghost use Rattle.desk_args.specs.CommandLine.{ArePlaces, HasBadScope, HasBadValue, HaveSome};
-ghost use Rattle.desk_args.specs.CommandLine.{IsBadLine, IsCommandLine, HasAllValues};
+ghost use Rattle.desk_args.specs.CommandLine.{ArePlaces, HasBadScope, HasBadSync, HasBadValue};
+ghost use Rattle.desk_args.specs.CommandLine.{HasAllValues, HaveSome, IsBadLine, IsCommandLine};
 ghost use Rattle.desk_args.specs.CommandLine.{IsInvocation, IsScopeOf, Says, SaysBadly, desk};
 ghost use Rattle.desk_args.specs.Faults.{IsUsage};
 ghost use Rattle.desk_args.specs.private.Readings.{IsReading};
@@ -19,10 +19,11 @@ use crate::command::parsed;
 use crate::fault::JobFault;
 use crate::task::{Job, Places};
 use crate::values::{
-    address, args, count_if_given, moment, moment_if_given, store, text, word, word_if_given,
+    address, args, count_if_given, moment, moment_if_given, store, sync_if_given, text, word,
+    word_if_given,
 };
 use clap::ArgMatches;
-use std::alloc::{AllocError, Global};
+use std::alloc::Global;
 use sudo_decide::{Invocation, Scope};
 
 fn invocation(alloc: Global, matches: &ArgMatches<'_>) -> Result<Invocation, JobFault>
@@ -109,13 +110,17 @@ fn beyond(alloc: Global, matches: &ArgMatches<'_>) -> Result<Job, JobFault>
     Ok(Job::Beyond { a, b, scope })
 }
 
-/// The values of `ROSTER`, `BASE` and `STORE`.
-fn places(alloc: Global, matches: &ArgMatches<'_>) -> Result<Places, AllocError>
+/// The values of `ROSTER`, `BASE` and `STORE`, and of the option `--sync`.
+fn places(alloc: Global, matches: &ArgMatches<'_>) -> Result<Places, JobFault>
     requires { HaveSome line.place_args (rows_of (found_of matches.now)) }
     ensures found { IfOk result (λ p. ArePlaces (rows_of (found_of matches.now)) p) }
     ensures only { (p : Parts) → ArePlaces (rows_of (found_of matches.now)) p
-        → IfOk result (λ q. q ≡ p) }
+        → MatchResult result (λ q. q ≡ p) (λ e. e ≡ NoMemory) }
+    ensures word { IfErr result
+        (λ e. e ≡ BadWord → HasBadSync (codes "SYNC") (rows_of (found_of matches.now))) }
+    ensures usage { IfErr result (λ e. IsUsage e → ⊥) }
 {
+    let sync = sync_if_given(matches, "SYNC")?;
     let roster = text(alloc, matches, "ROSTER")?;
     let base = text(alloc, matches, "BASE")?;
     let store = store(alloc, matches, "STORE")?;
@@ -123,6 +128,7 @@ fn places(alloc: Global, matches: &ArgMatches<'_>) -> Result<Places, AllocError>
         roster,
         base,
         store,
+        sync,
     })
 }
 

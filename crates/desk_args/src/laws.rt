@@ -1,17 +1,20 @@
 //! Laws of the command line and worked command lines, each the contract of a function that does
 //! nothing.
 
-ghost use Rattle.std.specs.Prelude.{◌≡◌, ◌++◌, List, [], ◌∷◌, None, Some, codes, replicate, true};
+ghost use Rattle.std.specs.Prelude.{◌≡◌, ◌++◌, List, [], ◌∷◌, Option, None, Some, codes, replicate};
+ghost use Rattle.std.specs.Prelude.{true};
 ghost use Rattle.std.specs.List.{list_all};
 ghost use Rattle.clap.specs.Words.{Text as Word, fault_of, subcommand_of};
 ghost use Rattle.desk_args.specs.CommandLine.{IsCommandLine, HasAllValues, desk};
-ghost use Rattle.desk_args.specs.CommandLine.{SaysAddress, SaysNoAddress};
+ghost use Rattle.desk_args.specs.CommandLine.{SaysAddress, SaysNoAddress, SaysSync};
 ghost use Rattle.desk_args.specs.Operands.{SaysByPlace, is_operand};
 ghost use Rattle.desk_args.specs.declared.task.Address.{Address as Listened};
 ghost use Rattle.desk_args.specs.declared.task.Address.TheVariants.{Tcp, Unix};
 ghost use Rattle.desk_args.specs.declared.task.Job.{Job as Task};
 ghost use Rattle.desk_args.specs.declared.task.Job.TheVariants as jobs;
 ghost use Rattle.desk_args.specs.declared.task.Store.TheVariants as stores;
+ghost use Rattle.desk_args.specs.declared.task.Sync.{Sync as Often};
+ghost use Rattle.desk_args.specs.declared.task.Sync.TheVariants.{Once, Twice};
 
 /// Words that do not begin with `-` (except `-`) are positional.
 pub fn by_place()
@@ -48,7 +51,28 @@ pub fn serves_at_socket()
           roster = codes "roster.toml";
           base = codes "base.sudo";
           store = stores.File (codes "desk.db");
+          sync = Once;
         }) (Unix (codes "/run/desk/desk.sock")) None) }
+{}
+
+/// `desk deliver roster.toml base.sudo desk.db web --sync twice`
+pub fn delivers_with_two_syncs()
+    ensures { IsCommandLine (codes "desk" ∷ codes "deliver" ∷ codes "roster.toml"
+        ∷ codes "base.sudo" ∷ codes "desk.db" ∷ codes "web" ∷ codes "--sync" ∷ codes "twice" ∷ [])
+        (jobs.Deliver (record {
+          roster = codes "roster.toml";
+          base = codes "base.sudo";
+          store = stores.File (codes "desk.db");
+          sync = Twice;
+        }) (codes "web")) }
+{}
+
+/// A command says one number of syncs at most, and once where it has no option that says it.
+pub fn one_sync()
+    ensures unique { (given : Option Word) (a b : Often) → SaysSync given a → SaysSync given b
+        → a ≡ b }
+    ensures default { (sync : Often) → SaysSync None sync → sync ≡ Once }
+    ensures none { SaysSync None Once }
 {}
 
 /// A text says one address at most.

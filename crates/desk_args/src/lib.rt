@@ -16,5 +16,5 @@ pub use command_line::job;
 pub use fault::{JobFault, show};
 pub use named::{FilePaths, paths};
 pub use status::{ExitStatus, code};
-pub use task::{Address, Job, Places, Store};
+pub use task::{Address, Job, Places, Store, Sync};
 pub use text::Text;

@@ -13,6 +13,15 @@ pub enum Store {
     File(Text),
 }
 
+/// How often a commit syncs a database in a file.
+#[derive(Clone, Copy, Debug, PartialEq, Eq)]
+pub enum Sync {
+    /// Once: what was committed is kept if, after a crash, each byte is the old or the new one.
+    Once,
+    /// Twice: it is kept whatever a write that a crash broke off has left where it wrote.
+    Twice,
+}
+
 /// Where a desk listens.
 #[derive(Drop)]
 pub enum Address {
@@ -31,6 +40,8 @@ pub struct Places {
     pub base: Text,
     /// Where its messages are kept.
     pub store: Store,
+    /// How often a commit syncs them.
+    pub sync: Sync,
 }
 
 /// What the command line says to do.

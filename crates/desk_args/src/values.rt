@@ -6,18 +6,20 @@ ghost use Rattle.std.specs.List.{list_all};
 ghost use Rattle.std.specs.Str.Parse.{digits_value};
 ghost use Rattle.clap.specs.Words.{found_of, rows_of};
 ghost use Rattle.sudo_words.specs.Word.{is_arg};
-ghost use Rattle.desk_args.specs.CommandLine.{HasAddress, HasBadAddress, HasBadMoment, HasBadWord};
-ghost use Rattle.desk_args.specs.CommandLine.{HasBadWords, HasCount, HasMoment, HasMomentIfGiven};
-ghost use Rattle.desk_args.specs.CommandLine.{HasOption, HasSome, HasStore, HasValue};
-ghost use Rattle.desk_args.specs.CommandLine.{HasWord, HasWords, is_count, is_number, values};
+ghost use Rattle.desk_args.specs.CommandLine.{HasAddress, HasBadAddress, HasBadMoment, HasBadSync};
+ghost use Rattle.desk_args.specs.CommandLine.{HasBadWord, HasBadWords, HasCount, HasMoment};
+ghost use Rattle.desk_args.specs.CommandLine.{HasMomentIfGiven, HasOption, HasSome, HasStore};
+ghost use Rattle.desk_args.specs.CommandLine.{HasSync, HasValue, HasWord, HasWords, SaysSync};
+ghost use Rattle.desk_args.specs.CommandLine.{is_count, is_number, values};
 ghost use Rattle.desk_args.specs.Faults.{IsUsage};
 ghost use Rattle.desk_args.specs.declared.fault.JobFault.TheVariants.{BadWord, NoMemory};
 ghost use Rattle.desk_args.specs.declared.task.Address.{Address as Listened};
 ghost use Rattle.desk_args.specs.declared.task.Store.{Store as Place};
+ghost use Rattle.desk_args.specs.declared.task.Sync.{Sync as Often};
 
 use crate::address::read_address;
 use crate::fault::JobFault;
-use crate::task::{Address, Store};
+use crate::task::{Address, Store, Sync};
 use crate::text::Text;
 use clap::ArgMatches;
 use std::alloc::{AllocError, Global};
@@ -137,6 +139,35 @@ pub fn store(alloc: Global, matches: &ArgMatches<'_>, id: &str) -> Result<Store,
         Ok(Store::Memory)
     } else {
         Ok(Store::File(Text::copy(alloc, text)?))
+    }
+}
+
+/// How often a commit syncs, as the text says it.
+fn sync_of(text: &str) -> Option<Sync>
+    ensures found { IfSome result (SaysSync (Some text.now)) }
+    ensures only { (s : Often) → SaysSync (Some text.now) s → result ≡ Some s }
+{
+    match text {
+        "once" => Some(Sync::Once),
+        "twice" => Some(Sync::Twice),
+        _ => None,
+    }
+}
+
+/// How often a commit syncs, by the value of an option: once where it is left out.
+pub fn sync_if_given(matches: &ArgMatches<'_>, id: &str) -> Result<Sync, JobFault>
+    ensures found { IfOk result (HasSync id.now (rows_of (found_of matches.now))) }
+    ensures only { (s : Often) → HasSync id.now (rows_of (found_of matches.now)) s
+        → MatchResult result (λ r. r ≡ s) (λ e. ⊥) }
+    ensures word { IfErr result
+        (λ e. (e ≡ BadWord) × HasBadSync id.now (rows_of (found_of matches.now))) }
+{
+    match matches.get_str(id) {
+        Some(text) => match sync_of(text) {
+            Some(sync) => Ok(sync),
+            None => Err(JobFault::BadWord),
+        },
+        None => Ok(Sync::Once),
     }
 }
 

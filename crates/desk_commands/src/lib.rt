@@ -17,7 +17,7 @@ mod taking;
 mod telling;
 
 pub use desk_args::{
-    Address, ExitStatus, Job, JobFault, Places, Store, Text, code, job, paths, show,
+    Address, ExitStatus, Job, JobFault, Places, Store, Sync, Text, code, job, paths, show,
 };
 pub use opening::open_over;
 pub use refusal::Refusal;

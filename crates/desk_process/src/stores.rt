@@ -1,31 +1,26 @@
 //! Where a job's desk keeps its messages.
 
 use crate::trouble::Trouble;
-use desk_commands::{Job, Refusal, Store};
+use desk_commands::{Job, Refusal, Store, Sync};
 use desk_store::SqliteKeeper;
-use sqlite::{Connection, Error, ErrorCode};
-use sqlite_disk::Unknown;
+use sqlite::{Alter, Connection, Error, ErrorCode};
+use sqlite_disk::Start;
 use sqlite_std_file::FileFrom;
 use sqlite_store::FileStore;
 use std::fs::OpenOptions;
 use store_schema::{Shape, shape_of};
 
-/// A keeper over a database in a file.
-pub(crate) type Stored = SqliteKeeper<FileStore<FileFrom<Unknown>>>;
-
-/// A database in a file.
-type Database = Connection<FileStore<FileFrom<Unknown>>>;
-
 /// A job's database.
 #[derive(Drop)]
-pub(crate) struct Opened {
-    pub(crate) stored: Stored,
+pub(crate) struct Opened<S: Alter + Drop> {
+    pub(crate) stored: SqliteKeeper<S>,
     /// Whether it has nothing of a desk's yet.
     pub(crate) is_new: bool,
 }
 
-/// The path of the database that the job's desk is kept in, if it is kept in one.
-pub(crate) fn path_of(job: &Job) -> Option<&str> {
+/// The path of the database that the job's desk is kept in, if it is kept in one, and how often a
+/// commit syncs it.
+pub(crate) fn place_of(job: &Job) -> Option<(&str, Sync)> {
     match job {
         Job::Check { .. } | Job::Decide { .. } | Job::Beyond { .. } => None,
         Job::Deliver { places, .. }
@@ -33,7 +28,7 @@ pub(crate) fn path_of(job: &Job) -> Option<&str> {
         | Job::Review { places, .. }
         | Job::Rebuild { places }
         | Job::Serve { places, .. } => match &places.store {
-            Store::File(path) => Some(path.as_str()),
+            Store::File(path) => Some((path.as_str(), places.sync)),
             Store::Memory => None,
         },
     }
@@ -61,18 +56,24 @@ fn refused(rt: &HostRuntime, path: &str, error: Error) -> Trouble {
 }
 
 /// Whether a database has nothing of a desk's.
-fn is_vacant(conn: &Database) -> bool {
+fn is_vacant<S: Alter>(conn: &Connection<S>) -> bool {
     matches!(shape_of(conn.schema()), Shape::Free)
 }
 
 /// A keeper over the database of this path, for a desk that will be asked or for one that only
-/// takes messages. Where its files open and the disk then refuses them a read or a write, as a full
-/// disk does, the refusal is that the storage failed.
-fn opened_at(rt: &HostRuntime, path: &str, asks: bool) -> Result<Opened, Trouble> {
-    match Connection::open_from(rt, path, false, Unknown) {
+/// takes messages. How a crash is read is the start's: one that supposes less syncs twice a commit.
+/// Where its files open and the disk then refuses them a read or a write, as a full disk does, the
+/// refusal is that the storage failed.
+pub(crate) fn open_store<S: Start>(
+    rt: &HostRuntime,
+    job: &Job,
+    path: &str,
+    start: S,
+) -> Result<Opened<FileStore<FileFrom<S>>>, Trouble> {
+    match Connection::open_from(rt, path, false, start) {
         Ok(conn) => {
             let is_new = is_vacant(&conn);
-            let stored = if asks {
+            let stored = if asks(job) {
                 SqliteKeeper::that_gathers(rt.alloc(), conn)
             } else {
                 SqliteKeeper::new(rt.alloc(), conn)
@@ -89,27 +90,24 @@ fn opened_at(rt: &HostRuntime, path: &str, asks: bool) -> Result<Opened, Trouble
     }
 }
 
-/// The database that the job's desk is kept in, if it is kept in one.
-pub(crate) fn open_store(rt: &HostRuntime, job: &Job) -> Result<Option<Opened>, Trouble> {
-    match path_of(job) {
-        Some(path) => Ok(Some(opened_at(rt, path, asks(job))?)),
-        None => Ok(None),
-    }
-}
-
 /// Says that a store was made.
 pub(crate) fn tell_new(rt: &HostRuntime, path: &str) {
     let _ = eprintln!(rt; "new store: {path}");
 }
 
-/// Ends with a job's database. Where it was new, and the job made a desk of it, that is said; of a
-/// desk that was served it was said before.
-pub(crate) fn close(rt: &HostRuntime, job: &Job, opened: Opened, is_done: bool) {
+/// Ends with a job's database at this path. Where it was new, and the job made a desk of it, that
+/// is said; of a desk that was served it was said before.
+pub(crate) fn close<S: Start>(
+    rt: &HostRuntime,
+    job: &Job,
+    path: &str,
+    opened: Opened<FileStore<FileFrom<S>>>,
+    is_done: bool,
+) {
     let conn = opened.stored.into_connection();
-    match (job, path_of(job)) {
-        (Job::Serve { .. }, _) => {}
-        (_, Some(path)) if opened.is_new && !is_vacant(&conn) => tell_new(rt, path),
-        _ => {}
+    let is_served = matches!(job, Job::Serve { .. });
+    if opened.is_new && !is_served && !is_vacant(&conn) {
+        tell_new(rt, path);
     }
     // What is in the log goes into the file, so that the file alone is the store. If that fails,
     // the log keeps it.

@@ -4,12 +4,13 @@ use crate::bounded::{Lines, Watched};
 use crate::changing::tell_changes;
 use crate::files::files;
 use crate::serving::serve;
-use crate::stores::{Opened, close, open_store, path_of};
+use crate::stores::{Opened, close, open_store, place_of};
 use crate::trouble::{Trouble, tell_failed};
 use desk::{Keeper, MemoryKeeper};
-use desk_commands::{ExitStatus, Job, Refusal, finish, run};
+use desk_commands::{ExitStatus, Job, Refusal, Sync, finish, run};
 use desk_store::SqliteKeeper;
 use sqlite::Alter;
+use sqlite_disk::{Start, Unknown, Wary};
 use std::io::{BufReader, BufWriter};
 
 /// Does a job other than `serve` over the process's streams and what the keeper keeps, and hands
@@ -71,18 +72,32 @@ fn work_stored<S: Alter + Drop>(
     work_over(rt, job, files, stored, new)
 }
 
-/// Does the job, or says why not: its files are read before its database is opened.
+/// Does the job over the database of this path, or says why not.
+fn done_at<S: Start>(
+    rt: &HostRuntime,
+    job: &Job,
+    files: &mut [Vec<u8>],
+    path: &str,
+    start: S,
+) -> Result<ExitStatus, Trouble> {
+    let Opened { stored, is_new } = open_store(rt, job, path, start)?;
+    let new = Some(path).filter(|_| is_new);
+    let (status, stored) = work_stored(rt, job, files, stored, new);
+    let is_done = matches!(status, Ok(ExitStatus::Done | ExitStatus::LinesRefused));
+    close(rt, job, path, Opened { stored, is_new }, is_done);
+    status
+}
+
+/// Does the job, or says why not: its files are read before its database is opened. A commit syncs
+/// twice for a start that supposes nothing of what a torn write leaves, and else once.
 fn done(rt: &HostRuntime, job: &Job) -> Result<ExitStatus, Trouble> {
     let mut files = files(rt, job)?;
-    let Some(Opened { stored, is_new }) = open_store(rt, job)? else {
-        let memory = MemoryKeeper::new(rt.alloc());
-        return work_over(rt, job, files.as_mut_slice(), memory, None).0;
-    };
-    let new = path_of(job).filter(|_| is_new);
-    let (status, stored) = work_stored(rt, job, files.as_mut_slice(), stored, new);
-    let is_done = matches!(status, Ok(ExitStatus::Done | ExitStatus::LinesRefused));
-    close(rt, job, Opened { stored, is_new }, is_done);
-    status
+    let files = files.as_mut_slice();
+    match place_of(job) {
+        Some((path, Sync::Once)) => done_at(rt, job, files, path, Unknown),
+        Some((path, Sync::Twice)) => done_at(rt, job, files, path, Wary),
+        None => work_over(rt, job, files, MemoryKeeper::new(rt.alloc()), None).0,
+    }
 }
 
 /// Does the job. Its files are read before its database is opened; without one it has a keeper in

@@ -1,7 +1,7 @@
 //! Files that are missing, and inputs and outputs that fail in the middle or at their end.
 
 use desk::MemoryKeeper;
-use desk_commands::{Job, Places, Store, Text, code, finish, run};
+use desk_commands::{Job, Places, Store, Sync, Text, code, finish, run};
 use std::alloc::Global;
 use std::io::{BufWriter, Read, Write};
 use std::test::Fail;
@@ -122,6 +122,7 @@ fn places(alloc: Global) -> Result<Places, Fail> {
         roster: Text::copy(alloc, "roster.toml")?,
         base: Text::copy(alloc, "base.sudo")?,
         store: Store::Memory,
+        sync: Sync::Once,
     })
 }
 

@@ -1,4 +1,4 @@
-use Rattle.std.proofs.Common.{refl}
+use Rattle.std.proofs.Common.{inl, refl}
 use Rattle.clap.proofs.OnLiterals.{clap_on_literals}
 use Rattle.desk_args.proofs.laws.serves_at_socket.Goals as goal
 
@@ -8,7 +8,7 @@ returns c = record {
   faultless = refl;
   says = (
     refl,
-    record { roster = refl; base = refl; store = (_, refl, (refl, λ same. cc)) },
+    record { roster = refl; base = refl; store = (_, refl, (refl, λ same. cc)); sync = inl refl },
     (_, refl, (refl, refl)),
     refl,
   );

@@ -1,0 +1,10 @@
+use Rattle.std.proofs.Common.{refl}
+use Rattle.clap.proofs.OnLiterals.{clap_on_literals}
+use Rattle.desk_args.proofs.laws.delivers_with_two_syncs.Goals as goal
+
+pub returns : goal.returns
+unfolding clap_on_literals
+returns c = record {
+  faultless = refl;
+  says = (refl, record { roster = refl; base = refl; store = (_, refl, (refl, λ same. cc)); sync = refl }, refl);
+}
