@@ -5,12 +5,11 @@ use crate::log::Answered;
 use crate::socket::Stream;
 use desk::{Desk, Keeper};
 use mio::{Registry, Token};
-use relay_http::{
-    Action, Counted, Exchange, ExchangeBuffer, Outgoing, ReceiveFault, Routes, ServeFault,
-};
+use relay_http::{Counted, Exchange, ExchangeBuffer, Outgoing, ReceiveFault, Routes, ServeFault};
 use std::alloc::Global;
 use std::io::{self, ErrorKind, Read};
 use std::mem;
+use sudo_words::NoMemory;
 
 /// The milliseconds in which a request has to come whole.
 const TO_RECEIVE: u64 = 10_000;
@@ -33,6 +32,27 @@ const MOST_REQUEST_READS: usize = 24_576;
 /// The bytes that a peer is taken to have sent when it connects, so that one that has just come is
 /// not taken for a slow one.
 const HEAD_START: u64 = 512;
+
+/// So many zeros.
+const ZEROS: [u8; MOST_LAST] = [0; MOST_LAST];
+
+/// What one connection uses after another. What is in it before is never looked at.
+#[derive(Drop)]
+pub(crate) struct Buffers {
+    /// Where the bytes of a read come in and a short response is put together.
+    exchange: ExchangeBuffer,
+    /// Where what a peer still sends comes in.
+    last: Vec<u8>,
+}
+
+impl Buffers {
+    pub(crate) fn new(alloc: Global) -> Result<Buffers, NoMemory> {
+        Ok(Buffers {
+            exchange: ExchangeBuffer::new(alloc)?,
+            last: Vec::from_slice(alloc, &ZEROS)?,
+        })
+    }
+}
 
 /// How a connection goes on.
 pub(crate) enum Next {
@@ -73,17 +93,18 @@ pub(crate) struct Connection {
     stage: Stage,
 }
 
-/// Reads what has come of a request.
-fn take_request(
-    stream: &Stream,
+/// Reads what has come of a request. The reader is of one kind of socket, which is not asked for
+/// again at each read.
+fn take_request<R: Read + Drop>(
+    reader: R,
     routes: &Routes,
     buffer: &mut ExchangeBuffer,
     exchange: &mut Exchange,
 ) -> Next {
-    let mut reader = Counted::new(stream);
-    for _ in 0..=MOST_REQUEST_READS {
+    let mut reader = Counted::new(reader);
+    for _ in 0..MOST_REQUEST_READS {
         if exchange.is_settled() {
-            return Next::IsWhole;
+            break;
         }
         match exchange.read_on(routes, &mut reader, buffer) {
             Ok(0) => return Next::IsWhole,
@@ -156,12 +177,10 @@ impl Connection {
         matches!(&self.stage, Stage::Received(_))
     }
 
-    /// Whether its request delivers a message.
-    pub(crate) fn is_delivery(&self, routes: &Routes) -> bool {
+    /// Whether its request is a POST, as each that delivers a message is.
+    pub(crate) fn is_post(&self) -> bool {
         match &self.stage {
-            Stage::Received(exchange) => {
-                matches!(exchange.request(routes).action, Action::Deliver { .. })
-            }
+            Stage::Received(exchange) => exchange.is_post(),
             _ => false,
         }
     }
@@ -192,23 +211,29 @@ impl Connection {
     }
 
     /// Goes on as far as its peer lets it, up to a whole request.
-    pub(crate) fn go_on(&mut self, routes: &Routes, buffer: &mut ExchangeBuffer, now: u64) -> Next {
+    pub(crate) fn go_on(&mut self, routes: &Routes, buffers: &mut Buffers, now: u64) -> Next {
         match &mut self.stage {
-            Stage::Receiving(exchange) => match take_request(
-                &self.stream,
-                routes,
-                buffer,
-                exchange,
-            ) {
-                Next::IsWhole => self.wait_for_turn(),
-                next => next,
-            },
+            Stage::Receiving(exchange) => {
+                let buffer = &mut buffers.exchange;
+                let next = match &self.stream {
+                    Stream::Tcp(stream) => take_request(stream, routes, buffer, exchange),
+                    Stream::Unix(stream) => take_request(stream, routes, buffer, exchange),
+                };
+                match next {
+                    Next::IsWhole => self.wait_for_turn(),
+                    next => next,
+                }
+            }
             Stage::Received(_) => Next::IsWhole,
-            Stage::Responding(response) => match send_rest(&self.stream, buffer, response) {
-                Next::Ends => self.close(now),
+            Stage::Responding(response) => match send_rest(
+                &self.stream,
+                &mut buffers.exchange,
+                response,
+            ) {
+                Next::Ends => self.close(&mut buffers.last, now),
                 next => next,
             },
-            Stage::Closing { .. } => self.read_last(now),
+            Stage::Closing { .. } => self.read_last(&mut buffers.last, now),
         }
     }
 
@@ -224,21 +249,20 @@ impl Connection {
     }
 
     /// Ends the response.
-    fn close(&mut self, now: u64) -> Next {
+    fn close(&mut self, chunk: &mut [u8], now: u64) -> Next {
         if self.stream.end().is_err() {
             return Next::Ends;
         }
         self.stage = Stage::Closing { reads: 0 };
-        self.read_last(now)
+        self.read_last(chunk, now)
     }
 
-    fn read_last(&mut self, now: u64) -> Next {
+    fn read_last(&mut self, chunk: &mut [u8], now: u64) -> Next {
         let Stage::Closing { reads } = &mut self.stage else {
             return Next::Waits;
         };
         self.due = now.saturating_add(TO_CLOSE);
-        let mut chunk = [0; MOST_LAST];
-        read_last(&self.stream, &mut chunk, reads)
+        read_last(&self.stream, chunk, reads)
     }
 
     /// Has the desk answer the request. It also returns what the log says about a 503.

@@ -1,12 +1,12 @@
 //! The connections of a service, and whose turn it is.
 
-use crate::connection::{Connection, Next};
+use crate::connection::{Buffers, Connection, Next};
 use crate::log::Log;
 use crate::socket::{Listener, Stream};
 use desk::{Desk, Keeper, Refusal};
 use mio::event::Events;
 use mio::{Poll, Token};
-use relay_http::{ExchangeBuffer, Routes, ServeFault};
+use relay_http::{Routes, ServeFault};
 use std::alloc::{AllocFailed, Global};
 use std::collections::VecDeque;
 use std::io::{self, ErrorKind};
@@ -35,7 +35,7 @@ const LISTENER: Token = Token(MOST_CONNECTIONS);
 /// came.
 #[derive(Drop)]
 struct RequestQueues {
-    deliveries: VecDeque<usize>,
+    posts: VecDeque<usize>,
     questions: VecDeque<usize>,
 }
 
@@ -67,9 +67,7 @@ pub(crate) struct Service {
     poll: Poll,
     listener: Listener,
     routes: Routes,
-    /// Where the bytes of a read come in and a short response is put together, one connection's
-    /// after another's.
-    buffer: ExchangeBuffer,
+    buffers: Buffers,
     places: Vec<Option<Connection>>,
     queues: RequestQueues,
     /// How many connections are open.
@@ -100,25 +98,25 @@ impl RequestQueues {
     /// No request waits yet.
     fn new(alloc: Global) -> RequestQueues {
         RequestQueues {
-            deliveries: VecDeque::new(alloc),
+            posts: VecDeque::new(alloc),
             questions: VecDeque::new(alloc),
         }
     }
 
     /// How many wait for their turn.
     fn len(&self) -> usize {
-        self.deliveries.len().saturating_add(self.questions.len())
+        self.posts.len().saturating_add(self.questions.len())
     }
 
     /// Whether none waits for its turn.
     fn is_empty(&self) -> bool {
-        self.deliveries.is_empty() && self.questions.is_empty()
+        self.posts.is_empty() && self.questions.is_empty()
     }
 
     /// Has a connection wait behind the others of its kind.
-    fn push(&mut self, at: usize, is_delivery: bool) -> Result<(), AllocFailed<usize>> {
-        if is_delivery {
-            self.deliveries.push_back(at)
+    fn push(&mut self, at: usize, is_post: bool) -> Result<(), AllocFailed<usize>> {
+        if is_post {
+            self.posts.push_back(at)
         } else {
             self.questions.push_back(at)
         }
@@ -134,15 +132,14 @@ impl Service {
     ) -> io::Result<Service> {
         let poll = Poll::new(rt)?;
         listener.watch(poll.registry(), LISTENER)?;
-        let (Ok(routes), Ok(buffer)) = (Routes::new(rt.alloc()), ExchangeBuffer::new(rt.alloc()))
-        else {
+        let (Ok(routes), Ok(buffers)) = (Routes::new(rt.alloc()), Buffers::new(rt.alloc())) else {
             return Err(io::Error::from(ErrorKind::OutOfMemory));
         };
         Ok(Service {
             poll,
             listener,
             routes,
-            buffer,
+            buffers,
             places: Vec::new(rt.alloc()),
             queues: RequestQueues::new(rt.alloc()),
             open: 0,
@@ -198,8 +195,7 @@ impl Service {
                 Err(_) => self.end(rt, log, connection.fault()),
             },
             Next::IsWhole => {
-                let is_delivery = connection.is_delivery(&self.routes);
-                match self.queues.push(at, is_delivery) {
+                match self.queues.push(at, connection.is_post()) {
                     Ok(()) => self.put(at, connection),
                     Err(_) => self.end(rt, log, Some(ServeFault::NoMemory)),
                 }
@@ -211,18 +207,16 @@ impl Service {
 
     /// Goes on with the connection at a place as far as its peer lets it. Once its request is
     /// whole, it waits for its turn.
-    fn go_on(&mut self, rt: &HostRuntime, log: &mut Log, at: usize) -> io::Result<()> {
-        let now = self.now(rt)?;
+    fn go_on(&mut self, rt: &HostRuntime, log: &mut Log, at: usize, now: u64) {
         let Some(mut connection) = self.take(at) else {
-            return Ok(());
+            return;
         };
         if connection.is_received() {
             self.put(at, connection);
-            return Ok(());
+            return;
         }
-        let next = connection.go_on(&self.routes, &mut self.buffer, now);
+        let next = connection.go_on(&self.routes, &mut self.buffers, now);
         self.settle(rt, log, at, connection, next);
-        Ok(())
     }
 
     /// Has the desk answer the request of the connection at a place, and begins to send the
@@ -248,7 +242,7 @@ impl Service {
             }
         }
         connection.begin_response(now);
-        let next = connection.go_on(&self.routes, &mut self.buffer, now);
+        let next = connection.go_on(&self.routes, &mut self.buffers, now);
         self.settle(rt, log, at, connection, next);
         Ok(())
     }
@@ -290,8 +284,8 @@ impl Service {
         Ok(())
     }
 
-    /// Has the desk answer all deliveries that are whole, and then questions for a moment: so a
-    /// delivery that comes next waits for few of them, however many there are.
+    /// Has the desk answer all POSTs that are whole, and then questions for a moment: so a delivery
+    /// that comes next waits for few of them, however many there are.
     fn answer_some<K: Keeper>(
         &mut self,
         rt: &HostRuntime,
@@ -299,7 +293,7 @@ impl Service {
         log: &mut Log,
     ) -> io::Result<()> {
         for _ in 0..MOST_CONNECTIONS {
-            match self.queues.deliveries.pop_front() {
+            match self.queues.posts.pop_front() {
                 Some(at) => self.answer(rt, desk, log, at)?,
                 None => break,
             }
@@ -358,34 +352,32 @@ impl Service {
     }
 
     /// Lets the slowest connection go, if there is one that may be.
-    fn let_slowest_go(&mut self, rt: &HostRuntime, log: &mut Log) -> io::Result<bool> {
-        let now = self.now(rt)?;
+    fn let_slowest_go(&mut self, rt: &HostRuntime, log: &mut Log, now: u64) -> bool {
         let Some(at) = self.slowest(now) else {
-            return Ok(false);
+            return false;
         };
         self.let_go(rt, log, at);
-        Ok(true)
+        true
     }
 
     /// Takes up a connection that was just accepted. Where there is no place for it, the slowest is
     /// let go.
-    fn admit(&mut self, rt: &HostRuntime, log: &mut Log, stream: Stream) -> io::Result<()> {
+    fn admit(&mut self, rt: &HostRuntime, log: &mut Log, stream: Stream, now: u64) {
         self.left = self.left.saturating_sub(1);
         let place = match self.free_place() {
             Some(at) => Some(at),
             None => {
-                self.let_slowest_go(rt, log)?;
+                self.let_slowest_go(rt, log, now);
                 self.free_place()
             }
         };
         let Some(at) = place else {
             log.say(rt, &ServeFault::NoMemory);
-            return Ok(());
+            return;
         };
-        let now = self.now(rt)?;
         self.put(at, Connection::new(rt.alloc(), stream, now));
         self.open = self.open.saturating_add(1);
-        self.go_on(rt, log, at)
+        self.go_on(rt, log, at, now);
     }
 
     /// Whether no connection is accepted any more.
@@ -395,7 +387,7 @@ impl Service {
 
     /// Accepts what has connected. While no connection may be let go for another, none is accepted
     /// past the most. A connection that cannot be accepted is an error where no other is open.
-    fn accept(&mut self, rt: &HostRuntime, log: &mut Log) -> io::Result<()> {
+    fn accept(&mut self, rt: &HostRuntime, log: &mut Log, now: u64) -> io::Result<()> {
         self.more_wait = false;
         for _ in 0..MOST_AT_ONCE {
             if self.is_closed() {
@@ -405,11 +397,11 @@ impl Service {
                 break;
             }
             match self.listener.accept() {
-                Ok(stream) => self.admit(rt, log, stream)?,
+                Ok(stream) => self.admit(rt, log, stream, now),
                 Err(error) => match error.kind() {
                     ErrorKind::WouldBlock => return Ok(()),
                     ErrorKind::ConnectionAborted | ErrorKind::Interrupted => {}
-                    _ if self.let_slowest_go(rt, log)? => {}
+                    _ if self.let_slowest_go(rt, log, now) => {}
                     _ if self.open > 0 => break,
                     _ => return Err(error),
                 },
@@ -420,8 +412,7 @@ impl Service {
     }
 
     /// Lets go each connection that is due.
-    fn let_due_go(&mut self, rt: &HostRuntime, log: &mut Log) -> io::Result<()> {
-        let now = self.now(rt)?;
+    fn let_due_go(&mut self, rt: &HostRuntime, log: &mut Log, now: u64) {
         for at in 0..self.places.len() {
             let is_due = match self.places.get(at) {
                 Some(Some(connection)) => connection.due <= now,
@@ -431,7 +422,6 @@ impl Service {
                 self.let_go(rt, log, at);
             }
         }
-        Ok(())
     }
 
     /// When the service goes on by itself on account of the desk's storage.
@@ -446,9 +436,9 @@ impl Service {
     /// How long to wait for an event: until a connection is due or the desk is to be asked, without
     /// end where nothing is, and not at all where a request waits for its turn or more may wait to
     /// be accepted.
-    fn patience(&self, rt: &HostRuntime) -> io::Result<Option<Duration>> {
+    fn patience(&self, now: u64) -> Option<Duration> {
         if self.more_wait || !self.queues.is_empty() {
-            return Ok(Some(Duration::ZERO));
+            return Some(Duration::ZERO);
         }
         let mut first = self.storage_due();
         for at in 0..self.places.len() {
@@ -456,35 +446,38 @@ impl Service {
                 first = Some(first.unwrap_or(u64::MAX).min(connection.due));
             }
         }
-        let now = self.now(rt)?;
-        Ok(first.map(|due| Duration::from_millis(due.saturating_sub(now).saturating_add(1))))
+        first.map(|due| Duration::from_millis(due.saturating_sub(now).saturating_add(1)))
     }
 
     /// Waits until a peer is ready or a connection is due, reads what has come on all connections,
-    /// and only then takes up new ones and answers; and asks a desk whose storage failed.
+    /// and only then takes up new ones and answers; and asks a desk whose storage failed. The clock
+    /// is read once for all that has come.
     fn turn<K: Keeper>(
         &mut self,
         rt: &HostRuntime,
         desk: &mut Desk<K>,
         log: &mut Log,
         events: &mut Events,
+        now: u64,
     ) -> io::Result<()> {
-        let patience = self.patience(rt)?;
+        let patience = self.patience(now);
         self.poll.poll(events, patience)?;
+        let now = self.now(rt)?;
         let mut comes = self.more_wait;
         for event in events.iter() {
             if event.token() == LISTENER {
                 comes = true;
             } else {
-                self.go_on(rt, log, event.token().0)?;
+                self.go_on(rt, log, event.token().0, now);
             }
         }
         if comes {
-            self.accept(rt, log)?;
+            self.accept(rt, log, now)?;
         }
         self.answer_some(rt, desk, log)?;
         self.ask_desk(rt, desk)?;
-        self.let_due_go(rt, log)
+        self.let_due_go(rt, log, now);
+        Ok(())
     }
 
     /// How the service has ended, if it has.
@@ -510,7 +503,7 @@ impl Service {
             if let Some(end) = self.end_by(now) {
                 return Ok(end);
             }
-            self.turn(rt, desk, log, events)?;
+            self.turn(rt, desk, log, events, now)?;
         }
         Ok(End::Served)
     }

@@ -10,7 +10,7 @@ use Rattle.std.specs.Str.Parse.{digits_value}
 use Rattle.httparse.specs.Grammar.{RequestHead, ReadsRequest, MayBecomeRequest, HasNoRequest, print_request}
 use Rattle.httparse.specs.Spans.{IsWithin, name_and_value, span_bytes}
 use Rattle.httparse.specs.declared.spans.Span.{Span}
-use Rattle.httparse.proofs.GrammarLemmas.{ReadsRequest-append}
+use Rattle.httparse.proofs.GrammarLemmas.{ReadsRequest-append, request_unique}
 use Rattle.matchit.specs.Router.{RouteOf}
 use Rattle.matchit.specs.Seek.{first}
 use Rattle.relay_http.specs.Request.{Action, Request, deliver, all_messages, count, grants, parked, host_file, host_file_after, report, refused}
@@ -37,7 +37,7 @@ use Rattle.relay_http.specs.declared.route.Route.TheVariants.{Messages, AllMessa
 use Rattle.relay_http.specs.declared.route.Route.TheVariants.{Requests, RequestsAfter, NamedRequest}
 use Rattle.relay_http.proofs.ScanLemmas.{ended_behind, ended_is_head, scanned-append}
 use Rattle.relay_http.proofs.SettleLemmas.{has_more, head_fits, headless_more, whole_more}
-use Rattle.relay_http.proofs.RequestLemmas.{one_request, take_rest}
+use Rattle.relay_http.proofs.RequestLemmas.{one_request, some_request, take_rest}
 
 -- ---- content by its length
 
@@ -272,6 +272,27 @@ short_size bytes h request dates short =
     let posts = action_short h.method h.target h.minor (map name_and_value h.fields) (drop (length (print_request h)) bytes) here in
     (posts.1, posts.3)
 
+-- where no content can be missing, the bytes are one request, whatever follows
+whole_by : (bytes : List ℕ) (head : Head) (h : RequestHead) (request : Request ℕ) → IsHeadAt bytes head h
+    → ((n : ℕ) → head.size ≡ Ok n → n ≤ 16384 → n ≤ length bytes - head.len) → DatesRequest (request_from h bytes) request
+    → (b : Bool) → is_short request ≡ b → is_short request ≡ false
+whole_by bytes head h request at whole dates false e = e
+whole_by bytes head h request at whole dates true short =
+    let fields = map name_and_value h.fields in
+    let rest = drop (length (print_request h)) bytes in
+    let here : (request_from h bytes).action ≡ refused ShortBody =
+    dated_short (request_from h bytes).action (subst (λ (a : Action ℕ). Dates (request_from h bytes).action a) (lacks_is request.action short) dates.1) in
+    let posts : Posts (λ other. action_by h.method h.target h.minor fields other) fields rest =
+    action_short h.method h.target h.minor fields rest here in
+    let there : posts.1 ≤ length bytes - head.len = whole posts.1 (at.size ∙ posts.3) posts.4 in
+    absurd (omega (arith, posts.2, there, at.len, length-drop (length (print_request h)) bytes))
+
+pub settled_whole : (bytes : List ℕ) (head : Head) → IsFound bytes head
+    → ((n : ℕ) → head.size ≡ Ok n → n ≤ 16384 → n ≤ length bytes - head.len) → IsSettled bytes
+settled_whole bytes head x whole =
+    let r = some_request (request_from x.0 bytes) in
+    settled_by bytes r.0 (x.0, x.1.has, r.1) (whole_by bytes head x.0 r.0 x.1 whole r.1 (is_short r.0) refl)
+
 pub lacks_by : (bytes : List ℕ) (h : RequestHead) (request : Request ℕ) (n : ℕ) → HasHead bytes h → DatesRequest (request_from h bytes) request
     → is_short request ≡ true → size_of (map name_and_value h.fields) ≡ Ok n → LacksContent bytes (n - (length bytes - length (print_request h)))
 lacks_by bytes h request n has dates short sized_n =
@@ -351,6 +372,15 @@ pub scan_on : (line next : Line) (bytes : List ℕ) (from : ℕ) → line ≡ sc
 scan_on line next bytes from before here =
     here ∙ ap (λ (l : List ℕ). scanned line l) (take_rest bytes from) ∙ ap (λ (l : Line). scanned l (drop from bytes)) before
     ∙ sym (scanned-append Blank (take from bytes) (drop from bytes)) ∙ ap (λ (l : List ℕ). scanned Blank l) (take-append-drop from bytes)
+
+pub never_has : (bytes : List ℕ) → NeverHasHead bytes → HasNoHead bytes
+never_has bytes never = subst HasNoHead (append-nil bytes) (never [])
+
+-- the method of the head that was found is that of the head
+pub method_found : (bytes : List ℕ) (head : Head) (h : RequestHead) → IsFound bytes head → HasHead bytes h → span_bytes bytes head.method ≡ h.method
+method_found bytes head h x has =
+    let one : x.0 ≡ h = (request_unique (front bytes) x.0 h x.1.has.0.0 has.0.0 x.1.has.0.1 has.0.1).0 in
+    x.1.method ∙ ap (λ (k : RequestHead). k.method) one
 
 -- ---- the stages after more bytes
 

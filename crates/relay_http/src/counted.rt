@@ -56,11 +56,13 @@ impl<R: Read> Read for Counted<R> {
             (R.remaining self.new.inner) result buf.new }
         ensures counted { self.new.failures ≡ after_read result self.old.failures }
     {
-        let result = self.inner.read(buf);
-        if result.is_err() {
-            self.count_failure();
+        match self.inner.read(buf) {
+            Ok(count) => Ok(count),
+            Err(error) => {
+                self.count_failure();
+                Err(error)
+            }
         }
-        result
     }
 }
 

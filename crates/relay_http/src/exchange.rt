@@ -1,24 +1,34 @@
 //! A request that comes in pieces.
 
-ghost use Rattle.std.specs.Prelude.{◌≡◌, ◌≤◌, ◌<◌, ◌+◌, ◌++◌, [], IfOk, OnErr};
-ghost use Rattle.std.specs.Prelude.{◌==◌, Err, false, length, take, true};
+ghost use Rattle.std.specs.Prelude.{◌≡◌, ◌≢◌, ◌≤◌, ◌<◌, ◌+◌, ◌-◌, ◌++◌, ℕ, [], IfOk, OnErr};
+ghost use Rattle.std.specs.Prelude.{◌==◌, Err, IfSome, None, Ok, OnOk, false, length, take, true};
+ghost use Rattle.std.specs.Prelude.{vec_capacity};
 ghost use Rattle.std.specs.Io.KnownBytes.{IsAtEnd};
+ghost use Rattle.httparse.specs.Grammar.{RequestHead};
+ghost use Rattle.relay_http.specs.Content.{most_content};
 ghost use Rattle.relay_http.specs.Request.{request_of};
-ghost use Rattle.relay_http.specs.Needs.{HasRead, IsNeed, IsSettled, after_reading};
+ghost use Rattle.relay_http.specs.Needs.{HasNoHead, HasRead, IsNeed, IsSettled, after_reading};
 ghost use Rattle.relay_http.specs.Needs.{most_read, most_room};
 ghost use Rattle.relay_http.specs.declared.exchange.ReceiveFault.TheVariants as fault;
 ghost use Rattle.relay_http.specs.Scan.{scanned};
+ghost use Rattle.relay_http.specs.declared.exchange.Stage.TheVariants as stages;
+ghost use Rattle.relay_http.specs.declared.head.Head.{Head};
 ghost use Rattle.relay_http.specs.Stages.{IsFound, IsStage};
-ghost use Rattle.relay_http.specs.RequestBytes.{IsHttpRequest};
-ghost use Rattle.relay_http.specs.declared.line.Line.TheVariants.{Blank};
+ghost use Rattle.relay_http.specs.RequestBytes.{HasHead, IsHttpRequest, allow, most_head_bytes};
+ghost use Rattle.relay_http.specs.declared.line.Line.TheVariants.{Blank, Ended};
+ghost use Rattle.relay_http.specs.declared.route.Methods.TheVariants.{Post};
 
 use crate::action::HttpRequest;
 use crate::counted::Counted;
+use crate::fault::RequestFault;
 use crate::head::{Head, Looked, MOST_HEAD_BYTES, look};
 use crate::line::{Line, scan};
+use crate::methods::allow;
 use crate::outgoing::ExchangeBuffer;
 use crate::request::{NO_HEAD, is_cut_short, request_from};
+use crate::route::Methods;
 use crate::routes::Routes;
+use messages::MOST_BYTES;
 use std::alloc::Global;
 use std::io::{ErrorKind, Read};
 use std::marker::Model;
@@ -80,23 +90,54 @@ impl Model for Exchange {
     ghost invariant = { λ e. IsStage e.come.items e.stage };
 }
 
-/// How far a request has come whose head was found.
+/// Puts bytes behind those that have come. A single one that has room is not copied as a slice is.
+fn put(come: &mut Vec<u8>, bytes: &[u8]) -> Result<(), NoMemory>
+    ensures items { OnOk result (come.new.items ≡ come.old.items ++ bytes.now) }
+    ensures kept { OnErr result (come.new.items ≡ come.old.items) }
+    ensures room { vec_capacity come.old ≤ vec_capacity come.new }
+    ensures full { OnErr result (vec_capacity come.old < length come.old.items + length bytes.now) }
+{
+    match bytes {
+        [byte] if come.len() < come.capacity() => come.push_reserved(*byte),
+        _ => come.extend_from_slice(bytes)?,
+    }
+    Ok(())
+}
+
+/// How many bytes of a content of this size are missing where so many have come. None are of one
+/// that no head may ask for.
+fn lacking(size: Result<u64, RequestFault>, come: usize) -> Option<usize>
+    ensures some { IfSome result (λ missing. (n : ℕ) × (size ≡ Ok n) × (missing ≡ n - come)) }
+    ensures none { result ≡ None → (n : ℕ) → size ≡ Ok n → n ≤ most_content → n ≤ come }
+{
+    match size {
+        Ok(n) if n <= MOST_BYTES as u64 && n > come as u64 => Some(n as usize - come),
+        _ => None,
+    }
+}
+
+/// How far a request has come whose head was found. Where no content can be missing, the target's
+/// route is not looked up for it.
 fn found(routes: &Routes, head: Head, bytes: &[u8]) -> Stage
     requires { IsFound bytes.now head }
     ensures { IsStage bytes.now result }
 {
-    if !is_cut_short(routes, &head, bytes) {
-        return Stage::Found(head);
-    }
-    match head.size {
-        Ok(n) => Stage::Lacks(head, (n as usize).saturating_sub(bytes.len() - head.len)),
-        Err(_) => Stage::Found(head),
+    match lacking(head.size, bytes.len() - head.len) {
+        Some(n) => {
+            if is_cut_short(routes, &head, bytes) {
+                Stage::Lacks(head, n)
+            } else {
+                Stage::Found(head)
+            }
+        }
+        None => Stage::Found(head),
     }
 }
 
-/// How far these bytes have come, where the scan has come so far.
-fn looked(routes: &Routes, line: Line, bytes: &[u8]) -> Stage
-    requires { line ≡ scanned Blank bytes.now }
+/// How far these bytes have come, where the scan has come so far before those from this place on.
+fn looked(routes: &Routes, line: Line, bytes: &[u8], from: usize) -> Stage
+    requires from { from ≤ length bytes.now }
+    requires line { line ≡ scanned Blank (take from bytes.now) }
     ensures { IsStage bytes.now result }
 {
     match look(bytes) {
@@ -105,43 +146,83 @@ fn looked(routes: &Routes, line: Line, bytes: &[u8]) -> Stage
             if bytes.len() >= MOST_HEAD_BYTES {
                 return Stage::Broken;
             }
-            Stage::Begins(line)
+            Stage::Begins(scan(line, &bytes[from..]))
         }
         Looked::Never => Stage::Broken,
     }
 }
 
-/// How far the bytes have come after more of them came, from this place on. They are looked at
-/// again once the request line is there, once the head is, and once no more bytes can be a head.
-fn scanned_on(routes: &Routes, line: Line, bytes: &[u8], from: usize) -> Stage
+/// How far the scan comes with the bytes from this place on, if they are not worth a look. They are
+/// where they are the first, once the request line is there, once the head is, and once no more
+/// bytes can be a head.
+fn scanned_on(line: Line, bytes: &[u8], from: usize) -> Option<Line>
     requires from { from ≤ length bytes.now }
     requires line { line ≡ scanned Blank (take from bytes.now) }
-    ensures { IsStage bytes.now result }
+    ensures { IfSome result (λ next. (next ≡ scanned Blank bytes.now) × (next ≢ Ended)
+        × (length bytes.now < most_head_bytes)) }
 {
-    let next = scan(line, &bytes[from..]);
-    if from > 0 && bytes.len() < MOST_HEAD_BYTES && !line.is_due(next) {
-        return Stage::Begins(next);
+    if from == 0 || bytes.len() >= MOST_HEAD_BYTES {
+        return None;
     }
-    looked(routes, next, bytes)
+    let next = scan(line, &bytes[from..]);
+    if line.is_due(next) { None } else { Some(next) }
 }
 
-/// How far a request has come after more bytes came, from this place on.
-fn after(routes: &Routes, stage: Stage, bytes: &[u8], from: usize) -> Stage
+/// Looks at the bytes. It is done seldom, and stands apart so that the loop that reads is short.
+#[inline(never)]
+fn look_again(stage: &mut Stage, routes: &Routes, line: Line, bytes: &[u8], from: usize)
     requires from { from ≤ length bytes.now }
-    requires stage { IsStage (take from bytes.now) stage }
-    ensures { IsStage bytes.now result }
+    requires line { line ≡ scanned Blank (take from bytes.now) }
+    ensures { IsStage bytes.now stage.new }
+{
+    *stage = looked(routes, line, bytes, from);
+}
+
+/// The content that was missing is there. It stands apart for the same reason.
+#[inline(never)]
+fn complete(stage: &mut Stage)
+    ensures { (head : Head) (n : ℕ) → stage.old ≡ stages.Lacks head n
+        → stage.new ≡ stages.Found head }
+{
+    if let Stage::Lacks(head, _) = stage {
+        *stage = Stage::Found(*head);
+    }
+}
+
+/// Goes on with a request after more bytes came, from this place on. A byte before the head's end
+/// only moves the scan, and one of the content the count of those that are missing.
+fn go_on(stage: &mut Stage, routes: &Routes, bytes: &[u8], from: usize)
+    requires from { from ≤ length bytes.now }
+    requires stage { IsStage (take from bytes.now) stage.old }
+    ensures { IsStage bytes.now stage.new }
 {
     match stage {
-        Stage::Begins(line) => scanned_on(routes, line, bytes, from),
-        Stage::Lacks(head, n) => {
-            if bytes.len() - from >= n {
-                return Stage::Found(head);
+        Stage::Begins(line) => match scanned_on(*line, bytes, from) {
+            Some(next) => *line = next,
+            None => {
+                let line = *line;
+                look_again(stage, routes, line, bytes, from);
             }
-            Stage::Lacks(head, n - (bytes.len() - from))
+        },
+        Stage::Lacks(_, n) => {
+            let more = bytes.len() - from;
+            if more < *n {
+                *n -= more;
+            } else {
+                complete(stage);
+            }
         }
-        Stage::Found(head) => Stage::Found(head),
-        Stage::Broken => Stage::Broken,
+        Stage::Found(_) => {}
+        Stage::Broken => {}
     }
+}
+
+/// Whether a head that was found is that of a POST.
+fn is_post(head: &Head, bytes: &[u8]) -> bool
+    requires { IsFound bytes.now head.now }
+    ensures { (h : RequestHead) → HasHead bytes.now h → result ≡ allow Post h.method }
+{
+    allow(Methods::Post, head.method.of(bytes))
 }
 
 impl Exchange {
@@ -176,8 +257,8 @@ impl Exchange {
         ensures full { OnErr result (self.old.room < length self.old.bytes + length bytes.now) }
     {
         let from = self.come.len();
-        self.come.extend_from_slice(bytes)?;
-        self.stage = after(routes, self.stage, self.come.as_slice(), from);
+        put(&mut self.come, bytes)?;
+        go_on(&mut self.stage, routes, self.come.as_slice(), from);
         Ok(self.need())
     }
 
@@ -242,6 +323,20 @@ impl Exchange {
         ensures { result ≡ (length self.now.bytes == 0) }
     {
         self.come.is_empty()
+    }
+
+    /// Whether the request that has come is a POST, by its head.
+    pub fn is_post(&self) -> bool
+        ensures head { (h : RequestHead) → HasHead self.now.bytes h
+            → result ≡ allow Post h.method }
+        ensures none { HasNoHead self.now.bytes → result ≡ false }
+    {
+        match &self.stage {
+            Stage::Lacks(head, _) => is_post(head, self.come.as_slice()),
+            Stage::Found(head) => is_post(head, self.come.as_slice()),
+            Stage::Begins(_) => false,
+            Stage::Broken => false,
+        }
     }
 
     /// The request that the bytes that have come are, if no more come. It takes no memory.
