@@ -326,7 +326,9 @@ def main() -> None:
                     wrong += 1
                     print(f"desk {' '.join(words)}: request {failing} refused: {got}")
     print(f"{runs} runs with a request refused: {refusals} named refusals, {wrong} wrong answers")
-    sys.exit(1 if wrong else 0)
+    if not refusals:
+        print("no request was refused: this program asks something else than malloc for memory")
+    sys.exit(1 if wrong or not refusals else 0)
 
 
 main()

@@ -3,7 +3,7 @@
 # for Debian's own Python. The broker of the system is not started: the test runs brokers of its
 # own. Where this is not root, or there is no apt-get, nothing is installed.
 set -euo pipefail
-cd "$(dirname "$0")/.."
+cd "$(dirname "$0")/../.."
 export PATH="$PATH:/usr/sbin:/sbin"
 wanted=()
 [ -d /usr/lib/rabbitmq ] || wanted+=(rabbitmq-server)
