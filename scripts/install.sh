@@ -103,7 +103,7 @@ done
 for text in README.md CHANGELOG.md \
     docs/{OPERATING,RUNBOOKS,HTTP,RELAYS,AUDITING,ROSTER,SUDOERS,MESSAGES,STORE}.md \
     docs/{CODES,proof/PROOFS,LINT,IMPORT,SECURITY,HOSTS,USED,EVIDENCE,CONTROLS,CHANGING}.md \
-    docs/{PEOPLE,TEAM,SEVERAL,SCALE}.md; do
+    docs/{PEOPLE,TEAM,SEVERAL}.md; do
     python3 scripts/installed.py "$text" > build/filled
     put 0644 build/filled "$doc/$(basename "$text")"
     rm -f build/filled

@@ -34,7 +34,6 @@ INSTALLED = (
     "PROOFS.md",
     "CONTROLS.md",
     "TEAM.md",
-    "SCALE.md",
 )
 
 

@@ -32,6 +32,9 @@ import repository
 
 MOST_EDITS = 10
 MOST_README = 6 * 1024
+# a page for people, and all of them (docs/*.md), in bytes
+MOST_PAGE, MOST_PAGES = 15_360, 153_600
+MERGED = re.compile(r"^(<{7}|>{7}) ", re.MULTILINE)
 WIDTH = 100
 # how wide a line of a crate may be, by its folder
 WIDTHS = {"src": 100, "specs": 100, "proofs": 160}
@@ -157,6 +160,23 @@ def not_there() -> Iterator[str]:
         yield f"README.md: {size} bytes, more than {MOST_README}"
 
 
+def ill_sized() -> Iterator[str]:
+    """Pages for people that are too long, and documents that a merge left in two versions."""
+    sizes = {}
+    for path in sorted(glob.glob(os.path.join(repository.ROOT, "**", "*.md"), recursive=True)):
+        name = os.path.relpath(path, repository.ROOT)
+        text = repository.read(name)
+        if MERGED.search(text):
+            yield f"{name}: a merge left two versions in it"
+        if os.path.dirname(name) == "docs":
+            sizes[name] = len(text.encode())
+    for name, size in sizes.items():
+        if size > MOST_PAGE:
+            yield f"{name}: {size} bytes, more than {MOST_PAGE}"
+    if sum(sizes.values()) > MOST_PAGES:
+        yield f"docs: the pages have {sum(sizes.values())} bytes, more than {MOST_PAGES}"
+
+
 def misnamed() -> Iterator[str]:
     """What `desk --version` says, where it is not what the packages and the toolchain say."""
     path = "crates/desk_args/src/command.rt"
@@ -233,7 +253,7 @@ def main() -> int:
         print("it needs Rattle's toolchain, the command rt (README.md, 'What you need')")
         return 1
     wrong = [*badly_laid_out(), *misfits(), *not_made(), *not_there(), *misnamed(), *untidy()]
-    wrong += [*misstarted()]
+    wrong += [*misstarted(), *ill_sized()]
     wrong += [*unwrapped(), *calls.faults(), *names.faults(), *readmes.faults()]
     wrong += [*installed.faults()]
     print(

@@ -1,6 +1,5 @@
 """What a relay publishes with: a message is on most of the broker's disks before it is answered.
 
-    sys.path.insert(0, "/usr/share/steelnewt-broker")
     from desk_broker.outbox import NotConfirmed
     from desk_broker.publish import Publisher
     from desk_broker.settings import Broker, told

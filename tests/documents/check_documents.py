@@ -1,8 +1,8 @@
 #!/usr/bin/env python3
-"""Runs the commands of docs/STORE.md, HTTP.md, AUDITING.md, USED.md, EVIDENCE.md, CONTROLS.md and
-OPERATING.md ('By hand') as they stand there, over build/desk or the program that DESK names, and
-compares what these pages say that they print, and the words that CHANGING.md and PEOPLE.md name. It
-needs Debian's packages sqlite3, curl, jq and sudo (visudo)."""
+"""Runs the commands of docs/STORE.md, HTTP.md, AUDITING.md, USED.md, EVIDENCE.md and CONTROLS.md as
+they stand there, over build/desk or the program that DESK names, and compares what these pages say
+that they print, and the words that CHANGING.md and PEOPLE.md name. It needs Debian's packages
+sqlite3, curl, jq and sudo (visudo)."""
 
 from __future__ import annotations
 
@@ -41,10 +41,8 @@ class Page:
         audit = os.path.join(folder_of, name_of.replace("desk", "desk-audit", 1))
         os.symlink(audit, os.path.join(folder, "build", "desk-audit"))
 
-    def blocks(self, kind: str = "sh", heading: str | None = None) -> list[str]:
-        text = self.text if heading is None else self.text.split(f"\n## {heading}\n")[1]
-        text = text if heading is None else text.split("\n## ")[0]
-        found = re.findall(r"^```(\w*)\n(.*?)^```$", text, re.MULTILINE | re.DOTALL)
+    def blocks(self, kind: str = "sh") -> list[str]:
+        found = re.findall(r"^```(\w*)\n(.*?)^```$", self.text, re.MULTILINE | re.DOTALL)
         return [block for its_kind, block in found if its_kind == kind]
 
     def block(self, mark: str) -> str:
@@ -97,22 +95,21 @@ def told(request: int) -> list[str]:
 
 
 def store(page: Page) -> None:
-    from_log, first, inside, fetched, backup, tried, *more = page.blocks()
-    joined, rebuilt, compared, older = more
+    from_log, first, inside, backup, tried, joined, rebuilt, older = page.blocks()
     said = page.out(first)
-    page.holds("a first desk", said.startswith("ack\nack\n") and "\nREVIEW 2026" in said, said)
+    is_right = said.startswith("ack\nack\n") and "build/db1.sudo: parsed OK\nREVIEW " in said
+    page.holds("a first desk", is_right, said)
+    found = re.search(r"`(build/desk decide build/db1.sudo [^`]*)`", page.text)
+    said = page.out(found[1] if found else "false")
+    page.holds("what a file decides", said == "allow\n", said)
     host_file = page.out(OURS % ("print", "db1"))
     page.holds("its file", "NOTAFTER=20260105110000Z /usr/bin/id\n" in host_file, host_file)
     look_inside(page, inside)
-    fetched_backup(page, fetched)
     page.run(backup)
     page.holds("the file of a backup", page.out(tried) == host_file, page.run(tried))
     page.holds("stores joined", page.out(joined) == "ack\nack\n", page.run(joined))
     said = page.out(rebuilt)
     page.holds("rebuilt", said == "ok\ndba ALL = (postgres) ALL\n", said)
-    said = page.out(compared)
-    page.holds("what a roster takes", re.search("^< ann +7 ", said, re.M) is not None, said)
-    page.holds("and why", re.search("^> ann +7 +bob +duty$", said, re.M) is not None, said)
     old_store(page, older)
     log_alone(page, from_log)
     page.says(
@@ -137,17 +134,6 @@ def look_inside(page: Page, block: str) -> None:
     printed = f"sqlite3 {STORE} 'SELECT roster FROM desk;' > build/printed.toml"
     ran = page.run(f"{printed}; build/desk print build/printed.toml {words}")
     page.holds("of a printed one", ran.stderr == "K1 RosterChanged\n", ran)
-
-
-def fetched_backup(page: Page, block: str) -> None:
-    """The messages of a desk that is served are a backup, and a curl that fails leaves the last."""
-    with desk.Server(os.path.join(page.folder, STORE), program=[PROGRAM]) as server:
-        page.run(f"desk=http://127.0.0.1:{server.port}\n{block}")
-        server.end()
-    wanted = sorted(APPROVED.splitlines())
-    page.holds("a backup over HTTP", page.file("messages.txt").splitlines() == wanted)
-    page.run(f"desk=http://127.0.0.1:{server.port}\n{block}")
-    page.holds("no desk there", page.file("messages.txt").splitlines() == wanted)
 
 
 def old_store(page: Page, block: str) -> None:
@@ -371,17 +357,6 @@ def controls(page: Page) -> None:
         page.holds(number, re.search(shown[number], said) is not None, said)
 
 
-def operating(page: Page) -> None:
-    (block,) = page.blocks(heading="By hand")
-    said = page.out(block)
-    is_right = said.startswith("ack\nack\n") and "build/db1.sudo: parsed OK\nREVIEW " in said
-    page.holds("by hand", is_right, said)
-    found = re.search(r"`(build/desk decide build/db1.sudo [^`]*)`", page.text)
-    said = page.out(found[1] if found else "false")
-    page.holds("what a file decides", said == "allow\n", said)
-    page.says("copy the log away before any command")
-
-
 def pages() -> Iterator[Page]:
     for name, follow in (
         ("STORE.md", store),
@@ -392,7 +367,6 @@ def pages() -> Iterator[Page]:
         ("CHANGING.md", changing),
         ("PEOPLE.md", people),
         ("CONTROLS.md", controls),
-        ("OPERATING.md", operating),
     ):
         with tempfile.TemporaryDirectory() as folder:
             page = Page(name, folder)

@@ -477,6 +477,10 @@ def upgrade(room: Room) -> None:
     is_there = re.search(r"^ann +7 ", room.read("/root/before"), re.MULTILINE) is not None
     room.holds("the report has the grant", is_there)
     room.holds("the messages are kept", room.read("/root/messages.txt") == listed(messages))
+    room.run("systemctl stop desk")
+    done = room.run(f"{PREAMBLE}backup")
+    is_kept = room.read("/root/messages.txt") == listed(messages)
+    room.holds("no desk to copy from", done.returncode != 0 and is_kept, done)
 
 
 def restore(room: Room) -> None:

@@ -228,11 +228,11 @@ def facts(host: Host) -> dict[str, bool]:
         "the user's `TZ` moves moments": any(
             allows(host, ended, "ann", PLACE, zone=zone) for zone in ZONES
         ),
-        "a command in a linked folder is the command": allows(host, allowing, "ann", WAYS[2][1]),
+        "a path through a linked folder matches a line": allows(host, allowing, "ann", WAYS[2][1]),
         "a link of the same name is the command": allows(host, allowing, "ann", WAYS[0][1]),
         "a denied command's copy runs": allows(host, denying, "ann", "/srv/copy/granted"),
         "`ANN` has the rights of `ann`": allows(host, allowing, "ANN", PLACE),
-        "blanks and `\\` before an alias are refused": is_refused(host, BLANKS),
+        "an alias behind a line of blanks and `\\` is refused": is_refused(host, BLANKS),
         "a moment past January 2038 is refused": is_refused(host, past),
     }
 
