@@ -119,7 +119,8 @@ cp crates/desk_audit_cli/out/desk_audit_cli build/desk-audit
 
 part demo demo
 part_with cases setpriv jq -- cases
-part_with peers root sudo visudo cvtsudoers faketime unshare curl nc sqlite3 nginx openssl -- peers
+part_with peers root sudo visudo cvtsudoers faketime unshare curl nc sqlite3 strace nginx \
+    openssl -- peers
 part_with faults cc -- faults
 part_with soak root cc visudo unshare mount prlimit setpriv -- soak
 part_with types root apt-get -- bash scripts/types.sh
