@@ -90,20 +90,6 @@ impl Model for Exchange {
     ghost invariant = { λ e. IsStage e.come.items e.stage };
 }
 
-/// Puts bytes behind those that have come. A single one that has room is not copied as a slice is.
-fn put(come: &mut Vec<u8>, bytes: &[u8]) -> Result<(), NoMemory>
-    ensures items { OnOk result (come.new.items ≡ come.old.items ++ bytes.now) }
-    ensures kept { OnErr result (come.new.items ≡ come.old.items) }
-    ensures room { vec_capacity come.old ≤ vec_capacity come.new }
-    ensures full { OnErr result (vec_capacity come.old < length come.old.items + length bytes.now) }
-{
-    match bytes {
-        [byte] if come.len() < come.capacity() => come.push_reserved(*byte),
-        _ => come.extend_from_slice(bytes)?,
-    }
-    Ok(())
-}
-
 /// How many bytes of a content of this size are missing where so many have come. None are of one
 /// that no head may ask for.
 fn lacking(size: Result<u64, RequestFault>, come: usize) -> Option<usize>
@@ -191,6 +177,7 @@ fn complete(stage: &mut Stage)
 
 /// Goes on with a request after more bytes came, from this place on. A byte before the head's end
 /// only moves the scan, and one of the content the count of those that are missing.
+#[inline(always)]
 fn go_on(stage: &mut Stage, routes: &Routes, bytes: &[u8], from: usize)
     requires from { from ≤ length bytes.now }
     requires stage { IsStage (take from bytes.now) stage.old }
@@ -249,6 +236,9 @@ impl Exchange {
 
     /// Takes the bytes that came next, and answers what all that have come still need. Where memory
     /// runs out, nothing is taken; it does not run out where there is room.
+    ///
+    /// It is made part of the loop that reads, and there a single byte that has room costs little.
+    #[inline(always)]
     pub fn take(&mut self, routes: &Routes, bytes: &[u8]) -> Result<Need, NoMemory>
         ensures taken { IfOk result (λ _. self.new.bytes ≡ self.old.bytes ++ bytes.now) }
         ensures need { IfOk result (λ need. IsNeed self.new.bytes need) }
@@ -257,9 +247,28 @@ impl Exchange {
         ensures full { OnErr result (self.old.room < length self.old.bytes + length bytes.now) }
     {
         let from = self.come.len();
-        put(&mut self.come, bytes)?;
-        go_on(&mut self.stage, routes, self.come.as_slice(), from);
+        match bytes {
+            [byte] if from < self.come.capacity() => {
+                self.come.push_reserved(*byte);
+                go_on(&mut self.stage, routes, self.come.as_slice(), from);
+            }
+            _ => self.take_many(routes, bytes)?,
+        }
         Ok(self.need())
+    }
+
+    /// Takes bytes that are many, or that need room. It stands apart, so that the loop is short.
+    #[inline(never)]
+    fn take_many(&mut self, routes: &Routes, bytes: &[u8]) -> Result<(), NoMemory>
+        ensures taken { IfOk result (λ _. self.new.bytes ≡ self.old.bytes ++ bytes.now) }
+        ensures kept { OnErr result (self.new.bytes ≡ self.old.bytes) }
+        ensures room { self.old.room ≤ self.new.room }
+        ensures full { OnErr result (self.old.room < length self.old.bytes + length bytes.now) }
+    {
+        let from = self.come.len();
+        self.come.extend_from_slice(bytes)?;
+        go_on(&mut self.stage, routes, self.come.as_slice(), from);
+        Ok(())
     }
 
     /// What the bytes that have come still need.
