@@ -5,7 +5,7 @@ use crate::sources::take_lines;
 use crate::trouble::Trouble;
 use desk::{Desk, Keeper, MemoryKeeper};
 use desk_audit::{Question, audit, document, text};
-use desk_commands::{Refusal, open_over};
+use desk_commands::{JobRefusal, open_over};
 use desk_process::{MOST_POLICY, MOST_ROSTER, read_file};
 use roster::RosterFault;
 
@@ -23,7 +23,7 @@ fn roster_file(rt: &HostRuntime, path: &str) -> Result<Vec<u8>, Trouble> {
     if bytes.len() as u64 <= MOST_ROSTER {
         return Ok(bytes);
     }
-    Err(Trouble::Refused(Refusal::Roster(RosterFault::OutOfRange)))
+    Err(Trouble::Refused(JobRefusal::Roster(RosterFault::OutOfRange)))
 }
 
 /// What the desk tells.

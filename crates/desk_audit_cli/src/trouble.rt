@@ -1,7 +1,7 @@
 //! Why the program gives no answer.
 
 use desk_audit::WordsFault;
-use desk_commands::Refusal;
+use desk_commands::JobRefusal;
 use std::alloc::{AllocError, AllocFailed, Global};
 use std::{fmt, io};
 use sudo_words::NoMemory;
@@ -22,7 +22,7 @@ pub(crate) enum Trouble {
     /// The store at this path changed each time that it was read.
     Busy(String),
     /// What `desk` would refuse as well.
-    Refused(Refusal),
+    Refused(JobRefusal),
 }
 
 impl fmt::Display for Trouble {
@@ -31,9 +31,9 @@ impl fmt::Display for Trouble {
             Trouble::Usage => f.write_str(
                 "usage: desk-audit ROSTER BASE STORE [--from AT] [--until AT] [--host H] [--person P] [--json]",
             ),
-            Trouble::BadWord => Refusal::BadWord.fmt(f),
-            Trouble::NoMemory => Refusal::NoMemory.fmt(f),
-            Trouble::FileFailed(cause) => write!(f, "{}\ncause: {cause}", Refusal::FileFailed),
+            Trouble::BadWord => JobRefusal::BadWord.fmt(f),
+            Trouble::NoMemory => JobRefusal::NoMemory.fmt(f),
+            Trouble::FileFailed(cause) => write!(f, "{}\ncause: {cause}", JobRefusal::FileFailed),
             Trouble::NoStore(path) => write!(f, "no store here: {path}"),
             Trouble::Busy(path) => write!(
                 f,
@@ -72,15 +72,15 @@ impl From<WordsFault> for Trouble {
     }
 }
 
-impl From<Refusal> for Trouble {
-    fn from(e: Refusal) -> Trouble {
+impl From<JobRefusal> for Trouble {
+    fn from(e: JobRefusal) -> Trouble {
         Trouble::Refused(e)
     }
 }
 
 impl From<desk::Refusal> for Trouble {
     fn from(e: desk::Refusal) -> Trouble {
-        Trouble::Refused(Refusal::Desk(e))
+        Trouble::Refused(JobRefusal::Desk(e))
     }
 }
 

@@ -7,7 +7,7 @@ use Rattle.sudo_beyond.specs.declared.fault.BeyondFault.{BeyondFault}
 use Rattle.sudo_beyond.specs.declared.fault.BeyondFault.TheVariants.{NoMemory, TooManyCases}
 use Rattle.sudo_decide.specs.declared.scope.Scope.{Scope}
 use Rattle.desk_commands.specs.Comparing.{EndsComparing}
-use Rattle.desk_commands.specs.declared.refusal.Refusal.TheVariants.{Beyond}
+use Rattle.desk_commands.specs.declared.refusal.JobRefusal.TheVariants.{Beyond}
 
 pub ends_comparing : (scope : Scope) (a_file b_file : List ℕ) (a b : List Entry) → Spells a_file a → Spells b_file b → (fault : BeyondFault)
     → (fault ≡ TooManyCases → AreTooMany scope a b) → EndsComparing scope a_file b_file (Beyond fault)

@@ -21,8 +21,8 @@ use Rattle.desk_commands.specs.Lines.{AreRead, IsBrought, from_relay, input_line
 use Rattle.desk_commands.specs.Taking.{Takes}
 use Rattle.desk_commands.specs.Telling.{AppendsFront, refusal_line}
 use Rattle.desk_commands.specs.declared.answer.Answer.{Answer}
-use Rattle.desk_commands.specs.declared.refusal.Refusal.{Refusal as Reason}
-use Rattle.desk_commands.specs.declared.refusal.Refusal.TheVariants.{FileFailed}
+use Rattle.desk_commands.specs.declared.refusal.JobRefusal.{JobRefusal}
+use Rattle.desk_commands.specs.declared.refusal.JobRefusal.TheVariants.{FileFailed}
 use Rattle.desk_commands.specs.private.Outcomes.{IsLeft, IsOutcome, WantsIn}
 use Rattle.desk_commands.proofs.BroughtLemmas.{admitted_of, further, here, right_answer}
 use Rattle.desk_commands.proofs.OverLemmas.{nothing_said, set_on, with_more}
@@ -178,7 +178,7 @@ module _ {K : Type 0} (is_up is_empty is_desk is_old : K → Type 0) (roster : K
   leaves : (Left : RosterFields Cmnd → (old new : Message → Type 0) → Type 0) → Left f Old (holds after) → is_up after → OverOpened roster_file base_file k Left
   leaves Left left up = (f, base, made, record { was = was (was_up up); desk = (is_kept up).0; roster = (is_kept up).1; left = left })
 
-  pub left_delivered : (places : Places) (relay : List ℕ) (r : Result Answer Reason) (err : Option (List ℕ))
+  pub left_delivered : (places : Places) (relay : List ℕ) (r : Result Answer JobRefusal) (err : Option (List ℕ))
       → (is_up after → IfErr r (λ _. LeavesDelivered f relay input (holds opened) (holds after)))
       → IfErr r (λ _. IsLeft (Deliver places relay) (roster_file ∷ base_file ∷ more) k Same input err err)
   left_delivered places relay (Ok a) err left = tt
@@ -193,7 +193,7 @@ module _ {K : Type 0} (is_up is_empty is_desk is_old : K → Type 0) (roster : K
   taken store left up =
       leaves (λ f. LeavesTaken store f input) (taken_over f input store Old (holds opened) (holds after) (opens (was_up up)) (left up (is_kept up).0)) up
 
-  pub left_printed : (places : Places) (host : List ℕ) (moment : Option ℕ) (r : Result Answer Reason) (err_before err_after : Option (List ℕ))
+  pub left_printed : (places : Places) (host : List ℕ) (moment : Option ℕ) (r : Result Answer JobRefusal) (err_before err_after : Option (List ℕ))
       → (is_up after → is_desk after → LeavesTaken places.store f input (holds opened) (holds after))
       → IfErr r (λ _. SaysTaking places.store f input err_before err_after)
       → IfErr r (λ _. IsLeft (Print places host moment) (roster_file ∷ base_file ∷ more) k Same input err_before err_after)
@@ -203,7 +203,7 @@ module _ {K : Type 0} (is_up is_empty is_desk is_old : K → Type 0) (roster : K
     told = inr (f, made.roster_is, said);
   }
 
-  pub left_reviewed : (places : Places) (at : ℕ) (r : Result Answer Reason) (err_before err_after : Option (List ℕ))
+  pub left_reviewed : (places : Places) (at : ℕ) (r : Result Answer JobRefusal) (err_before err_after : Option (List ℕ))
       → (is_up after → is_desk after → LeavesTaken places.store f input (holds opened) (holds after))
       → IfErr r (λ _. SaysTaking places.store f input err_before err_after)
       → IfErr r (λ _. IsLeft (Review places at) (roster_file ∷ base_file ∷ more) k Same input err_before err_after)
@@ -237,7 +237,7 @@ module _ (files : List (List ℕ)) (k : Kept) (Same : Type 0) (input err : Optio
   same_job (Review places at) = same_reviewed places at
 
 -- what is left of this job
-pub left_of_job : (r : Result Answer Reason) (job own : Job) (files : List (List ℕ)) (k : Kept) (Same : Type 0) (input before after : Option (List ℕ))
+pub left_of_job : (r : Result Answer JobRefusal) (job own : Job) (files : List (List ℕ)) (k : Kept) (Same : Type 0) (input before after : Option (List ℕ))
     → job ≡ own → IfErr r (λ _. IsLeft own files k Same input before after) → IfErr r (λ _. IsLeft job files k Same input before after)
 left_of_job r job own files k Same input before after is left = subst (λ j. IfErr r (λ _. IsLeft j files k Same input before after)) (sym is) left
 
@@ -266,12 +266,12 @@ module _ (k : Kept) (input before after : Option (List ℕ)) (status : ExitStatu
       inr (is.0, is.2.roster_is, says is.0 input places.store is.4.lines said before after is.4.taken written)
 
 module _ (job : Job) (files : List (List ℕ)) (k : Kept) (Same : Type 0) (input err_before err_between err_after : Option (List ℕ)) where
-  pub kept_after : (r : Result Answer Reason) → IsOutcome job files k input r err_before err_between
+  pub kept_after : (r : Result Answer JobRefusal) → IsOutcome job files k input r err_before err_between
       → IfErr r (λ _. IsLeft job files k Same input err_before err_between) → k.up → KeepsAfterRefusal job files k Same input ⊎ HasAnswer job files k input
   kept_after (Ok a) outcome left up = inr (a.status, string_bytes a.text, outcome.found.0, outcome.found.1)
   kept_after (Err e) outcome left up = inl (left.kept up)
 
-  pub told_after : (r : Result Answer Reason) → IsOutcome job files k input r err_before err_between
+  pub told_after : (r : Result Answer JobRefusal) → IsOutcome job files k input r err_before err_between
       → IfErr r (λ _. IsLeft job files k Same input err_before err_between)
       → MatchResult r (λ _. AppendsFront err_between err_after (refusal_line FileFailed)) (λ e. AppendsFront err_between err_after (refusal_line e))
       → (Steady : Type 0) → (Steady → WantsIn job r ⊎ k.up) → TellsRefusal job files k Steady input err_before err_after

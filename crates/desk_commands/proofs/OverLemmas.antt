@@ -19,8 +19,8 @@ use Rattle.desk_commands.specs.Rebuilding.{EndsRebuilding}
 use Rattle.desk_commands.specs.Reviewing.{EndsReviewing, ReviewsDesk}
 use Rattle.desk_commands.specs.Taking.{HeldWith}
 use Rattle.desk_commands.specs.declared.answer.Answer.{Answer}
-use Rattle.desk_commands.specs.declared.refusal.Refusal.{Refusal as Reason}
-use Rattle.desk_commands.specs.declared.refusal.Refusal.TheVariants as reasons
+use Rattle.desk_commands.specs.declared.refusal.JobRefusal.{JobRefusal}
+use Rattle.desk_commands.specs.declared.refusal.JobRefusal.TheVariants as reasons
 use Rattle.desk_commands.specs.private.Outcomes.{EndsFile, EndsReport, IsOutcome}
 use Rattle.desk_args.specs.declared.status.ExitStatus.TheVariants.{Done}
 use Rattle.desk_args.specs.declared.task.Job.TheVariants.{Deliver, Print, Rebuild, Review}
@@ -142,7 +142,7 @@ module _ {K : Type 0} (is_up is_empty is_desk is_old : K → Type 0) (roster : K
   abbrev Old : Message → Type 0
   Old = held_in (is_desk before) (is_old before) (holds before)
 
-  pub delivered : (places : Places) (relay : List ℕ) (r : Result Answer Reason) (err : Option (List ℕ)) → IfOk r (λ a.
+  pub delivered : (places : Places) (relay : List ℕ) (r : Result Answer JobRefusal) (err : Option (List ℕ)) → IfOk r (λ a.
       DeliversLines f relay (holds opened) (holds after) (is_up after) (HasFailed (failures opened) (failures after)) input a.status (string_bytes a.text))
       → IfErr r (λ e. (e ≡ reasons.FileFailed) ⊎ (e ≡ reasons.NoMemory) ⊎ (e ≡ reasons.Desk desk.NoMemory))
       → IsOutcome (Deliver places relay) (roster_file ∷ base_file ∷ more) k input r err err
@@ -173,7 +173,7 @@ module _ {K : Type 0} (is_up is_empty is_desk is_old : K → Type 0) (roster : K
     ];
   }
 
-  pub printed : (places : Places) (host : List ℕ) (moment : Option ℕ) (r : Result Answer Reason) (err_before err_after : Option (List ℕ))
+  pub printed : (places : Places) (host : List ℕ) (moment : Option ℕ) (r : Result Answer JobRefusal) (err_before err_after : Option (List ℕ))
       → IfOk r (λ a. (said : List ℕ) × PrintsHost f base places.store host moment (holds opened) (holds after) (is_up after × is_desk after) input a.status
       (string_bytes a.text) said × Appends err_before err_after said)
       → IfErr r (EndsFile f places.store host moment (holds opened) (is_up after) (HasFailed (failures opened) (failures after)) input)
@@ -196,7 +196,7 @@ module _ {K : Type 0} (is_up is_empty is_desk is_old : K → Type 0) (roster : K
   }
   printed places host moment (Err e) err_before err_after found cause = record { found = tt; cause = ends e cause }
     where
-      ends : (e : Reason) → EndsFile f places.store host moment (holds opened) (is_up after) (HasFailed (failures opened) (failures after)) input e
+      ends : (e : JobRefusal) → EndsFile f places.store host moment (holds opened) (is_up after) (HasFailed (failures opened) (failures after)) input e
           → EndsPrinting roster_file base_file places.store host moment k input e
       ends reasons.FileFailed why = why
       ends reasons.BadWord why = absurd why
@@ -223,7 +223,7 @@ module _ {K : Type 0} (is_up is_empty is_desk is_old : K → Type 0) (roster : K
       ends (reasons.Desk desk.OldSchema) why = absurd why
       ends (reasons.Desk desk.BaseTooLarge) why = absurd why
 
-  pub reviewed : (places : Places) (at : ℕ) (r : Result Answer Reason) (err_before err_after : Option (List ℕ))
+  pub reviewed : (places : Places) (at : ℕ) (r : Result Answer JobRefusal) (err_before err_after : Option (List ℕ))
       → IfOk r (λ a. (said : List ℕ) × ReviewsDesk f base places.store at (holds opened) (holds after) (is_up after × is_desk after) input a.status
       (string_bytes a.text) said × Appends err_before err_after said)
       → IfErr r (EndsReport places.store (HasFailed (failures opened) (failures after)))
@@ -246,7 +246,7 @@ module _ {K : Type 0} (is_up is_empty is_desk is_old : K → Type 0) (roster : K
   }
   reviewed places at (Err e) err_before err_after found cause = record { found = tt; cause = ends e cause }
     where
-      ends : (e : Reason) → EndsReport places.store (HasFailed (failures opened) (failures after)) e → EndsReviewing roster_file base_file places.store k e
+      ends : (e : JobRefusal) → EndsReport places.store (HasFailed (failures opened) (failures after)) e → EndsReviewing roster_file base_file places.store k e
       ends reasons.FileFailed why = why
       ends reasons.BadWord why = absurd why
       ends reasons.NoMemory why = tt
@@ -282,8 +282,8 @@ module _ {K : Type 0} (is_up is_empty is_desk is_old : K → Type 0) (roster : K
 
 -- ---- no desk is opened
 
-module _ (roster_file base_file : List ℕ) (k : Kept) (more : List (List ℕ)) (input err : Option (List ℕ)) (reason : Reason) where
-  no_desk_printed : (store : Store) (host : List ℕ) (moment : Option ℕ) (e : Reason) → EndsMaking roster_file base_file k e
+module _ (roster_file base_file : List ℕ) (k : Kept) (more : List (List ℕ)) (input err : Option (List ℕ)) (reason : JobRefusal) where
+  no_desk_printed : (store : Store) (host : List ℕ) (moment : Option ℕ) (e : JobRefusal) → EndsMaking roster_file base_file k e
       → EndsPrinting roster_file base_file store host moment k input e
   no_desk_printed store host moment reasons.FileFailed why = absurd why
   no_desk_printed store host moment reasons.BadWord why = why
@@ -305,7 +305,7 @@ module _ (roster_file base_file : List ℕ) (k : Kept) (more : List (List ℕ)) 
   no_desk_printed store host moment (reasons.Desk desk.OldSchema) why = why
   no_desk_printed store host moment (reasons.Desk desk.BaseTooLarge) why = why
 
-  no_desk_delivered : (e : Reason) → EndsMaking roster_file base_file k e → EndsDelivering roster_file base_file k e
+  no_desk_delivered : (e : JobRefusal) → EndsMaking roster_file base_file k e → EndsDelivering roster_file base_file k e
   no_desk_delivered reasons.FileFailed why = tt
   no_desk_delivered reasons.BadWord why = why
   no_desk_delivered reasons.NoMemory why = why
@@ -314,7 +314,7 @@ module _ (roster_file base_file : List ℕ) (k : Kept) (more : List (List ℕ)) 
   no_desk_delivered (reasons.Beyond fault) why = why
   no_desk_delivered (reasons.Desk refusal) why = why
 
-  no_desk_reviewed : (store : Store) (e : Reason) → EndsMaking roster_file base_file k e → EndsReviewing roster_file base_file store k e
+  no_desk_reviewed : (store : Store) (e : JobRefusal) → EndsMaking roster_file base_file k e → EndsReviewing roster_file base_file store k e
   no_desk_reviewed store reasons.FileFailed why = absurd why
   no_desk_reviewed store reasons.BadWord why = why
   no_desk_reviewed store reasons.NoMemory why = why

@@ -14,7 +14,7 @@ use Rattle.desk.specs.declared.refusal.Refusal.TheVariants as desk
 use Rattle.desk_commands.specs.Printing.{HasRights, IsPrinted, PrintsHost, lines_printed}
 use Rattle.desk_commands.specs.Reviewing.{ReviewsDesk}
 use Rattle.desk_commands.specs.Taking.{HeldWith, Takes}
-use Rattle.desk_commands.specs.declared.refusal.Refusal.TheVariants as reasons
+use Rattle.desk_commands.specs.declared.refusal.JobRefusal.TheVariants as reasons
 use Rattle.desk_commands.specs.private.Outcomes.{EndsFile, EndsReport}
 use Rattle.desk_commands.proofs.OverLemmas.{listed, set_on}
 use Rattle.desk_args.specs.declared.status.ExitStatus.TheVariants.{Done}

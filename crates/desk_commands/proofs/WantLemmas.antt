@@ -7,7 +7,7 @@ use Rattle.desk.specs.declared.refusal.Refusal.{Refusal}
 use Rattle.desk_commands.specs.Taking.{HadMemory}
 use Rattle.desk_commands.specs.Wanting.{IsWanting}
 use Rattle.desk_commands.specs.declared.answer.Answer.{Answer}
-use Rattle.desk_commands.specs.declared.refusal.Refusal.{Refusal as Reason}
+use Rattle.desk_commands.specs.declared.refusal.JobRefusal.{JobRefusal}
 use Rattle.desk_commands.specs.private.Outcomes.{ShowsWantIn, WantsIn}
 use Rattle.desk_args.specs.declared.task.Job.{Job}
 use Rattle.desk_args.specs.declared.task.Job.TheVariants.{Deliver}
@@ -16,27 +16,27 @@ use Rattle.desk_args.specs.declared.task.Places.{Places}
 -- ---- a refusal that is passed on
 
 -- one that is this reason, which is one of want
-pub wanting_as : {A : Type 0} (reason : Reason) (r : Result A Reason) → IsErrAnd r (λ e. e ≡ reason) → IsWanting reason → IsErrAnd r IsWanting
+pub wanting_as : {A : Type 0} (reason : JobRefusal) (r : Result A JobRefusal) → IsErrAnd r (λ e. e ≡ reason) → IsWanting reason → IsErrAnd r IsWanting
 wanting_as reason (Ok x) is want = absurd is
 wanting_as reason (Err e) is want = subst IsWanting (sym is) want
 
 -- one that was answered by another call
-pub wanting_still : {A B : Type 0} (reason : Reason) (s : Result B Reason) (r : Result A Reason)
+pub wanting_still : {A B : Type 0} (reason : JobRefusal) (s : Result B JobRefusal) (r : Result A JobRefusal)
     → s ≡ Err reason → IsErrAnd r (λ e. e ≡ reason) → IsErrAnd s IsWanting → IsErrAnd r IsWanting
-wanting_still {B = B} reason s r was is want = wanting_as reason r is (subst (λ (t : Result B Reason). IsErrAnd t IsWanting) was want)
+wanting_still {B = B} reason s r was is want = wanting_as reason r is (subst (λ (t : Result B JobRefusal). IsErrAnd t IsWanting) was want)
 
 -- what `deliver` comes to
-pub shown_refused : (r : Result Answer Reason) → IsErrAnd r IsWanting → ShowsWantIn r
+pub shown_refused : (r : Result Answer JobRefusal) → IsErrAnd r IsWanting → ShowsWantIn r
 shown_refused (Ok a) want = absurd want
 shown_refused (Err e) want = want
 
 -- ---- what a job comes to
 
-pub wants_delivered : (job : Job) (places : Places) (relay : List ℕ) (r : Result Answer Reason) → job ≡ Deliver places relay → ShowsWantIn r → WantsIn job r
+pub wants_delivered : (job : Job) (places : Places) (relay : List ℕ) (r : Result Answer JobRefusal) → job ≡ Deliver places relay → ShowsWantIn r → WantsIn job r
 wants_delivered job places relay (Ok a) is want = subst (λ j. WantsIn j (Ok a)) (sym is) want
 wants_delivered job places relay (Err e) is want = want
 
-pub wants_refused : (job : Job) (r : Result Answer Reason) → IsErrAnd r IsWanting → WantsIn job r
+pub wants_refused : (job : Job) (r : Result Answer JobRefusal) → IsErrAnd r IsWanting → WantsIn job r
 wants_refused job (Ok a) want = absurd want
 wants_refused job (Err e) want = want
 

@@ -14,10 +14,10 @@ use Rattle.desk_commands.specs.Kept.{Kept, held}
 use Rattle.desk_commands.specs.Printing.{EndsPrinting, PrintsHost}
 use Rattle.desk_commands.specs.Rebuilding.{EndsRebuilding, RebuildsDesk}
 use Rattle.desk_commands.specs.Reviewing.{EndsReviewing, ReviewsDesk}
-use Rattle.desk_commands.specs.declared.refusal.Refusal.{Refusal as Reason}
-use Rattle.desk_commands.specs.declared.refusal.Refusal.TheVariants.{BadWord, Beyond as Compared}
-use Rattle.desk_commands.specs.declared.refusal.Refusal.TheVariants.{Desk, FileFailed, NoMemory}
-use Rattle.desk_commands.specs.declared.refusal.Refusal.TheVariants.{Policy, Roster}
+use Rattle.desk_commands.specs.declared.refusal.JobRefusal.{JobRefusal}
+use Rattle.desk_commands.specs.declared.refusal.JobRefusal.TheVariants.{BadWord, Beyond as Compared}
+use Rattle.desk_commands.specs.declared.refusal.JobRefusal.TheVariants.{Desk, FileFailed, NoMemory}
+use Rattle.desk_commands.specs.declared.refusal.JobRefusal.TheVariants.{Policy, Roster}
 use Rattle.desk_args.specs.declared.status.ExitStatus.{ExitStatus}
 use Rattle.desk_args.specs.declared.status.ExitStatus.TheVariants.{Denied, Done}
 use Rattle.desk_args.specs.declared.task.Store.TheVariants.{Memory}
@@ -106,7 +106,7 @@ ReadsInput job = ⊥
 -- ---- what else may come of it
 
 -- `check` and `decide` may be refused for this, before their answer is written
-abbrev pub EndsReading : List ℕ → Reason → Type 0
+abbrev pub EndsReading : List ℕ → JobRefusal → Type 0
 EndsReading file FileFailed = ⊥
 EndsReading file BadWord = ⊥
 EndsReading file NoMemory = Unit {0}
@@ -116,20 +116,21 @@ EndsReading file (Compared fault) = ⊥
 EndsReading file (Desk refusal) = ⊥
 
 -- a reason of the first file, or that it is missing
-abbrev pub CauseOfFile : (files : List (List ℕ)) → (List ℕ → Reason → Type 0) → Reason → Type 0
+abbrev pub CauseOfFile : (files : List (List ℕ)) → (List ℕ → JobRefusal → Type 0)
+    → JobRefusal → Type 0
 CauseOfFile (file ∷ more) Ends reason = Ends file reason
 CauseOfFile [] Ends reason = reason ≡ FileFailed
 
 -- a reason of the first two files, or that one is missing
 abbrev pub CauseOfFiles : (files : List (List ℕ))
-    → (List ℕ → List ℕ → Reason → Type 0) → Reason → Type 0
+    → (List ℕ → List ℕ → JobRefusal → Type 0) → JobRefusal → Type 0
 CauseOfFiles (a ∷ b ∷ more) Ends reason = Ends a b reason
 CauseOfFiles files Ends reason = reason ≡ FileFailed
 
 -- The job over these files, what is kept and this input may be refused for this, before its answer
 -- is written. Without its files it is refused, and so is `serve`, which has no answer.
 abbrev pub IsCause : Job → (files : List (List ℕ))
-    → Kept → (input : Option (List ℕ)) → Reason → Type 0
+    → Kept → (input : Option (List ℕ)) → JobRefusal → Type 0
 IsCause (Check name) files k input reason = CauseOfFile files EndsReading reason
 IsCause (Decide name invocation) files k input reason = CauseOfFile files EndsReading reason
 IsCause (Beyond a_name b_name scope) files k input reason =
@@ -146,4 +147,4 @@ IsCause (Serve places addr requests) files k input reason = reason ≡ FileFaile
 
 -- it is refused for such a reason
 abbrev pub HasCause : Job → (files : List (List ℕ)) → Kept → (input : Option (List ℕ)) → Type 0
-HasCause job files k input = (reason : Reason) × IsCause job files k input reason
+HasCause job files k input = (reason : JobRefusal) × IsCause job files k input reason

@@ -10,8 +10,8 @@ use Rattle.sudo_beyond.specs.Beyond.{LiesBeyond, SomethingBeyond}
 use Rattle.sudo_beyond.specs.declared.fault.BeyondFault.TheVariants as faults
 use Rattle.sudo_decide.specs.declared.scope.Scope.{Scope}
 use Rattle.desk_commands.specs.Files.{IsFaultOf}
-use Rattle.desk_commands.specs.declared.refusal.Refusal.{Refusal as Reason}
-use Rattle.desk_commands.specs.declared.refusal.Refusal.TheVariants as reasons
+use Rattle.desk_commands.specs.declared.refusal.JobRefusal.{JobRefusal}
+use Rattle.desk_commands.specs.declared.refusal.JobRefusal.TheVariants as reasons
 use Rattle.desk_args.specs.declared.status.ExitStatus.{ExitStatus}
 use Rattle.desk_args.specs.declared.status.ExitStatus.TheVariants.{Done, Found}
 
@@ -59,7 +59,7 @@ pub record HaveTooManyCases (scope : Scope) (a_file b_file : List ℕ) : Type 0 
 
 -- `beyond` may be refused for this, before its answer is written. The second file is looked at
 -- where the first spells a policy.
-abbrev pub EndsComparing : Scope → (a_file b_file : List ℕ) → Reason → Type 0
+abbrev pub EndsComparing : Scope → (a_file b_file : List ℕ) → JobRefusal → Type 0
 EndsComparing scope a_file b_file reasons.FileFailed = ⊥
 EndsComparing scope a_file b_file reasons.BadWord = ⊥
 EndsComparing scope a_file b_file reasons.NoMemory = Unit {0}

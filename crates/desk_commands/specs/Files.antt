@@ -14,8 +14,8 @@ use Rattle.grants.specs.Bases.{FitsBase}
 use Rattle.desk.specs.declared.refusal.Refusal.{Refusal}
 use Rattle.desk.specs.declared.refusal.Refusal.TheVariants as desk
 use Rattle.desk_commands.specs.Kept.{Kept}
-use Rattle.desk_commands.specs.declared.refusal.Refusal.{Refusal as Reason}
-use Rattle.desk_commands.specs.declared.refusal.Refusal.TheVariants as reasons
+use Rattle.desk_commands.specs.declared.refusal.JobRefusal.{JobRefusal}
+use Rattle.desk_commands.specs.declared.refusal.JobRefusal.TheVariants as reasons
 
 -- the file's bytes are UTF-8, and as a text they are this roster's
 pub record IsRosterFile (file : List ℕ) (roster : RosterFields Cmnd) : Type 0 where
@@ -87,7 +87,7 @@ EndsReplacing roster_file base_file k _ = ⊥
 
 -- The files may make no desk for this: a fault of theirs, or a reason why their desk is refused.
 -- The base is looked at where the other file is a roster.
-abbrev pub EndsWith : (roster_file base_file : List ℕ) → (Refusal → Type 0) → Reason → Type 0
+abbrev pub EndsWith : (roster_file base_file : List ℕ) → (Refusal → Type 0) → JobRefusal → Type 0
 EndsWith roster_file base_file Ends reasons.FileFailed = ⊥
 EndsWith roster_file base_file Ends reasons.BadWord = ⊥
 EndsWith roster_file base_file Ends reasons.NoMemory = Unit {0}
@@ -98,7 +98,7 @@ EndsWith roster_file base_file Ends (reasons.Beyond fault) = ⊥
 EndsWith roster_file base_file Ends (reasons.Desk refusal) = Ends refusal
 
 -- no desk of the files is opened, for this
-abbrev pub EndsMaking : (roster_file base_file : List ℕ) → Kept → Reason → Type 0
+abbrev pub EndsMaking : (roster_file base_file : List ℕ) → Kept → JobRefusal → Type 0
 EndsMaking roster_file base_file k reason =
     EndsWith roster_file base_file (EndsOpening roster_file base_file k) reason
 

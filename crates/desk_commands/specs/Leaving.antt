@@ -16,8 +16,8 @@ use Rattle.desk_commands.specs.Lines.{from_relay, input_lines}
 use Rattle.desk_commands.specs.Taking.{AreTaken, HeldWith}
 use Rattle.desk_commands.specs.Telling.{AppendsFront, refusal_line}
 use Rattle.desk_commands.specs.Wanting.{IsWanting, TellsWant}
-use Rattle.desk_commands.specs.declared.refusal.Refusal.{Refusal as Reason}
-use Rattle.desk_commands.specs.declared.refusal.Refusal.TheVariants.{FileFailed}
+use Rattle.desk_commands.specs.declared.refusal.JobRefusal.{JobRefusal}
+use Rattle.desk_commands.specs.declared.refusal.JobRefusal.TheVariants.{FileFailed}
 use Rattle.desk_args.specs.declared.status.ExitStatus.{ExitStatus}
 use Rattle.desk_args.specs.declared.task.Job.{Job}
 use Rattle.desk_args.specs.declared.task.Job.TheVariants.{Deliver, Print, Review}
@@ -141,7 +141,7 @@ BeganAnswer job files k input before after = (status : ExitStatus) × (text said
 pub record TellsRefusal (job : Job) (files : List (List ℕ))
     (k : Kept) (Steady : Type 0) (input before after : Option (List ℕ)) : Type 0 where
   pub between : Option (List ℕ)
-  pub reason : Reason
+  pub reason : JobRefusal
   pub said : TellsBefore job files input before between
   pub line : AppendsFront between after (refusal_line reason)
   pub cause : IsCause job files k input reason

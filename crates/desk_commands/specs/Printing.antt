@@ -12,8 +12,8 @@ use Rattle.desk.specs.declared.refusal.Refusal.TheVariants as desk
 use Rattle.desk_commands.specs.Files.{EndsMaking, IsDeskOf}
 use Rattle.desk_commands.specs.Kept.{Kept, held}
 use Rattle.desk_commands.specs.Taking.{HeldWith, MayFailTaking, Takes}
-use Rattle.desk_commands.specs.declared.refusal.Refusal.{Refusal as Reason}
-use Rattle.desk_commands.specs.declared.refusal.Refusal.TheVariants as reasons
+use Rattle.desk_commands.specs.declared.refusal.JobRefusal.{JobRefusal}
+use Rattle.desk_commands.specs.declared.refusal.JobRefusal.TheVariants as reasons
 use Rattle.desk_args.specs.declared.status.ExitStatus.{ExitStatus}
 use Rattle.desk_args.specs.declared.status.ExitStatus.TheVariants.{Done}
 use Rattle.desk_args.specs.declared.task.Store.{Store}
@@ -67,7 +67,7 @@ pub record HasManyLines (roster : RosterFields Cmnd) (store : Store) (host : Lis
 
 -- `print` may be refused for this. A line that is refused does not end it.
 abbrev pub EndsPrinting : (roster_file base_file : List ℕ) (store : Store) (host : List ℕ)
-    (after : Option ℕ) → Kept → Option (List ℕ) → Reason → Type 0
+    (after : Option ℕ) → Kept → Option (List ℕ) → JobRefusal → Type 0
 EndsPrinting roster_file base_file store host after k input reasons.FileFailed = MayFailTaking store
 EndsPrinting roster_file base_file store host after k input (reasons.Desk desk.UnknownHost) =
     k.up → (roster : RosterFields Cmnd) × (base : List Entry)

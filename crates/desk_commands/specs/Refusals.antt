@@ -4,14 +4,14 @@ use Rattle.sudo_policy.specs.Faults.{fault_text}
 use Rattle.roster.specs.Faults as roster
 use Rattle.sudo_beyond.specs.Faults as review
 use Rattle.desk.specs.Refusals.{refusal_text}
-use Rattle.desk_commands.specs.declared.refusal.Refusal.{Refusal}
-use Rattle.desk_commands.specs.declared.refusal.Refusal.TheVariants.{BadWord, Beyond, Desk}
-use Rattle.desk_commands.specs.declared.refusal.Refusal.TheVariants.{FileFailed, NoMemory}
-use Rattle.desk_commands.specs.declared.refusal.Refusal.TheVariants.{Policy, Roster}
+use Rattle.desk_commands.specs.declared.refusal.JobRefusal.{JobRefusal}
+use Rattle.desk_commands.specs.declared.refusal.JobRefusal.TheVariants.{BadWord, Beyond, Desk}
+use Rattle.desk_commands.specs.declared.refusal.JobRefusal.TheVariants.{FileFailed, NoMemory}
+use Rattle.desk_commands.specs.declared.refusal.JobRefusal.TheVariants.{Policy, Roster}
 
 -- its code and name; a roster's, a comparison's and the desk's as these show them, and a policy's
 -- with its line
-abbrev pub reason_text : Refusal → List ℕ
+abbrev pub reason_text : JobRefusal → List ℕ
 reason_text FileFailed = codes "F1 FileFailed"
 reason_text BadWord = codes "F2 BadWord"
 reason_text NoMemory = codes "NoMemory"

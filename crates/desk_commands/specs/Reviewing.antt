@@ -9,8 +9,8 @@ use Rattle.review.specs.Report.{IsReport}
 use Rattle.desk_commands.specs.Files.{EndsMaking}
 use Rattle.desk_commands.specs.Kept.{Kept}
 use Rattle.desk_commands.specs.Taking.{HeldWith, MayFailTaking, Takes}
-use Rattle.desk_commands.specs.declared.refusal.Refusal.{Refusal as Reason}
-use Rattle.desk_commands.specs.declared.refusal.Refusal.TheVariants as reasons
+use Rattle.desk_commands.specs.declared.refusal.JobRefusal.{JobRefusal}
+use Rattle.desk_commands.specs.declared.refusal.JobRefusal.TheVariants as reasons
 use Rattle.desk_args.specs.declared.status.ExitStatus.{ExitStatus}
 use Rattle.desk_args.specs.declared.status.ExitStatus.TheVariants.{Done}
 use Rattle.desk_args.specs.declared.task.Store.{Store}
@@ -28,6 +28,7 @@ pub record ReviewsDesk (roster : RosterFields Cmnd) (base : List Entry)
   pub stays : Up → SameSet (HeldWith roster lines old) new
 
 -- `review` may be refused for this. A line that is refused does not end it.
-abbrev pub EndsReviewing : (roster_file base_file : List ℕ) (store : Store) → Kept → Reason → Type 0
+abbrev pub EndsReviewing : (roster_file base_file : List ℕ) (store : Store) → Kept
+    → JobRefusal → Type 0
 EndsReviewing roster_file base_file store k reasons.FileFailed = MayFailTaking store
 EndsReviewing roster_file base_file store k reason = EndsMaking roster_file base_file k reason

@@ -2,10 +2,10 @@
 use Rattle.std.specs.Prelude.{ℕ, List, ◌++◌, Option, codes, take}
 use Rattle.std.specs.Io.KnownBytes.{Appends}
 use Rattle.desk_commands.specs.Refusals.{reason_text}
-use Rattle.desk_commands.specs.declared.refusal.Refusal.{Refusal}
+use Rattle.desk_commands.specs.declared.refusal.JobRefusal.{JobRefusal}
 
 -- the line of a refusal: its code and name, and a newline
-abbrev pub refusal_line : Refusal → List ℕ
+abbrev pub refusal_line : JobRefusal → List ℕ
 refusal_line refusal = reason_text refusal ++ codes "\n"
 
 -- Known bytes grow by a beginning of these, which may be all of them, or none.

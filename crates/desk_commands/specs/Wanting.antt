@@ -5,13 +5,13 @@ use Rattle.desk.specs.Refusals.{IsWant}
 use Rattle.desk.specs.declared.ack.Ack.{Ack}
 use Rattle.desk.specs.declared.refusal.Refusal.{Refusal}
 use Rattle.desk_commands.specs.Delivering.{answer_lines}
-use Rattle.desk_commands.specs.declared.refusal.Refusal.{Refusal as Reason}
-use Rattle.desk_commands.specs.declared.refusal.Refusal.TheVariants as reasons
+use Rattle.desk_commands.specs.declared.refusal.JobRefusal.{JobRefusal}
+use Rattle.desk_commands.specs.declared.refusal.JobRefusal.TheVariants as reasons
 use Rattle.desk_args.specs.declared.task.Job.{Job}
 use Rattle.desk_args.specs.declared.task.Job.TheVariants.{Deliver}
 
 -- the refusal is one of want: of memory, or of the storage
-abbrev pub IsWanting : Reason → Type 0
+abbrev pub IsWanting : JobRefusal → Type 0
 IsWanting reasons.NoMemory = Unit {0}
 IsWanting (reasons.Desk refusal) = IsWant refusal
 IsWanting reason = ⊥

@@ -6,7 +6,7 @@ ghost use Rattle.desk_commands.specs.Comparing.{ComparesFiles, EndsComparing};
 ghost use Rattle.desk_commands.specs.Comparing.{IsShown, case_text, spaced};
 
 use crate::answer::Answer;
-use crate::refusal::Refusal;
+use crate::refusal::JobRefusal;
 use desk_args::ExitStatus;
 use review::{Scope, beyond};
 use std::alloc::{AllocError, Global};
@@ -55,7 +55,7 @@ fn shown(alloc: Global, found: &Option<Invocation>) -> Result<Answer, AllocError
 }
 
 /// The answer for two policies.
-fn compare(alloc: Global, a: &Policy, b: &Policy, scope: &Scope) -> Result<Answer, Refusal>
+fn compare(alloc: Global, a: &Policy, b: &Policy, scope: &Scope) -> Result<Answer, JobRefusal>
     ensures found { (a_file b_file : List ℕ) → Spells a_file a.now → Spells b_file b.now
         → IfOk result (λ r. ComparesFiles scope.now a_file b_file r.status (string_bytes r.text)) }
     ensures err { (a_file b_file : List ℕ) → Spells a_file a.now
@@ -66,7 +66,7 @@ fn compare(alloc: Global, a: &Policy, b: &Policy, scope: &Scope) -> Result<Answe
 }
 
 /// The answer for a policy and the policy of a file.
-fn compare_with(alloc: Global, a: &Policy, b: &[u8], scope: &Scope) -> Result<Answer, Refusal>
+fn compare_with(alloc: Global, a: &Policy, b: &[u8], scope: &Scope) -> Result<Answer, JobRefusal>
     ensures found { (a_file : List ℕ) → Spells a_file a.now
         → IfOk result (λ r. ComparesFiles scope.now a_file b.now r.status (string_bytes r.text)) }
     ensures err { (a_file : List ℕ) → Spells a_file a.now
@@ -81,7 +81,7 @@ fn compare_with(alloc: Global, a: &Policy, b: &[u8], scope: &Scope) -> Result<An
 ///
 /// The first file is read first. It is refused where a file does not spell a policy, where the
 /// policies have too many cases, and where memory runs out.
-pub fn compare_files(alloc: Global, a: &[u8], b: &[u8], scope: &Scope) -> Result<Answer, Refusal>
+pub fn compare_files(alloc: Global, a: &[u8], b: &[u8], scope: &Scope) -> Result<Answer, JobRefusal>
     ensures found { IfOk result
         (λ r. ComparesFiles scope.now a.now b.now r.status (string_bytes r.text)) }
     ensures err { IfErr result (EndsComparing scope.now a.now b.now) }

@@ -10,7 +10,7 @@ ghost use Rattle.desk_commands.specs.Delivering.{DeliversLines, answer_line};
 ghost use Rattle.desk_commands.specs.Delivering.{answer_lines, status_after};
 ghost use Rattle.desk_commands.specs.Kept.{kept_by};
 ghost use Rattle.desk_commands.specs.Leaving.{LeavesDelivered};
-ghost use Rattle.desk_commands.specs.declared.refusal.Refusal.TheVariants as reasons;
+ghost use Rattle.desk_commands.specs.declared.refusal.JobRefusal.TheVariants as reasons;
 ghost use Rattle.desk_commands.specs.private.Outcomes.{IsLeft, IsOutcome, LivesAfter, ShowsWantIn};
 ghost use Rattle.desk_args.specs.declared.task.Job.TheVariants as jobs;
 ghost use Rattle.desk_args.specs.declared.task.Places.{Places as Parts};
@@ -18,7 +18,7 @@ ghost use Rattle.desk_args.specs.declared.task.Places.{Places as Parts};
 use crate::answer::Answer;
 use crate::lines::read_lines;
 use crate::opening::open_over;
-use crate::refusal::Refusal;
+use crate::refusal::JobRefusal;
 use desk::{Ack, Desk, Keeper};
 use desk_args::ExitStatus;
 use std::alloc::{AllocError, AllocFailed, Global};
@@ -75,7 +75,7 @@ pub fn deliver_to<K: Keeper, R: Read>(
     desk: &mut Desk<K>,
     relay: &str,
     input: &mut R,
-) -> Result<Answer, Refusal>
+) -> Result<Answer, JobRefusal>
     ensures found { IfOk result
         (λ a. DeliversLines desk.old.roster.says relay.now (K.holds desk.old.keeper)
         (K.holds desk.new.keeper) (K.is_up desk.new.keeper) (HasFailed (K.failures desk.old.keeper)
@@ -104,7 +104,7 @@ fn deliver_over<K: Keeper, R: Read>(
     keeper: K,
     relay: &str,
     input: &mut R,
-) -> (Result<Answer, Refusal>, K)
+) -> (Result<Answer, JobRefusal>, K)
     ensures outcome { (places : Parts) (more : List (List ℕ)) (err : Option (List ℕ))
         → IsOutcome (jobs.Deliver places relay.now) (roster.now ∷ base.now ∷ more)
         (kept_by K.Keeper keeper result.1) (R.remaining input.old) result.0 err err }
@@ -130,7 +130,7 @@ pub fn deliver_lines<K: Keeper, R: Read>(
     keeper: K,
     relay: &str,
     input: &mut R,
-) -> (Result<Answer, Refusal>, K)
+) -> (Result<Answer, JobRefusal>, K)
     ensures outcome { (places : Parts) (err : Option (List ℕ))
         → IsOutcome (jobs.Deliver places relay.now) (map (λ f. f.items) files.now)
         (kept_by K.Keeper keeper result.1) (R.remaining input.old) result.0 err err }
@@ -149,6 +149,6 @@ pub fn deliver_lines<K: Keeper, R: Read>(
             relay,
             input,
         ),
-        _ => (Err(Refusal::FileFailed), keeper),
+        _ => (Err(JobRefusal::FileFailed), keeper),
     }
 }

@@ -20,6 +20,6 @@ pub use desk_args::{
     Address, ExitStatus, Job, JobFault, Places, Store, Sync, Text, code, job, paths, show,
 };
 pub use opening::open_over;
-pub use refusal::Refusal;
+pub use refusal::JobRefusal;
 pub use running::{finish, run};
 pub use telling::refuse;

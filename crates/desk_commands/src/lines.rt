@@ -3,23 +3,23 @@
 ghost use Rattle.std.specs.Prelude.{◌≡◌, ◌⊎◌, IfErr, IfOk, IfSome, map};
 ghost use Rattle.desk.specs.Delivery.{delivery_of};
 ghost use Rattle.desk_commands.specs.Lines.{AreRead, from_relay, input_lines};
-ghost use Rattle.desk_commands.specs.declared.refusal.Refusal.TheVariants as reasons;
+ghost use Rattle.desk_commands.specs.declared.refusal.JobRefusal.TheVariants as reasons;
 
-use crate::refusal::Refusal;
+use crate::refusal::JobRefusal;
 use std::alloc::{AllocError, Global};
 use std::io::Read;
 use std::{io, mem};
 
 /// All that an input has left.
-fn whole<R: Read>(alloc: Global, input: &mut R) -> Result<Vec<u8>, Refusal>
+fn whole<R: Read>(alloc: Global, input: &mut R) -> Result<Vec<u8>, JobRefusal>
     ensures bytes { IfOk result (λ v. IfSome (R.remaining input.old) (λ bytes. v.items ≡ bytes)) }
     ensures err { IfErr result (λ e. (e ≡ reasons.FileFailed) ⊎ (e ≡ reasons.NoMemory)) }
 {
     let mut bytes = Vec::new(alloc);
     match input.read_to_end(&mut bytes) {
         Ok(_) => Ok(bytes),
-        Err(error) if error.kind() == io::ErrorKind::OutOfMemory => Err(Refusal::NoMemory),
-        Err(_) => Err(Refusal::FileFailed),
+        Err(error) if error.kind() == io::ErrorKind::OutOfMemory => Err(JobRefusal::NoMemory),
+        Err(_) => Err(JobRefusal::FileFailed),
     }
 }
 
@@ -50,7 +50,7 @@ pub fn read_lines<R: Read>(
     alloc: Global,
     relay: &str,
     input: &mut R,
-) -> Result<Vec<(String, Vec<u8>)>, Refusal>
+) -> Result<Vec<(String, Vec<u8>)>, JobRefusal>
     ensures read { IfOk result
         (λ v. AreRead relay.now (R.remaining input.old) (map delivery_of v.items)) }
     ensures err { IfErr result (λ e. (e ≡ reasons.FileFailed) ⊎ (e ≡ reasons.NoMemory)) }

@@ -11,7 +11,7 @@ ghost use Rattle.desk_commands.specs.Rebuilding.{EndsRebuilding};
 ghost use Rattle.desk_commands.specs.Wanting.{IsWanting};
 ghost use Rattle.desk_commands.specs.private.Outcomes.{EndsParts};
 
-use crate::refusal::Refusal;
+use crate::refusal::JobRefusal;
 use desk::{Desk, Keeper};
 use roster::{Roster, RosterFault};
 use std::alloc::Global;
@@ -31,7 +31,7 @@ fn roster_of(alloc: Global, file: &[u8]) -> Result<Roster, RosterFault>
 }
 
 /// The roster and the base that the files hold. The roster is read first.
-fn parts(alloc: Global, roster: &[u8], base: &[u8]) -> Result<(Roster, Policy), Refusal>
+fn parts(alloc: Global, roster: &[u8], base: &[u8]) -> Result<(Roster, Policy), JobRefusal>
     ensures roster { IfOk result (λ r. IsRosterFile roster.now r.0.says × (r.0.text ≡ roster.now)) }
     ensures base { IfOk result (λ r. Spells base.now r.1) }
     ensures err { IfErr result (EndsParts roster.now base.now) }
@@ -50,7 +50,7 @@ pub fn open_over<K: Keeper>(
     roster: &[u8],
     base: &[u8],
     keeper: K,
-) -> Result<Desk<K>, (Refusal, K)>
+) -> Result<Desk<K>, (JobRefusal, K)>
     ensures found { IfOk result (λ d. IsDeskOf roster.now base.now d.roster.says d.base) }
     ensures recorded { IfOk result (λ d. d.roster.text ≡ roster.now) }
     ensures opens { IfOk result (λ d. K.is_up d.keeper → SameSet
@@ -67,7 +67,7 @@ pub fn open_over<K: Keeper>(
     match parts(alloc, roster, base) {
         Ok((roster, base)) => match Desk::open(alloc, roster, base, keeper) {
             Ok(desk) => Ok(desk),
-            Err((refusal, keeper)) => Err((Refusal::Desk(refusal), keeper)),
+            Err((refusal, keeper)) => Err((JobRefusal::Desk(refusal), keeper)),
         },
         Err(refusal) => Err((refusal, keeper)),
     }
@@ -83,7 +83,7 @@ pub fn rebuild_over<K: Keeper>(
     roster: &[u8],
     base: &[u8],
     keeper: K,
-) -> Result<Desk<K>, (Refusal, K)>
+) -> Result<Desk<K>, (JobRefusal, K)>
     ensures found { IfOk result (λ d. IsDeskOf roster.now base.now d.roster.says d.base) }
     ensures recorded { IfOk result (λ d. d.roster.text ≡ roster.now) }
     ensures keeps { IfOk result (λ d. K.is_up d.keeper → SameSet
@@ -98,7 +98,7 @@ pub fn rebuild_over<K: Keeper>(
     match parts(alloc, roster, base) {
         Ok((roster, base)) => match Desk::rebuild(alloc, roster, base, keeper) {
             Ok(desk) => Ok(desk),
-            Err((refusal, keeper)) => Err((Refusal::Desk(refusal), keeper)),
+            Err((refusal, keeper)) => Err((JobRefusal::Desk(refusal), keeper)),
         },
         Err(refusal) => Err((refusal, keeper)),
     }

@@ -22,7 +22,7 @@ ghost use Rattle.desk_args.specs.declared.task.Store.TheVariants as stores;
 
 use crate::answer::Answer;
 use crate::opening::open_over;
-use crate::refusal::Refusal;
+use crate::refusal::JobRefusal;
 use crate::taking::take_input;
 use desk::{Desk, Keeper};
 use desk_args::{ExitStatus, Places, Store};
@@ -69,7 +69,7 @@ fn print_of<K: Keeper, R: Read, E: Write>(
     after: Option<Moment>,
     input: &mut R,
     err: &mut E,
-) -> Result<Answer, Refusal>
+) -> Result<Answer, JobRefusal>
     ensures found { IfOk result (λ a. (said : List ℕ) × PrintsHost desk.old.roster.says
         desk.old.base store.now host.now after (K.holds desk.old.keeper) (K.holds desk.new.keeper)
         (K.is_up desk.new.keeper × K.is_desk desk.new.keeper) (R.remaining input.old) a.status
@@ -92,7 +92,7 @@ fn print_of<K: Keeper, R: Read, E: Write>(
             text,
             status: ExitStatus::Done,
         }),
-        Err(refusal) => Err(Refusal::Desk(refusal)),
+        Err(refusal) => Err(JobRefusal::Desk(refusal)),
     }
 }
 
@@ -108,7 +108,7 @@ fn print_over<K: Keeper, R: Read, E: Write>(
     after: Option<Moment>,
     input: &mut R,
     err: &mut E,
-) -> (Result<Answer, Refusal>, K)
+) -> (Result<Answer, JobRefusal>, K)
     ensures outcome { (more : List (List ℕ)) → IsOutcome (jobs.Print places.now host.now after)
         (roster.now ∷ base.now ∷ more) (kept_by K.Keeper keeper result.1)
         (R.remaining input.old) result.0 (E.contents err.old) (E.contents err.new) }
@@ -143,7 +143,7 @@ pub fn print_host<K: Keeper, R: Read, E: Write>(
     after: Option<Moment>,
     input: &mut R,
     err: &mut E,
-) -> (Result<Answer, Refusal>, K)
+) -> (Result<Answer, JobRefusal>, K)
     ensures outcome { IsOutcome (jobs.Print places.now host.now after)
         (map (λ f. f.items) files.now) (kept_by K.Keeper keeper result.1)
         (R.remaining input.old) result.0 (E.contents err.old) (E.contents err.new) }
@@ -166,6 +166,6 @@ pub fn print_host<K: Keeper, R: Read, E: Write>(
             input,
             err,
         ),
-        _ => (Err(Refusal::FileFailed), keeper),
+        _ => (Err(JobRefusal::FileFailed), keeper),
     }
 }

@@ -12,7 +12,7 @@ ghost use Rattle.desk_args.specs.declared.task.Places.{Places as Parts};
 
 use crate::answer::Answer;
 use crate::opening::rebuild_over;
-use crate::refusal::Refusal;
+use crate::refusal::JobRefusal;
 use desk::Keeper;
 use desk_args::ExitStatus;
 use std::alloc::{AllocError, Global};
@@ -34,7 +34,7 @@ fn rebuilt<K: Keeper>(
     roster: &[u8],
     base: &[u8],
     keeper: K,
-) -> (Result<Answer, Refusal>, K)
+) -> (Result<Answer, JobRefusal>, K)
     ensures outcome { (places : Parts) (more : List (List ℕ)) (input err : Option (List ℕ))
         → IsOutcome (jobs.Rebuild places)
         (roster.now ∷ base.now ∷ more) (kept_by K.Keeper keeper result.1) input result.0 err err }
@@ -45,7 +45,7 @@ fn rebuilt<K: Keeper>(
     ensures live { LivesAfter K.Keeper result.1 (IsErrAnd result.0 IsWanting) result.0 }
 {
     let Ok(answer) = ok(alloc) else {
-        return (Err(Refusal::NoMemory), keeper);
+        return (Err(JobRefusal::NoMemory), keeper);
     };
     match rebuild_over(alloc, roster, base, keeper) {
         Ok(desk) => (Ok(answer), desk.into_keeper()),
@@ -58,7 +58,7 @@ pub fn rebuild_desk<K: Keeper>(
     alloc: Global,
     files: &[Vec<u8>],
     keeper: K,
-) -> (Result<Answer, Refusal>, K)
+) -> (Result<Answer, JobRefusal>, K)
     ensures outcome { (places : Parts) (input err : Option (List ℕ))
         → IsOutcome (jobs.Rebuild places) (map (λ f. f.items) files.now)
         (kept_by K.Keeper keeper result.1) input result.0 err err }
@@ -70,6 +70,6 @@ pub fn rebuild_desk<K: Keeper>(
 {
     match files {
         [roster, base, ..] => rebuilt(alloc, roster.as_slice(), base.as_slice(), keeper),
-        _ => (Err(Refusal::FileFailed), keeper),
+        _ => (Err(JobRefusal::FileFailed), keeper),
     }
 }

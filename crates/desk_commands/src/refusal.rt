@@ -14,7 +14,7 @@ use sudo_syntax::{NoMemory, ReadFault};
 /// desk's as their own, as `O1 NotToml`, `B1 TooManyCases` and `K6 BaseTooLarge`, and a policy's
 /// with its line, as `S5 UnknownAlias line 3`.
 #[derive(Clone, Copy, Debug, PartialEq, Eq)]
-pub enum Refusal {
+pub enum JobRefusal {
     /// A file could not be read, or an answer could not be written.
     FileFailed,
     /// A word of the command line does not have the form that its place asks for.
@@ -31,7 +31,7 @@ pub enum Refusal {
     Desk(desk::Refusal),
 }
 
-impl fmt::Display for Refusal {
+impl fmt::Display for JobRefusal {
     ghost use Rattle.std.specs.Prelude.{Some};
     ghost use Rattle.desk_commands.specs.Refusals.{reason_text};
 
@@ -39,83 +39,83 @@ impl fmt::Display for Refusal {
 
     fn fmt<W: fmt::Write>(&self, f: &mut fmt::Formatter<W>) -> fmt::Result {
         match self {
-            Refusal::FileFailed => f.write_str("F1 FileFailed"),
-            Refusal::BadWord => f.write_str("F2 BadWord"),
-            Refusal::NoMemory => f.write_str("NoMemory"),
-            Refusal::Roster(fault) => write!(f, "{fault}"),
-            Refusal::Policy(fault) => write!(f, "{fault}"),
-            Refusal::Beyond(fault) => write!(f, "{fault}"),
-            Refusal::Desk(refusal) => write!(f, "{refusal}"),
+            JobRefusal::FileFailed => f.write_str("F1 FileFailed"),
+            JobRefusal::BadWord => f.write_str("F2 BadWord"),
+            JobRefusal::NoMemory => f.write_str("NoMemory"),
+            JobRefusal::Roster(fault) => write!(f, "{fault}"),
+            JobRefusal::Policy(fault) => write!(f, "{fault}"),
+            JobRefusal::Beyond(fault) => write!(f, "{fault}"),
+            JobRefusal::Desk(refusal) => write!(f, "{refusal}"),
         }
     }
 }
 
-impl From<RosterFault> for Refusal {
-    ghost use Rattle.desk_commands.specs.declared.refusal.Refusal.TheVariants.{Roster};
+impl From<RosterFault> for JobRefusal {
+    ghost use Rattle.desk_commands.specs.declared.refusal.JobRefusal.TheVariants.{Roster};
 
     ghost from_gives = { λ f e. e ≡ Roster f };
 
-    fn from(e: RosterFault) -> Refusal {
-        Refusal::Roster(e)
+    fn from(e: RosterFault) -> JobRefusal {
+        JobRefusal::Roster(e)
     }
 }
 
-impl From<ReadFault> for Refusal {
-    ghost use Rattle.desk_commands.specs.declared.refusal.Refusal.TheVariants.{Policy};
+impl From<ReadFault> for JobRefusal {
+    ghost use Rattle.desk_commands.specs.declared.refusal.JobRefusal.TheVariants.{Policy};
 
     ghost from_gives = { λ f e. e ≡ Policy f };
 
-    fn from(e: ReadFault) -> Refusal {
-        Refusal::Policy(e)
+    fn from(e: ReadFault) -> JobRefusal {
+        JobRefusal::Policy(e)
     }
 }
 
-impl From<BeyondFault> for Refusal {
-    ghost use Rattle.desk_commands.specs.declared.refusal.Refusal.TheVariants.{Beyond};
+impl From<BeyondFault> for JobRefusal {
+    ghost use Rattle.desk_commands.specs.declared.refusal.JobRefusal.TheVariants.{Beyond};
 
     ghost from_gives = { λ f e. e ≡ Beyond f };
 
-    fn from(e: BeyondFault) -> Refusal {
-        Refusal::Beyond(e)
+    fn from(e: BeyondFault) -> JobRefusal {
+        JobRefusal::Beyond(e)
     }
 }
 
-impl From<desk::Refusal> for Refusal {
-    ghost use Rattle.desk_commands.specs.declared.refusal.Refusal.TheVariants.{Desk};
+impl From<desk::Refusal> for JobRefusal {
+    ghost use Rattle.desk_commands.specs.declared.refusal.JobRefusal.TheVariants.{Desk};
 
     ghost from_gives = { λ r e. e ≡ Desk r };
 
-    fn from(e: desk::Refusal) -> Refusal {
-        Refusal::Desk(e)
+    fn from(e: desk::Refusal) -> JobRefusal {
+        JobRefusal::Desk(e)
     }
 }
 
-impl From<NoMemory> for Refusal {
-    ghost use Rattle.desk_commands.specs.declared.refusal.Refusal.TheVariants.{NoMemory};
+impl From<NoMemory> for JobRefusal {
+    ghost use Rattle.desk_commands.specs.declared.refusal.JobRefusal.TheVariants.{NoMemory};
 
     ghost from_gives = { λ _ e. e ≡ NoMemory };
 
-    fn from(_e: NoMemory) -> Refusal {
-        Refusal::NoMemory
+    fn from(_e: NoMemory) -> JobRefusal {
+        JobRefusal::NoMemory
     }
 }
 
-impl From<AllocError> for Refusal {
-    ghost use Rattle.desk_commands.specs.declared.refusal.Refusal.TheVariants.{NoMemory};
+impl From<AllocError> for JobRefusal {
+    ghost use Rattle.desk_commands.specs.declared.refusal.JobRefusal.TheVariants.{NoMemory};
 
     ghost from_gives = { λ _ e. e ≡ NoMemory };
 
-    fn from(_e: AllocError) -> Refusal {
-        Refusal::NoMemory
+    fn from(_e: AllocError) -> JobRefusal {
+        JobRefusal::NoMemory
     }
 }
 
-impl<T: Drop> From<AllocFailed<T>> for Refusal {
-    ghost use Rattle.desk_commands.specs.declared.refusal.Refusal.TheVariants.{NoMemory};
+impl<T: Drop> From<AllocFailed<T>> for JobRefusal {
+    ghost use Rattle.desk_commands.specs.declared.refusal.JobRefusal.TheVariants.{NoMemory};
 
     ghost from_gives = { λ _ e. e ≡ NoMemory };
 
-    fn from(_e: AllocFailed<T>) -> Refusal {
-        Refusal::NoMemory
+    fn from(_e: AllocFailed<T>) -> JobRefusal {
+        JobRefusal::NoMemory
     }
 }

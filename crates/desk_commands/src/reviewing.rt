@@ -14,7 +14,7 @@ ghost use Rattle.desk_args.specs.declared.task.Store.TheVariants as stores;
 
 use crate::answer::Answer;
 use crate::opening::open_over;
-use crate::refusal::Refusal;
+use crate::refusal::JobRefusal;
 use crate::taking::take_input;
 use desk::{Desk, Keeper};
 use desk_args::{ExitStatus, Places, Store};
@@ -32,7 +32,7 @@ fn review_of<K: Keeper, R: Read, E: Write>(
     at: Moment,
     input: &mut R,
     err: &mut E,
-) -> Result<Answer, Refusal>
+) -> Result<Answer, JobRefusal>
     ensures found { IfOk result (λ a. (said : List ℕ) × ReviewsDesk desk.old.roster.says
         desk.old.base store.now at (K.holds desk.old.keeper) (K.holds desk.new.keeper)
         (K.is_up desk.new.keeper × K.is_desk desk.new.keeper) (R.remaining input.old) a.status
@@ -54,7 +54,7 @@ fn review_of<K: Keeper, R: Read, E: Write>(
             text,
             status: ExitStatus::Done,
         }),
-        Err(refusal) => Err(Refusal::Desk(refusal)),
+        Err(refusal) => Err(JobRefusal::Desk(refusal)),
     }
 }
 
@@ -69,7 +69,7 @@ fn review_over<K: Keeper, R: Read, E: Write>(
     at: Moment,
     input: &mut R,
     err: &mut E,
-) -> (Result<Answer, Refusal>, K)
+) -> (Result<Answer, JobRefusal>, K)
     ensures outcome { (more : List (List ℕ)) → IsOutcome (jobs.Review places.now at)
         (roster.now ∷ base.now ∷ more) (kept_by K.Keeper keeper result.1)
         (R.remaining input.old) result.0 (E.contents err.old) (E.contents err.new) }
@@ -102,7 +102,7 @@ pub fn review_desk<K: Keeper, R: Read, E: Write>(
     at: Moment,
     input: &mut R,
     err: &mut E,
-) -> (Result<Answer, Refusal>, K)
+) -> (Result<Answer, JobRefusal>, K)
     ensures outcome { IsOutcome (jobs.Review places.now at) (map (λ f. f.items) files.now)
         (kept_by K.Keeper keeper result.1) (R.remaining input.old) result.0
         (E.contents err.old) (E.contents err.new) }
@@ -124,6 +124,6 @@ pub fn review_desk<K: Keeper, R: Read, E: Write>(
             input,
             err,
         ),
-        _ => (Err(Refusal::FileFailed), keeper),
+        _ => (Err(JobRefusal::FileFailed), keeper),
     }
 }

@@ -16,7 +16,7 @@ ghost use Rattle.desk_commands.specs.Kept.{kept_by};
 ghost use Rattle.desk_commands.specs.Leaving.{BeganAnswer, KeepsAfterRefusal, TellsRefusal};
 ghost use Rattle.desk_commands.specs.Telling.{AppendsFront, refusal_line};
 ghost use Rattle.desk_commands.specs.Wanting.{TellsWant};
-ghost use Rattle.desk_commands.specs.declared.refusal.Refusal.TheVariants.{FileFailed};
+ghost use Rattle.desk_commands.specs.declared.refusal.JobRefusal.TheVariants.{FileFailed};
 ghost use Rattle.desk_commands.specs.private.Outcomes.{IsLeft, IsOutcome, LivesAfter, WantsIn};
 
 use crate::answer::Answer;
@@ -24,7 +24,7 @@ use crate::comparing::compare_files;
 use crate::delivering::deliver_lines;
 use crate::printing::print_host;
 use crate::rebuilding::rebuild_desk;
-use crate::refusal::Refusal;
+use crate::refusal::JobRefusal;
 use crate::reviewing::review_desk;
 use crate::telling::{refuse, write_front};
 use desk::Keeper;
@@ -58,7 +58,7 @@ fn decision_line(alloc: Global, decision: Decision) -> Result<Answer, AllocError
 
 /// The policy that a file spells. Nothing reads the file again, so its bytes are given back: what
 /// is printed may have their room.
-fn policy_of(alloc: Global, file: &mut Vec<u8>) -> Result<Policy, Refusal>
+fn policy_of(alloc: Global, file: &mut Vec<u8>) -> Result<Policy, JobRefusal>
     ensures err { IfErr result (EndsReading file.old.items) }
     ensures found { IfOk result (λ p. Spells file.old.items p) }
 {
@@ -67,7 +67,7 @@ fn policy_of(alloc: Global, file: &mut Vec<u8>) -> Result<Policy, Refusal>
     Ok(policy)
 }
 
-fn check(alloc: Global, file: &mut Vec<u8>) -> Result<Answer, Refusal>
+fn check(alloc: Global, file: &mut Vec<u8>) -> Result<Answer, JobRefusal>
     ensures err { IfErr result (EndsReading file.old.items) }
     ensures found { IfOk result (λ a. ChecksFile file.old.items a.status (string_bytes a.text)) }
 {
@@ -86,7 +86,7 @@ fn decision_of(alloc: Global, policy: Policy, invocation: &Invocation) -> Result
     Ok(compiled.decide(invocation))
 }
 
-fn decided(alloc: Global, file: &mut Vec<u8>, invocation: &Invocation) -> Result<Answer, Refusal>
+fn decided(alloc: Global, file: &mut Vec<u8>, invocation: &Invocation) -> Result<Answer, JobRefusal>
     ensures err { IfErr result (EndsReading file.old.items) }
     ensures found { IfOk result
         (λ a. DecidesByFile file.old.items invocation.now a.status (string_bytes a.text)) }
@@ -96,14 +96,14 @@ fn decided(alloc: Global, file: &mut Vec<u8>, invocation: &Invocation) -> Result
     Ok(decision_line(alloc, decision)?)
 }
 
-fn check_first(alloc: Global, files: &mut [Vec<u8>]) -> Result<Answer, Refusal>
+fn check_first(alloc: Global, files: &mut [Vec<u8>]) -> Result<Answer, JobRefusal>
     ensures found { IfOk result (λ a. OfFile (map (λ f. f.items) files.old)
         (λ file. ChecksFile file a.status (string_bytes a.text))) }
     ensures cause { IfErr result (CauseOfFile (map (λ f. f.items) files.old) EndsReading) }
 {
     match files {
         [file, ..] => check(alloc, file),
-        _ => Err(Refusal::FileFailed),
+        _ => Err(JobRefusal::FileFailed),
     }
 }
 
@@ -111,18 +111,18 @@ fn decide_by_first(
     alloc: Global,
     files: &mut [Vec<u8>],
     invocation: &Invocation,
-) -> Result<Answer, Refusal>
+) -> Result<Answer, JobRefusal>
     ensures found { IfOk result (λ a. OfFile (map (λ f. f.items) files.old)
         (λ file. DecidesByFile file invocation.now a.status (string_bytes a.text))) }
     ensures cause { IfErr result (CauseOfFile (map (λ f. f.items) files.old) EndsReading) }
 {
     match files {
         [file, ..] => decided(alloc, file, invocation),
-        _ => Err(Refusal::FileFailed),
+        _ => Err(JobRefusal::FileFailed),
     }
 }
 
-fn compared(alloc: Global, files: &[Vec<u8>], scope: &Scope) -> Result<Answer, Refusal>
+fn compared(alloc: Global, files: &[Vec<u8>], scope: &Scope) -> Result<Answer, JobRefusal>
     ensures found { IfOk result (λ r. OfFiles (map (λ f. f.items) files.now)
         (λ a b. ComparesFiles scope.now a b r.status (string_bytes r.text))) }
     ensures cause { IfErr result
@@ -130,7 +130,7 @@ fn compared(alloc: Global, files: &[Vec<u8>], scope: &Scope) -> Result<Answer, R
 {
     match files {
         [a, b, ..] => compare_files(alloc, a.as_slice(), b.as_slice(), scope),
-        _ => Err(Refusal::FileFailed),
+        _ => Err(JobRefusal::FileFailed),
     }
 }
 
@@ -143,7 +143,7 @@ fn answered<K: Keeper, R: Read, E: Write>(
     keeper: K,
     input: &mut R,
     err: &mut E,
-) -> (Result<Answer, Refusal>, K)
+) -> (Result<Answer, JobRefusal>, K)
     ensures outcome { IsOutcome job.now (map (λ f. f.items) files.old) (kept_by K.Keeper keeper
         result.1) (R.remaining input.old) result.0 (E.contents err.old) (E.contents err.new) }
     ensures left { IfErr result.0 (λ _. IsLeft job.now (map (λ f. f.items) files.old)
@@ -167,7 +167,7 @@ fn answered<K: Keeper, R: Read, E: Write>(
         } => print_host(alloc, files, keeper, places, host, *after, input, err),
         Job::Review { places, at } => { review_desk(alloc, files, keeper, places, *at, input, err) }
         Job::Rebuild { .. } => rebuild_desk(alloc, files, keeper),
-        Job::Serve { .. } => (Err(Refusal::FileFailed), keeper),
+        Job::Serve { .. } => (Err(JobRefusal::FileFailed), keeper),
     }
 }
 
@@ -182,14 +182,14 @@ fn write_answer<W: Write, E: Write>(answer: &Answer, out: &mut W, err: &mut E) -
         (E.contents err.new) (refusal_line FileFailed) }
 {
     if write_front(answer.text.as_bytes(), out).is_err() {
-        return refuse(Refusal::FileFailed, err).0;
+        return refuse(JobRefusal::FileFailed, err).0;
     }
     answer.status
 }
 
 /// Writes the answer of a job on `out`, or says on `err` why there is none.
 fn conclude<W: Write, E: Write>(
-    answer: Result<Answer, Refusal>,
+    answer: Result<Answer, JobRefusal>,
     out: &mut W,
     err: &mut E,
 ) -> ExitStatus
@@ -278,7 +278,7 @@ pub fn finish<W: Write + Drop, E: Write>(
         return status;
     }
     if out.flush().is_err() {
-        return refuse(Refusal::FileFailed, err).0;
+        return refuse(JobRefusal::FileFailed, err).0;
     }
     status
 }

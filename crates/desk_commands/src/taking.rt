@@ -18,7 +18,7 @@ ghost use Rattle.desk_commands.specs.private.Outcomes.{EndsInput, EndsTaking};
 ghost use Rattle.desk_args.specs.declared.task.Store.TheVariants as stores;
 
 use crate::lines::read_lines;
-use crate::refusal::Refusal;
+use crate::refusal::JobRefusal;
 use crate::telling::write_front;
 use desk::{Ack, Desk, Keeper};
 use desk_args::Store;
@@ -36,7 +36,7 @@ fn add_complaint(said: &mut String, number: usize, refusal: desk::Refusal) -> Re
 
 /// The same, but it fails where the desk could not take the line for want of memory or storage:
 /// then nothing can be printed.
-fn complain(said: &mut String, number: usize, refusal: desk::Refusal) -> Result<(), Refusal>
+fn complain(said: &mut String, number: usize, refusal: desk::Refusal) -> Result<(), JobRefusal>
     ensures said { OnOk result
         (string_bytes said.new ≡ string_bytes said.old ++ complaint number refusal) }
     ensures memory { OnOk result (¬ IsWant refusal) }
@@ -44,13 +44,16 @@ fn complain(said: &mut String, number: usize, refusal: desk::Refusal) -> Result<
     ensures wanting { IfErr result IsWanting }
 {
     match refusal {
-        desk::Refusal::NoMemory | desk::Refusal::Storage => Err(Refusal::Desk(refusal)),
+        desk::Refusal::NoMemory | desk::Refusal::Storage => Err(JobRefusal::Desk(refusal)),
         _ => Ok(add_complaint(said, number, refusal)?),
     }
 }
 
 /// Why lines are refused, in their order, with the number of each from 1.
-fn complaints_of(alloc: Global, answers: &[Result<Ack, desk::Refusal>]) -> Result<String, Refusal>
+fn complaints_of(
+    alloc: Global,
+    answers: &[Result<Ack, desk::Refusal>],
+) -> Result<String, JobRefusal>
     ensures said { IfOk result (λ s. string_bytes s ≡ complaints 1 answers.now) }
     ensures memory { OnOk result (HadMemory answers.now) }
     ensures err { IfErr result (EndsTaking (Contains answers.now (Err refusals.Storage))) }
@@ -66,19 +69,19 @@ fn complaints_of(alloc: Global, answers: &[Result<Ack, desk::Refusal>]) -> Resul
 }
 
 /// Writes the whole text on `err`.
-fn write_whole<E: Write>(said: &str, err: &mut E) -> Result<(), Refusal>
+fn write_whole<E: Write>(said: &str, err: &mut E) -> Result<(), JobRefusal>
     ensures said { OnOk result (Appends (E.contents err.old) (E.contents err.new) said.now) }
     ensures front { AppendsFront (E.contents err.old) (E.contents err.new) said.now }
     ensures err { IfErr result (EndsTaking ⊥) }
 {
     if write_front(said.as_bytes(), err).is_err() || err.flush().is_err() {
-        return Err(Refusal::FileFailed);
+        return Err(JobRefusal::FileFailed);
     }
     Ok(())
 }
 
 /// Says the text on `err`, if it is not empty.
-fn say<E: Write>(said: &str, err: &mut E) -> Result<(), Refusal>
+fn say<E: Write>(said: &str, err: &mut E) -> Result<(), JobRefusal>
     ensures said { OnOk result (Appends (E.contents err.old) (E.contents err.new) said.now) }
     ensures front { AppendsFront (E.contents err.old) (E.contents err.new) said.now }
     ensures err { IfErr result (EndsTaking ⊥) }
@@ -96,7 +99,7 @@ fn take_lines<K: Keeper, R: Read, E: Write>(
     desk: &mut Desk<K>,
     input: &mut R,
     err: &mut E,
-) -> Result<(), Refusal>
+) -> Result<(), JobRefusal>
     ensures taken { OnOk result ((lines : List (List ℕ)) × (said : List ℕ)
         × AreTaken desk.old.roster.says (R.remaining input.old) lines said
         × Appends (E.contents err.old) (E.contents err.new) said
@@ -126,7 +129,7 @@ pub fn take_input<K: Keeper, R: Read, E: Write>(
     desk: &mut Desk<K>,
     input: &mut R,
     err: &mut E,
-) -> Result<(), Refusal>
+) -> Result<(), JobRefusal>
     ensures taken { OnOk result ((lines : List (List ℕ)) × (said : List ℕ)
         × Takes store.now desk.old.roster.says (R.remaining input.old) lines said
         × Appends (E.contents err.old) (E.contents err.new) said

@@ -5,14 +5,14 @@ ghost use Rattle.std.specs.Fmt.InlineText.{inline_text};
 ghost use Rattle.std.specs.Io.KnownBytes.{Appends};
 ghost use Rattle.desk_commands.specs.Telling.{AppendsFront, refusal_line};
 
-use crate::refusal::Refusal;
+use crate::refusal::JobRefusal;
 use desk_args::ExitStatus;
 use std::fmt::{InlineText, Write as _};
 use std::io::{ErrorKind, Write};
 use std::{fmt, io};
 
 /// The line of a refusal. It takes no memory: a refusal may tell of want of it.
-fn line_of(refusal: Refusal) -> Result<InlineText<64>, fmt::Error>
+fn line_of(refusal: JobRefusal) -> Result<InlineText<64>, fmt::Error>
     ensures { IfOk result (λ line. inline_text line ≡ refusal_line refusal) }
 {
     let mut line = InlineText::new();
@@ -42,7 +42,7 @@ pub(crate) fn write_front<E: Write>(bytes: &[u8], err: &mut E) -> io::Result<()>
 }
 
 /// Writes the line of a refusal on `err`, as far as it takes it.
-fn say_line<E: Write>(refusal: Refusal, err: &mut E) -> io::Result<()>
+fn say_line<E: Write>(refusal: JobRefusal, err: &mut E) -> io::Result<()>
     ensures whole { OnOk result
         (Appends (E.contents err.old) (E.contents err.new) (refusal_line refusal)) }
     ensures front { AppendsFront (E.contents err.old) (E.contents err.new) (refusal_line refusal) }
@@ -57,7 +57,7 @@ fn say_line<E: Write>(refusal: Refusal, err: &mut E) -> io::Result<()>
 ///
 /// Where it could not be written, a beginning of the line was written, and nothing else can be
 /// done.
-pub fn refuse<E: Write>(refusal: Refusal, err: &mut E) -> (ExitStatus, io::Result<()>)
+pub fn refuse<E: Write>(refusal: JobRefusal, err: &mut E) -> (ExitStatus, io::Result<()>)
     ensures status { result.0 ≡ ExitStatus.Refused }
     ensures told { OnOk result.1
         (Appends (E.contents err.old) (E.contents err.new) (refusal_line refusal)) }

@@ -3,7 +3,7 @@
 use crate::changes::{Change, changes_of};
 use crate::trouble::Trouble;
 use desk::{Keeper, MemoryKeeper};
-use desk_commands::{Refusal, open_over};
+use desk_commands::{JobRefusal, open_over};
 use desk_store::KeeperError;
 use std::alloc::Global;
 use std::io;
@@ -63,7 +63,7 @@ pub(crate) fn tell_changes<K: Keeper>(
     };
     match changes_of(rt.alloc(), roster, keeper, now) {
         Ok(changes) => tell(rt, changes.as_slice(), now),
-        Err(KeeperError::NoMemory) => return Err(Trouble::from(Refusal::NoMemory)),
+        Err(KeeperError::NoMemory) => return Err(Trouble::from(JobRefusal::NoMemory)),
         Err(KeeperError::Storage) => {}
     }
     Ok(())

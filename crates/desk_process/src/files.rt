@@ -1,7 +1,7 @@
 //! The files that a job names.
 
 use crate::trouble::Trouble;
-use desk_commands::{Job, Refusal, Text, paths};
+use desk_commands::{Job, JobRefusal, Text, paths};
 use roster::RosterFault;
 use std::fs::File;
 use std::io::{self, Read};
@@ -44,7 +44,7 @@ fn roster_file(rt: &HostRuntime, path: &Text) -> Result<Vec<u8>, Trouble> {
     }
     Err(Trouble::at(
         rt.alloc(),
-        Refusal::Roster(RosterFault::OutOfRange),
+        JobRefusal::Roster(RosterFault::OutOfRange),
         path.as_str(),
         &"more than 16 MiB",
     ))

@@ -5,15 +5,15 @@ use crate::service::End;
 use crate::stores::tell_new;
 use crate::trouble::Trouble;
 use desk::Keeper;
-use desk_commands::{Address, ExitStatus, Refusal, open_over};
+use desk_commands::{Address, ExitStatus, JobRefusal, open_over};
 use sha2::{Digest, Sha256};
 use std::alloc::Global;
 
 /// The SHA-256 digest of the roster's text, as hex.
-fn digest_of(alloc: Global, roster: &[u8]) -> Result<String, Refusal> {
+fn digest_of(alloc: Global, roster: &[u8]) -> Result<String, JobRefusal> {
     match hex::encode(alloc, Sha256::digest(roster)) {
         Ok(text) => Ok(text),
-        Err(_) => Err(Refusal::NoMemory),
+        Err(_) => Err(JobRefusal::NoMemory),
     }
 }
 
@@ -21,7 +21,7 @@ fn digest_of(alloc: Global, roster: &[u8]) -> Result<String, Refusal> {
 fn status_of(served: Result<End, Trouble>) -> Result<ExitStatus, Trouble> {
     match served? {
         End::Served => Ok(ExitStatus::Done),
-        End::StorageFailed => Err(Trouble::from(Refusal::Desk(desk::Refusal::Storage))),
+        End::StorageFailed => Err(Trouble::from(JobRefusal::Desk(desk::Refusal::Storage))),
     }
 }
 
@@ -40,7 +40,7 @@ pub(crate) fn serve<K: Keeper>(
     requests: Option<u64>,
 ) -> (Result<ExitStatus, Trouble>, K) {
     let [roster, base, ..] = files else {
-        return (Err(Trouble::from(Refusal::FileFailed)), keeper);
+        return (Err(Trouble::from(JobRefusal::FileFailed)), keeper);
     };
     let digest = match digest_of(rt.alloc(), roster.as_slice()) {
         Ok(digest) => digest,

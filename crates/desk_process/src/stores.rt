@@ -1,7 +1,7 @@
 //! Where a job's desk keeps its messages.
 
 use crate::trouble::Trouble;
-use desk_commands::{Job, Refusal, Store, Sync};
+use desk_commands::{Job, JobRefusal, Store, Sync};
 use desk_store::SqliteKeeper;
 use sqlite::{Alter, Connection, Error, ErrorCode};
 use sqlite_disk::Start;
@@ -47,10 +47,10 @@ fn asks(job: &Job) -> bool {
 fn refused(rt: &HostRuntime, path: &str, error: Error) -> Trouble {
     let alloc = rt.alloc();
     match OpenOptions::new().read(true).write(true).open(rt, path) {
-        Ok(_) => Trouble::at(alloc, Refusal::FileFailed, path, &error),
+        Ok(_) => Trouble::at(alloc, JobRefusal::FileFailed, path, &error),
         Err(system) => match format!(in alloc; "{error}: {system}") {
-            Ok(why) => Trouble::at(alloc, Refusal::FileFailed, path, &why),
-            Err(_) => Trouble::from(Refusal::NoMemory),
+            Ok(why) => Trouble::at(alloc, JobRefusal::FileFailed, path, &why),
+            Err(_) => Trouble::from(JobRefusal::NoMemory),
         },
     }
 }
@@ -81,10 +81,10 @@ pub(crate) fn open_store<S: Start>(
             Ok(Opened { stored, is_new })
         }
         Err((Error::SqliteFailure(ErrorCode::OutOfMemory), _)) => {
-            Err(Trouble::from(Refusal::NoMemory))
+            Err(Trouble::from(JobRefusal::NoMemory))
         }
         Err((Error::SqliteFailure(ErrorCode::SystemIoFailure | ErrorCode::DiskFull), Some(_))) => {
-            Err(Trouble::from(Refusal::Desk(desk::Refusal::Storage)))
+            Err(Trouble::from(JobRefusal::Desk(desk::Refusal::Storage)))
         }
         Err((error, _)) => Err(refused(rt, path, error)),
     }

@@ -1,6 +1,6 @@
 //! Why a job is refused, and what failed where a file, a stream or an address did.
 
-use desk_commands::{ExitStatus, Refusal, refuse};
+use desk_commands::{ExitStatus, JobRefusal, refuse};
 use std::alloc::{AllocFailed, Global};
 use std::fmt::Display;
 use std::io;
@@ -8,14 +8,19 @@ use std::io;
 /// Why a job is refused.
 #[derive(Drop)]
 pub(crate) struct Trouble {
-    refusal: Refusal,
+    refusal: JobRefusal,
     /// What failed, and why; none where nothing of the kind did, or memory ran out.
     cause: Option<String>,
 }
 
 impl Trouble {
     /// A refusal, since this failed for that reason.
-    pub(crate) fn at<T: Display>(alloc: Global, refusal: Refusal, what: &str, why: &T) -> Trouble {
+    pub(crate) fn at<T: Display>(
+        alloc: Global,
+        refusal: JobRefusal,
+        what: &str,
+        why: &T,
+    ) -> Trouble {
         Trouble {
             refusal,
             cause: format!(in alloc; "{what}: {why}").ok(),
@@ -25,9 +30,9 @@ impl Trouble {
     /// What the system says of a file, a stream or an address.
     pub(crate) fn of_system(alloc: Global, what: &str, error: io::Error) -> Trouble {
         if error.kind() == io::ErrorKind::OutOfMemory {
-            return Trouble::from(Refusal::NoMemory);
+            return Trouble::from(JobRefusal::NoMemory);
         }
-        Trouble::at(alloc, Refusal::FileFailed, what, &error)
+        Trouble::at(alloc, JobRefusal::FileFailed, what, &error)
     }
 
     /// Says the refusal on the standard error, and on a further line what failed.
@@ -52,8 +57,8 @@ pub(crate) fn tell_failed(rt: &HostRuntime, what: &str, failed: Option<io::Error
     }
 }
 
-impl From<Refusal> for Trouble {
-    fn from(refusal: Refusal) -> Trouble {
+impl From<JobRefusal> for Trouble {
+    fn from(refusal: JobRefusal) -> Trouble {
         Trouble {
             refusal,
             cause: None,
@@ -63,6 +68,6 @@ impl From<Refusal> for Trouble {
 
 impl<T: Drop> From<AllocFailed<T>> for Trouble {
     fn from(_e: AllocFailed<T>) -> Trouble {
-        Trouble::from(Refusal::NoMemory)
+        Trouble::from(JobRefusal::NoMemory)
     }
 }

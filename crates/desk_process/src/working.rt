@@ -7,7 +7,7 @@ use crate::serving::serve;
 use crate::stores::{Opened, close, open_store, place_of};
 use crate::trouble::{Trouble, tell_failed};
 use desk::{Keeper, MemoryKeeper};
-use desk_commands::{ExitStatus, Job, Refusal, Sync, finish, run};
+use desk_commands::{ExitStatus, Job, JobRefusal, Sync, finish, run};
 use desk_store::SqliteKeeper;
 use sqlite::Alter;
 use sqlite_disk::{Start, Unknown, Wary};
@@ -23,10 +23,10 @@ fn run_on_streams<K: Keeper + Drop>(
 ) -> (Result<ExitStatus, Trouble>, K) {
     let alloc = rt.alloc();
     let Ok(reader) = BufReader::new(alloc, rt.stdin()) else {
-        return (Err(Trouble::from(Refusal::NoMemory)), keeper);
+        return (Err(Trouble::from(JobRefusal::NoMemory)), keeper);
     };
     let Ok(mut out) = BufWriter::new(alloc, Watched::new(rt.stdout())) else {
-        return (Err(Trouble::from(Refusal::NoMemory)), keeper);
+        return (Err(Trouble::from(JobRefusal::NoMemory)), keeper);
     };
     let mut input = Lines::new(reader);
     let mut err = rt.stderr();

@@ -7,12 +7,12 @@ use Rattle.httparse.specs.Grammar.{AllPass, EndsInTarget, Field, IsField, IsRequ
 use Rattle.httparse.specs.Grammar.{LineEnd, crlf, lf, MayBecomeRequest, ReadsRequest}
 use Rattle.httparse.specs.Grammar.{RequestHead, is_token_byte, is_uri_byte, is_value_byte, print_blank, print_end, print_field, print_request, print_version}
 use Rattle.relay_http.specs.Scan.{line_after, scanned}
-use Rattle.relay_http.specs.declared.line.Line.{Line}
-use Rattle.relay_http.specs.declared.line.Line.TheVariants.{Blank, First, Begun, Within, Ended}
+use Rattle.relay_http.specs.declared.head_scan.HeadScan.{HeadScan}
+use Rattle.relay_http.specs.declared.head_scan.HeadScan.TheVariants.{Blank, First, Begun, Within, Ended}
 
 -- ---- scans, one after the other
 
-pub scanned-append : (line : Line) (a b : List ℕ) → scanned line (a ++ b) ≡ scanned (scanned line a) b
+pub scanned-append : (line : HeadScan) (a b : List ℕ) → scanned line (a ++ b) ≡ scanned (scanned line a) b
 scanned-append line [] b = refl
 scanned-append line (x ∷ a) b = scanned-append (line_after line x) a b
 
@@ -21,8 +21,8 @@ ended_stays [] = refl
 ended_stays (b ∷ bytes) = ended_stays bytes
 
 -- two parts, one after the other
-both : (line mid last : Line) (a b : List ℕ) → scanned line a ≡ mid → scanned mid b ≡ last → scanned line (a ++ b) ≡ last
-both line mid last a b f g = scanned-append line a b ∙ ap (λ (l : Line). scanned l b) f ∙ g
+both : (line mid last : HeadScan) (a b : List ℕ) → scanned line a ≡ mid → scanned mid b ≡ last → scanned line (a ++ b) ≡ last
+both line mid last a b f g = scanned-append line a b ∙ ap (λ (l : HeadScan). scanned l b) f ∙ g
 
 -- ---- bytes that end no line
 
@@ -72,10 +72,10 @@ blank_stays (crlf ∷ ends) = blank_stays ends
 blank_stays (lf ∷ ends) = blank_stays ends
 
 -- the first byte that ends no line begins one
-begins : (line next : Line) (bytes : List ℕ) → ((b : ℕ) → (b == 13) ≡ false → (b == 10) ≡ false → line_after line b ≡ next)
+begins : (line next : HeadScan) (bytes : List ℕ) → ((b : ℕ) → (b == 13) ≡ false → (b == 10) ≡ false → line_after line b ≡ next)
     → ((rest : List ℕ) → NoEnd rest → scanned next rest ≡ next) → 0 < length bytes → NoEnd bytes → scanned line bytes ≡ next
 begins line next [] step stays some h = absurd (omega (arith, some))
-begins line next (b ∷ bytes) step stays some h = ap (λ (l : Line). scanned l bytes) (step b h.0 h.1) ∙ stays bytes h.2
+begins line next (b ∷ bytes) step stays some h = ap (λ (l : HeadScan). scanned l bytes) (step b h.0 h.1) ∙ stays bytes h.2
 
 blank_next : (b : ℕ) → (b == 13) ≡ false → (b == 10) ≡ false → line_after Blank b ≡ First
 blank_next b cr nl = by (b == 13) (b == 10) cr nl

@@ -30,8 +30,8 @@ use Rattle.relay_http.specs.declared.fault.RequestFault.{RequestFault}
 use Rattle.relay_http.specs.declared.fault.RequestFault.TheVariants.{BadHead, BadTarget, NoRoute, BadMethod, LengthRequired, BadLength}
 use Rattle.relay_http.specs.declared.fault.RequestFault.TheVariants.{TooLong, ShortBody, BadMoment}
 use Rattle.relay_http.specs.declared.head.Head.{Head}
-use Rattle.relay_http.specs.declared.line.Line.{Line}
-use Rattle.relay_http.specs.declared.line.Line.TheVariants.{Blank, Ended}
+use Rattle.relay_http.specs.declared.head_scan.HeadScan.{HeadScan}
+use Rattle.relay_http.specs.declared.head_scan.HeadScan.TheVariants.{Blank, Ended}
 use Rattle.relay_http.specs.declared.route.Route.{Route}
 use Rattle.relay_http.specs.declared.route.Route.TheVariants.{Messages, AllMessages, Count, Grants, Parked, HostFile, HostFileAfter, Report}
 use Rattle.relay_http.specs.declared.route.Route.TheVariants.{Requests, RequestsAfter, NamedRequest}
@@ -353,13 +353,13 @@ all_behind bytes h rest reads = (
       (ReadsRequest-append (take 8192 bytes) h rest (drop 8192 bytes) reads),
 )
 
-pub no_head_yet : (bytes : List ℕ) (line : Line) → line ≡ scanned Blank bytes → line ≢ Ended → HasNoHead bytes
+pub no_head_yet : (bytes : List ℕ) (line : HeadScan) → line ≡ scanned Blank bytes → line ≢ Ended → HasNoHead bytes
 no_head_yet bytes line is unended h has =
     let x = all_behind bytes h has.0.0 has.0.1 in
     unended (is ∙ ended_behind bytes h x.0 x.1)
 
-pub still_open : (bytes : List ℕ) (line : Line) → length bytes < 8192 → HasNoRequest (front bytes) → MayBecomeRequest (front bytes) → line ≡ scanned Blank bytes
-    → line ≢ Ended
+pub still_open : (bytes : List ℕ) (line : HeadScan) → length bytes < 8192 → HasNoRequest (front bytes) → MayBecomeRequest (front bytes)
+    → line ≡ scanned Blank bytes → line ≢ Ended
 unfolding front
 still_open bytes line small none may is e =
     let all : take 8192 bytes ≡ bytes = take_all 8192 bytes (omega (arith, small)) in
@@ -367,10 +367,10 @@ still_open bytes line small none may is e =
     none x.0 [] (subst (λ (l : List ℕ). ReadsRequest l x.0 []) (sym all) x.1)
 
 -- the scan of what came next is that of all
-pub scan_on : (line next : Line) (bytes : List ℕ) (from : ℕ) → line ≡ scanned Blank (take from bytes)
+pub scan_on : (line next : HeadScan) (bytes : List ℕ) (from : ℕ) → line ≡ scanned Blank (take from bytes)
     → next ≡ scanned line (take (length bytes - from) (drop from bytes)) → next ≡ scanned Blank bytes
 scan_on line next bytes from before here =
-    here ∙ ap (λ (l : List ℕ). scanned line l) (take_rest bytes from) ∙ ap (λ (l : Line). scanned l (drop from bytes)) before
+    here ∙ ap (λ (l : List ℕ). scanned line l) (take_rest bytes from) ∙ ap (λ (l : HeadScan). scanned l (drop from bytes)) before
     ∙ sym (scanned-append Blank (take from bytes) (drop from bytes)) ∙ ap (λ (l : List ℕ). scanned Blank l) (take-append-drop from bytes)
 
 pub never_has : (bytes : List ℕ) → NeverHasHead bytes → HasNoHead bytes

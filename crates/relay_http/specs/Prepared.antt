@@ -4,9 +4,9 @@ use Rattle.std.specs.declared.alloc.Global.{Global}
 use Rattle.desk.specs.declared.refusal.Refusal.{Refusal}
 use Rattle.relay_http.specs.Outgoing.{body_bytes}
 use Rattle.relay_http.specs.Responses.{Response, done, refusal}
-use Rattle.relay_http.specs.declared.answer.Answer.{Answer}
+use Rattle.relay_http.specs.declared.prepared.PreparedResponse.{PreparedResponse}
 
-abbrev pub response_of : Answer → Response
+abbrev pub response_of : PreparedResponse → Response
 response_of a = record { status = a.status; body = body_bytes a.body }
 
 -- the response to a question of the desk

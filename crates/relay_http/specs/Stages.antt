@@ -16,7 +16,7 @@ use Rattle.relay_http.specs.declared.fault.RequestFault.TheVariants.{LengthRequi
 use Rattle.relay_http.specs.declared.head.Head.{Head}
 use Rattle.relay_http.specs.declared.head.Looked.{Looked}
 use Rattle.relay_http.specs.declared.head.Looked.TheVariants as looked
-use Rattle.relay_http.specs.declared.line.Line.TheVariants.{Blank, Ended}
+use Rattle.relay_http.specs.declared.head_scan.HeadScan.TheVariants.{Blank, Ended}
 
 -- the length of the content, by the values of Content-Length
 abbrev pub size_by : (lengths : List (List ℕ)) → Result ℕ RequestFault

@@ -11,15 +11,15 @@ ghost use Rattle.relay_http.specs.Prepared.{response_of, to_question};
 ghost use Rattle.relay_http.specs.Responses.{TellsRefusal};
 
 use crate::action::Action;
-use crate::answer::{Answer, to_delivery, to_fault, to_question};
 use crate::bodies::{count_text, lines_text, live_text};
+use crate::prepared::{PreparedResponse, to_delivery, to_fault, to_question};
 use desk::{Desk, Keeper, Refusal};
 use findings::Pick;
 use std::alloc::Global;
 use sudo_words::{HostName, Moment, WordFault};
 
 /// The answer to a delivery. Once the message is acknowledged no memory is taken.
-fn delivered<K: Keeper>(desk: &mut Desk<K>, relay: &str, body: &[u8]) -> Answer
+fn delivered<K: Keeper>(desk: &mut Desk<K>, relay: &str, body: &[u8]) -> PreparedResponse
     ensures answered { IsAnswered desk.old.roster desk.old.base
         (K.is_up desk.new.keeper) (K.holds desk.old.keeper) (K.holds desk.new.keeper)
         (K.is_same desk.old.keeper desk.new.keeper) (Serves K.Keeper desk.old.keeper
@@ -211,7 +211,11 @@ fn report<K: Keeper>(desk: &mut Desk<K>, at: Moment) -> Result<String, Refusal>
 }
 
 /// The answer of the desk to an action.
-pub fn answered<K: Keeper>(alloc: Global, desk: &mut Desk<K>, action: Action<'_>) -> Answer
+pub fn answered<K: Keeper>(
+    alloc: Global,
+    desk: &mut Desk<K>,
+    action: Action<'_>,
+) -> PreparedResponse
     ensures answered { IsAnswered desk.old.roster desk.old.base
         (K.is_up desk.new.keeper) (K.holds desk.old.keeper) (K.holds desk.new.keeper)
         (K.is_same desk.old.keeper desk.new.keeper)

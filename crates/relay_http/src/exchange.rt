@@ -15,14 +15,14 @@ ghost use Rattle.relay_http.specs.declared.exchange.Stage.TheVariants as stages;
 ghost use Rattle.relay_http.specs.declared.head.Head.{Head};
 ghost use Rattle.relay_http.specs.Stages.{IsFound, IsStage};
 ghost use Rattle.relay_http.specs.RequestBytes.{HasHead, IsHttpRequest, allow, most_head_bytes};
-ghost use Rattle.relay_http.specs.declared.line.Line.TheVariants.{Blank, Ended};
+ghost use Rattle.relay_http.specs.declared.head_scan.HeadScan.TheVariants.{Blank, Ended};
 ghost use Rattle.relay_http.specs.declared.route.Methods.TheVariants.{Post};
 
 use crate::action::HttpRequest;
 use crate::counted::Counted;
 use crate::fault::RequestFault;
 use crate::head::{Head, Looked, MOST_HEAD_BYTES, look};
-use crate::line::{Line, scan};
+use crate::head_scan::{HeadScan, scan};
 use crate::methods::allow;
 use crate::outgoing::ExchangeBuffer;
 use crate::request::{NO_HEAD, is_cut_short, request_from};
@@ -61,7 +61,7 @@ pub enum ReceiveFault {
 #[derive(Clone, Copy)]
 pub(crate) enum Stage {
     /// No head is there yet; the scan for its end has come so far.
-    Begins(Line),
+    Begins(HeadScan),
     /// The head is there, and so many bytes of the content are missing.
     Lacks(Head, usize),
     /// The head is there, and the content where it is asked for.
@@ -121,7 +121,7 @@ fn found(routes: &Routes, head: Head, bytes: &[u8]) -> Stage
 }
 
 /// How far these bytes have come, where the scan has come so far before those from this place on.
-fn looked(routes: &Routes, line: Line, bytes: &[u8], from: usize) -> Stage
+fn looked(routes: &Routes, line: HeadScan, bytes: &[u8], from: usize) -> Stage
     requires from { from ≤ length bytes.now }
     requires line { line ≡ scanned Blank (take from bytes.now) }
     ensures { IsStage bytes.now result }
@@ -141,7 +141,7 @@ fn looked(routes: &Routes, line: Line, bytes: &[u8], from: usize) -> Stage
 /// How far the scan comes with the bytes from this place on, if they are not worth a look. They are
 /// where they are the first, once the request line is there, once the head is, and once no more
 /// bytes can be a head.
-fn scanned_on(line: Line, bytes: &[u8], from: usize) -> Option<Line>
+fn scanned_on(line: HeadScan, bytes: &[u8], from: usize) -> Option<HeadScan>
     requires from { from ≤ length bytes.now }
     requires line { line ≡ scanned Blank (take from bytes.now) }
     ensures { IfSome result (λ next. (next ≡ scanned Blank bytes.now) × (next ≢ Ended)
@@ -156,7 +156,7 @@ fn scanned_on(line: Line, bytes: &[u8], from: usize) -> Option<Line>
 
 /// Looks at the bytes. It is done seldom, and stands apart so that the loop that reads is short.
 #[inline(never)]
-fn look_again(stage: &mut Stage, routes: &Routes, line: Line, bytes: &[u8], from: usize)
+fn look_again(stage: &mut Stage, routes: &Routes, line: HeadScan, bytes: &[u8], from: usize)
     requires from { from ≤ length bytes.now }
     requires line { line ≡ scanned Blank (take from bytes.now) }
     ensures { IsStage bytes.now stage.new }
@@ -219,7 +219,7 @@ impl Exchange {
     {
         Exchange {
             come: Vec::new(alloc),
-            stage: Stage::Begins(Line::Blank),
+            stage: Stage::Begins(HeadScan::Blank),
         }
     }
 
@@ -230,7 +230,7 @@ impl Exchange {
     {
         Ok(Exchange {
             come: Vec::with_capacity(alloc, MOST_ROOM)?,
-            stage: Stage::Begins(Line::Blank),
+            stage: Stage::Begins(HeadScan::Blank),
         })
     }
 

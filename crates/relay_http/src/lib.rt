@@ -4,7 +4,6 @@
 #![tactic(auto)]
 
 mod action;
-mod answer;
 mod answering;
 mod bodies;
 mod body;
@@ -14,10 +13,11 @@ mod exchange;
 mod fault;
 mod fields;
 mod head;
+mod head_scan;
 pub mod laws;
-mod line;
 mod methods;
 mod outgoing;
+mod prepared;
 mod reading;
 mod refusal_line;
 mod request;

@@ -3,7 +3,7 @@ use Rattle.desk.specs.Delivery.{delivery_of}
 use Rattle.desk_commands.proofs.LeavingLemmas.{all_delivered, if_err}
 use Rattle.desk_store.proofs.ServingLemmas.{served_as}
 use Rattle.desk_commands.proofs.WantLemmas.{shown_refused, wanting_as}
-use Rattle.desk_commands.specs.declared.refusal.Refusal.TheVariants.{Desk, NoMemory}
+use Rattle.desk_commands.specs.declared.refusal.JobRefusal.TheVariants.{Desk, NoMemory}
 use Rattle.desk_commands.proofs.delivering.deliver_to.Goals as goal
 
 pub returns-in_err-text_of-clause-left : goal.returns-in_err-text_of-clause-left

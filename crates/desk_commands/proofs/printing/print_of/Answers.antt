@@ -6,7 +6,7 @@ use Rattle.desk_store.specs.Sets.{SameSet}
 use Rattle.desk_store.proofs.ServingLemmas.{failed_later}
 use Rattle.desk_commands.specs.Printing.{PrintsHost}
 use Rattle.desk_commands.specs.Taking.{HeldWith, Takes}
-use Rattle.desk_commands.specs.declared.refusal.Refusal.TheVariants as reasons
+use Rattle.desk_commands.specs.declared.refusal.JobRefusal.TheVariants as reasons
 use Rattle.desk_commands.specs.private.Outcomes.{EndsFile}
 use Rattle.desk_commands.proofs.PrintLemmas.{ends_file, prints}
 use Rattle.desk_args.specs.declared.status.ExitStatus.TheVariants.{Done}

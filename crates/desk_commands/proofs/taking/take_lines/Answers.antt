@@ -7,7 +7,7 @@ use Rattle.desk_commands.proofs.OverLemmas.{nothing_said}
 use Rattle.desk_store.proofs.ServingLemmas.{served_as}
 use Rattle.desk_commands.proofs.WantLemmas.{none_wanting, wanting_as}
 use Rattle.desk_commands.specs.Taking.{HadMemory}
-use Rattle.desk_commands.specs.declared.refusal.Refusal.TheVariants.{Desk}
+use Rattle.desk_commands.specs.declared.refusal.JobRefusal.TheVariants.{Desk}
 use Rattle.desk_commands.proofs.taking.take_lines.Goals as goal
 
 on_ok : {T E P Q : Type 0} (r : Result T E) → (P → Q) → OnOk r P → OnOk r Q

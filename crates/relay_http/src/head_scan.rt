@@ -2,11 +2,11 @@
 
 ghost use Rattle.std.specs.Prelude.{◌≡◌, ◌≢◌, false};
 ghost use Rattle.relay_http.specs.Scan.{line_after, scanned};
-ghost use Rattle.relay_http.specs.declared.line.Line.TheVariants.{Ended};
+ghost use Rattle.relay_http.specs.declared.head_scan.HeadScan.TheVariants.{Ended};
 
 /// How far a scan for the empty line that ends a head has come.
 #[derive(Clone, Copy, Debug, PartialEq, Eq)]
-pub enum Line {
+pub enum HeadScan {
     /// Before the first line that is not empty.
     Blank,
     /// Within that line, which is the request line.
@@ -19,61 +19,61 @@ pub enum Line {
     Ended,
 }
 
-impl Line {
+impl HeadScan {
     /// How far the scan has come after one more byte.
-    fn after(self, byte: u8) -> Line
+    fn after(self, byte: u8) -> HeadScan
         ensures { result ≡ line_after self byte }
     {
         match self {
-            Line::Blank => {
+            HeadScan::Blank => {
                 if byte == b'\r' || byte == b'\n' {
-                    Line::Blank
+                    HeadScan::Blank
                 } else {
-                    Line::First
+                    HeadScan::First
                 }
             }
-            Line::First => {
+            HeadScan::First => {
                 if byte == b'\n' {
-                    Line::Begun
+                    HeadScan::Begun
                 } else {
-                    Line::First
+                    HeadScan::First
                 }
             }
-            Line::Begun => {
+            HeadScan::Begun => {
                 if byte == b'\r' {
-                    Line::Begun
+                    HeadScan::Begun
                 } else if byte == b'\n' {
-                    Line::Ended
+                    HeadScan::Ended
                 } else {
-                    Line::Within
+                    HeadScan::Within
                 }
             }
-            Line::Within => {
+            HeadScan::Within => {
                 if byte == b'\n' {
-                    Line::Begun
+                    HeadScan::Begun
                 } else {
-                    Line::Within
+                    HeadScan::Within
                 }
             }
-            Line::Ended => Line::Ended,
+            HeadScan::Ended => HeadScan::Ended,
         }
     }
 
     /// Whether the request line is not there yet.
     fn is_before_fields(self) -> bool {
-        matches!(self, Line::Blank | Line::First)
+        matches!(self, HeadScan::Blank | HeadScan::First)
     }
 
     /// Whether the empty line is there.
     fn is_ended(self) -> bool
         ensures { result ≡ false → self ≢ Ended }
     {
-        matches!(self, Line::Ended)
+        matches!(self, HeadScan::Ended)
     }
 
     /// Whether the bytes are worth another look where the scan came on to here: the request line
     /// has ended since, or the head has.
-    pub fn is_due(self, next: Line) -> bool
+    pub fn is_due(self, next: HeadScan) -> bool
         ensures { result ≡ false → next ≢ Ended }
     {
         next.is_ended() || (self.is_before_fields() && !next.is_before_fields())
@@ -81,7 +81,7 @@ impl Line {
 }
 
 /// How far the scan has come after more bytes.
-pub fn scan(line: Line, bytes: &[u8]) -> Line
+pub fn scan(line: HeadScan, bytes: &[u8]) -> HeadScan
     ensures { result ≡ scanned line bytes.now }
 {
     let mut line = line;

@@ -13,19 +13,19 @@ use desk::{Ack, Refusal};
 
 /// A response, before it is written: its status, its body, and the desk's refusal that it tells.
 #[derive(Debug, Drop)]
-pub struct Answer {
+pub struct PreparedResponse {
     pub status: ResponseStatus,
     pub body: Body,
     pub refusal: Option<Refusal>,
 }
 
 /// The response to a request that is refused by its bytes alone. It takes no memory.
-pub fn to_fault(fault: RequestFault) -> Answer
+pub fn to_fault(fault: RequestFault) -> PreparedResponse
     ensures status { (response_of result).status ≡ status_of fault }
     ensures body { (response_of result).body ≡ fault_line fault }
     ensures told { TellsRefusal result.refusal (response_of result) }
 {
-    Answer {
+    PreparedResponse {
         status: fault.status(),
         body: Body::Fixed(fault.line()),
         refusal: None,
@@ -33,11 +33,11 @@ pub fn to_fault(fault: RequestFault) -> Answer
 }
 
 /// The response to what the desk refuses. It takes no memory.
-fn to_refusal(reason: Refusal) -> Answer
+fn to_refusal(reason: Refusal) -> PreparedResponse
     ensures response { response_of result ≡ refusal reason }
     ensures told { TellsRefusal result.refusal (response_of result) }
 {
-    Answer {
+    PreparedResponse {
         status: refusal_status(reason),
         body: Body::Fixed(refusal_line(reason)),
         refusal: Some(reason),
@@ -45,12 +45,12 @@ fn to_refusal(reason: Refusal) -> Answer
 }
 
 /// The response to a delivery. It takes no memory.
-pub fn to_delivery(answer: Result<Ack, Refusal>) -> Answer
+pub fn to_delivery(answer: Result<Ack, Refusal>) -> PreparedResponse
     ensures response { response_of result ≡ to_delivery answer }
     ensures told { TellsRefusal result.refusal (response_of result) }
 {
     match answer {
-        Ok(_) => Answer {
+        Ok(_) => PreparedResponse {
             status: ResponseStatus::Done,
             body: Body::Fixed(b"ack\n"),
             refusal: None,
@@ -60,12 +60,12 @@ pub fn to_delivery(answer: Result<Ack, Refusal>) -> Answer
 }
 
 /// The response to a question of the desk.
-pub fn to_question(answer: Result<String, Refusal>) -> Answer
+pub fn to_question(answer: Result<String, Refusal>) -> PreparedResponse
     ensures response { response_of result ≡ to_question answer }
     ensures told { TellsRefusal result.refusal (response_of result) }
 {
     match answer {
-        Ok(text) => Answer {
+        Ok(text) => PreparedResponse {
             status: ResponseStatus::Done,
             body: Body::Made(text),
             refusal: None,
