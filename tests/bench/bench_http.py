@@ -425,8 +425,9 @@ def newlines(folder: str) -> int:
 
 
 def looks(folder: str) -> int:
-    """How often a head is looked at and parsed for one POST that comes at once, by gdb: once each,
-    where the program has their symbols; 1 where it is oftener."""
+    """How often a head is looked at and parsed for one POST that comes at once, by gdb: once each.
+    The compiler may make one part of the other: what has a symbol is counted, `look_again` always;
+    1 where one is called oftener, or none has a symbol."""
     if not (shutil.which("gdb") and shutil.which("nm")):
         print("looks at a head: left out, for gdb or nm is not there")
         return 0
@@ -434,10 +435,19 @@ def looks(folder: str) -> int:
         ["nm", "-C", desk.PROGRAM[0]], stdout=subprocess.PIPE, text=True, check=True
     ).stdout
     wrong = 0
-    for name in ("relay_http::head::look", "httparse::spans::parse_request"):
-        if not re.search(rf" {name}(::<.*>)?$", symbols, re.MULTILINE):
-            print(f"{name}: left out, for the program has no such symbol")
-            continue
+    names = [
+        name
+        for name in (
+            "relay_http::exchange::look_again",
+            "relay_http::head::look",
+            "httparse::spans::parse_request",
+        )
+        if re.search(rf" {name}(::<.*>)?$", symbols, re.MULTILINE)
+    ]
+    if not names:
+        print("looks at a head: the program has no symbol to count them by: FAILS")
+        return 1
+    for name in names:
         with serving(folder, "--requests", "1") as server:
             words = ["gdb", "--batch", "--quiet", "--pid", str(server.process.pid)]
             for said in (f"break '{name}'", "ignore 1 1000000", "continue", "info breakpoints"):
