@@ -32,9 +32,10 @@ use desk_args::{ExitStatus, Job};
 use review::Scope;
 use std::alloc::{AllocError, Global};
 use std::io::{BufWriter, Read, Write};
+use std::mem::forget;
 use sudo_compiled::compile_owned;
-use sudo_decide::{Decision, Invocation};
-use sudo_syntax::{Policy, print_owned, read_policy};
+use sudo_decide::{Decision, Invocation, decide};
+use sudo_syntax::{Entry, Policy, print_policy, read_policy};
 use sudo_words::NoMemory;
 
 fn status_of(decision: Decision) -> ExitStatus
@@ -67,23 +68,41 @@ fn policy_of(alloc: Global, file: &mut Vec<u8>) -> Result<Policy, JobRefusal>
     Ok(policy)
 }
 
+/// The canonical text of the policy that a file spells. The policy is left in memory, since the
+/// process ends with the job: to free each of its names takes a seventh of what the job takes.
 fn check(alloc: Global, file: &mut Vec<u8>) -> Result<Answer, JobRefusal>
     ensures err { IfErr result (EndsReading file.old.items) }
     ensures found { IfOk result (λ a. ChecksFile file.old.items a.status (string_bytes a.text)) }
 {
     let policy = policy_of(alloc, file)?;
+    let text = print_policy(alloc, &policy)?;
+    forget(policy);
     Ok(Answer {
-        text: print_owned(alloc, policy)?,
+        text,
         status: ExitStatus::Done,
     })
 }
 
-/// What the policy decides, once it is compiled. The policy's memory is given back on the way.
+/// Whether an entry defines an alias.
+fn is_definition(entry: &Entry) -> bool {
+    !matches!(entry, Entry::Rule(_))
+}
+
+/// What the policy decides. It is asked once, so one without aliases is asked as it is. Where there
+/// are aliases it is compiled, which writes each out once, however often lists lead to it; the
+/// policy's memory is given back on the way. What is left then stays in memory, as in `check`.
 fn decision_of(alloc: Global, policy: Policy, invocation: &Invocation) -> Result<Decision, NoMemory>
     ensures { IfOk result (λ d. Decides policy invocation.now d) }
 {
-    let compiled = compile_owned(alloc, policy)?;
-    Ok(compiled.decide(invocation))
+    if policy.entries().iter().any(|entry| is_definition(entry)) {
+        let compiled = compile_owned(alloc, policy)?;
+        let decision = compiled.decide(invocation);
+        forget(compiled);
+        return Ok(decision);
+    }
+    let decision = decide(&policy, invocation);
+    forget(policy);
+    Ok(decision)
 }
 
 fn decided(alloc: Global, file: &mut Vec<u8>, invocation: &Invocation) -> Result<Answer, JobRefusal>

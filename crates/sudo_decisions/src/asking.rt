@@ -5,7 +5,7 @@ use std::alloc::Global;
 use std::fmt::Write as _;
 use sudo_compiled::{Compiled, compile};
 use sudo_decide::{Decision, Invocation, decide};
-use sudo_policy::Policy;
+use sudo_policy::{Policy, print_owned, print_policy};
 use sudo_syntax::read_policy;
 use sudo_words::{Arg, FilePath, HostName, Items, Moment, Name};
 
@@ -33,6 +33,14 @@ fn both_of(alloc: Global, text: &str) -> Result<Both, Trouble> {
     };
     let compiled = compile(alloc, &policy)?;
     Ok(Both { policy, compiled })
+}
+
+/// Whether the policy's text is the same by both of the functions that print it, of which the
+/// second gives the policy up.
+fn is_one_text(alloc: Global, policy: Policy) -> Result<bool, Trouble> {
+    let lent = print_policy(alloc, &policy)?;
+    let owned = print_owned(alloc, policy)?;
+    Ok(lent == owned)
 }
 
 /// The arguments of an invocation.
@@ -118,12 +126,23 @@ impl Asking {
         say(said, followed, compiled)
     }
 
+    /// Ends with a policy, and adds a line if it is printed in two ways.
+    pub fn end(&mut self, alloc: Global, said: &mut String) -> Result<(), Trouble> {
+        self.text = String::new(alloc);
+        let Some(both) = self.both.take() else {
+            return Ok(());
+        };
+        if !is_one_text(alloc, both.policy)? {
+            self.otherwise = self.otherwise.saturating_add(1);
+            said.push_str("OTHERWISE printed\n")?;
+        }
+        Ok(())
+    }
+
     /// Takes a line of the input, and adds what both say if it is a question.
     pub fn take(&mut self, alloc: Global, said: &mut String, line: &str) -> Result<(), Trouble> {
         if line == "%%" {
-            self.text = String::new(alloc);
-            self.both = None;
-            return Ok(());
+            return self.end(alloc, said);
         }
         if let Some(words) = line.strip_prefix("? ") {
             return self.ask(alloc, said, words);

@@ -4,7 +4,8 @@
 //!
 //! The input has a policy's lines, then a line `? USER HOST TARGET MOMENT PATH [ARGUMENT ..]` for
 //! each invocation that is asked about, and `%%` before the next policy. Each decision is a line of
-//! the output; where the two differ it begins with `OTHERWISE`, and the program fails.
+//! the output; where the two differ it begins with `OTHERWISE`, and the program fails. So it does
+//! where `print_policy` and `print_owned` print a policy that was asked about in two ways.
 #![tactic(auto)]
 
 mod asking;
@@ -40,6 +41,7 @@ fn say_all(alloc: Global, said: &mut String, input: &[u8]) -> Result<bool, Troub
     for line in text.split('\n') {
         asking.take(alloc, said, line)?;
     }
+    asking.end(alloc, said)?;
     let (asked, otherwise) = (asking.asked, asking.otherwise);
     drop(asking);
     write!(said, "{asked} asked, {otherwise} otherwise\n")?;

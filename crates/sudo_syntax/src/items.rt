@@ -125,10 +125,12 @@ fn item_of<F: NameForm>(alloc: Global, text: &str) -> Result<Item<Word<F>>, Line
     if text == "ALL" {
         return Ok(Item::All);
     }
-    if F::test(text.as_bytes()) {
-        return Ok(Item::Name(word_of(alloc, text)?));
+    // A name is tested once, by reading it; what is none can only be an alias.
+    match Word::read(alloc, text) {
+        Ok(name) => Ok(Item::Name(name)),
+        Err(WordFault::BadWord) => Ok(Item::Alias(word_of(alloc, text)?)),
+        Err(WordFault::NoMemory) => Err(LineFault::NoMemory),
     }
-    Ok(Item::Alias(word_of(alloc, text)?))
 }
 
 impl<F: NameForm> Spelled for Signed<Item<Word<F>>> {

@@ -2,6 +2,7 @@
 
 ghost use Rattle.std.specs.Prelude.{◌≡◌, ℕ, false, List, [], ◌∷◌, ◌++◌, IfOk};
 ghost use Rattle.std.specs.Prelude.{IfErr, MatchOption, length, take_while};
+ghost use Rattle.std.specs.List.{list_all};
 ghost use Rattle.sudo_words.specs.Bytes.{backslash};
 ghost use Rattle.sudo_policy.specs.Lines.{IsBody, IsContinued};
 ghost use Rattle.sudo_policy.specs.Lines as lines;
@@ -28,10 +29,25 @@ fn body_len(line: &[u8]) -> usize
     line.iter().take_while(|b| **b != b'#').count()
 }
 
-/// The bytes before the first `#`, and what follows them.
+/// Whether the bytes have no `#`. All are looked at, even after one, so that many are tested at
+/// once.
+fn lacks_hash(line: &[u8]) -> bool
+    ensures { result ≡ list_all lines.is_no_hash line.now }
+{
+    let mut each = true;
+    for byte in line {
+        each &= *byte != b'#';
+    }
+    each
+}
+
+/// The bytes before the first `#`, and what follows them. Most lines have none.
 fn cut_body(line: &[u8]) -> (&[u8], &[u8])
     ensures { IsCut lines.is_no_hash line.now result.0.now result.1.now }
 {
+    if lacks_hash(line) {
+        return (line, &[]);
+    }
     line.split_at(body_len(line))
 }
 
