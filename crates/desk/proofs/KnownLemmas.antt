@@ -3,9 +3,14 @@ use Rattle.std.proofs.Common.{◌≡◌, ◌∙◌, ℕ, List, [], ◌∷◌, �
 use Rattle.std.specs.List.{Contains}
 use Rattle.std.specs.Option.{IfSome}
 use Rattle.std.proofs.lemmas.List.Elements.{Contains-append_left, Contains-push, Contains-push_cases}
+use Rattle.sudo_words.specs.declared.cmnd.Cmnd.{Cmnd}
 use Rattle.messages.specs.declared.message.Message.{Message}
+use Rattle.messages.specs.declared.request_name.RequestName.{RequestName}
+use Rattle.roster.specs.Fields.{RosterFields}
 use Rattle.store_tables.specs.Sets.{IsWith, Lists, SameSet}
+use Rattle.std.specs.BTreeSet.{BTreeSet}
 use Rattle.outcomes.specs.Gathered.{Known as Gathered}
+use Rattle.reviewed.specs.Reviewed.{AreKnownSuspects}
 use Rattle.desk_store.specs.Keeping.{IsKnownOf}
 use Rattle.outcomes.proofs.Membership.{no_member}
 use Rattle.desk.specs.Count.{IsCount}
@@ -37,42 +42,47 @@ with_lists S T m list grown lists = λ n. (there n, back n)
         ]
 
 -- the same is held
-pub known_still : (Up Later : Type 0) (S T : Message → Type 0) (o : Option Known) → IsKnown Up S o → (Later → Up) → (Later → SameSet S T) → IsKnown Later T o
-known_still Up Later S T None known was same = tt
-known_still Up Later S T (Some g) known was same = λ later.
+pub known_still : (f : RosterFields Cmnd) (Up Later : Type 0) (S T : Message → Type 0) (o : Option Known) → IsKnown f Up S o
+    → (Later → Up) → (Later → SameSet S T) → IsKnown f Later T o
+known_still f Up Later S T None known was same = tt
+known_still f Up Later S T (Some g) known was same = λ later.
     let k = known (was later) in (k.0, lists_still S T k.0 (same later) k.1, k.2)
 
 -- a message more is held
-pub known_more : (Up Later : Type 0) (S T : Message → Type 0) (m : Message) (old new : Option Known)
-    → IsKnown Up S old → (Later → Up) → (Later → IsWith S m T)
-    → ((set : List Message) → IfSome old (IsKnownIn set) → IfSome new (IsKnownIn (set ++ m ∷ []))) → (old ≡ None → new ≡ None) → IsKnown Later T new
-known_more Up Later S T m None None known was grown more nothing = tt
-known_more Up Later S T m None (Some g) known was grown more nothing =
+pub known_more : (f : RosterFields Cmnd) (Up Later : Type 0) (S T : Message → Type 0) (m : Message) (old new : Option Known)
+    → IsKnown f Up S old → (Later → Up) → (Later → IsWith S m T)
+    → ((set : List Message) → IfSome old (IsKnownIn f set) → IfSome new (IsKnownIn f (set ++ m ∷ []))) → (old ≡ None → new ≡ None) → IsKnown f Later T new
+known_more f Up Later S T m None None known was grown more nothing = tt
+known_more f Up Later S T m None (Some g) known was grown more nothing =
     let wrong : ◌≡◌ {A = Option Known} (Some g) None = nothing refl in absurd cc
-known_more Up Later S T m (Some g) None known was grown more nothing = tt
-known_more Up Later S T m (Some g) (Some h) known was grown more nothing = λ later.
+known_more f Up Later S T m (Some g) None known was grown more nothing = tt
+known_more f Up Later S T m (Some g) (Some h) known was grown more nothing = λ later.
     let k = known (was later) in (k.0 ++ m ∷ [], with_lists S T m k.0 (grown later) k.1, more k.0 k.2)
 
+-- suspects that are not known
+unknown : (f : RosterFields Cmnd) (set : List Message) (o : Option (BTreeSet RequestName)) → o ≡ None → AreKnownSuspects f set o
+unknown f set o none = subst (AreKnownSuspects f set) (sym none) tt
+
 -- what is known at first is known of what is held
-pub at_first : (Up : Type 0) (S : Message → Type 0) (origin : Origin) (o : Option Known)
-    → IsKnownAtFirst origin o → (Up → IsOriginOf S origin) → IsKnown Up S o
-at_first Up S Made None first is = tt
-at_first Up S Made (Some g) first is = λ up.
-    ([], λ n. (λ held. absurd (is up n held), λ among. absurd (no_member n among)), first)
-at_first Up S (Found told) None first is = tt
-at_first Up S (Found told) (Some g) first is = λ up.
+pub at_first : (f : RosterFields Cmnd) (Up : Type 0) (S : Message → Type 0) (origin : Origin) (o : Option Known)
+    → IsKnownAtFirst origin o → (Up → IsOriginOf S origin) → IsKnown f Up S o
+at_first f Up S Made None first is = tt
+at_first f Up S Made (Some g) first is = λ up.
+    ([], λ n. (λ held. absurd (is up n held), λ among. absurd (no_member n among)), (first.0, first.1, unknown f [] g.suspects first.2))
+at_first f Up S (Found told) None first is = tt
+at_first f Up S (Found told) (Some g) first is = λ up.
     let it = subst (λ (known : Option Gathered). IfSome known (IsKnownOf S)) first.0 (is up) in
-    (it.0, it.1, (it.2, subst (IsCounted it.0) (sym first.1) tt))
+    (it.0, it.1, (it.2, subst (IsCounted it.0) (sym first.1) tt, unknown f it.0 g.suspects first.2))
 
 -- what is held is the same, and so is its set
-pub known_with : (Up : Type 0) (S : Message → Type 0) (old new : Option Known) → IsKnown Up S old
-    → ((set : List Message) → Lists S set → Up → IfSome old (IsKnownIn set) → IfSome new (IsKnownIn set))
-    → (old ≡ None → new ≡ None) → IsKnown Up S new
-known_with Up S None None known more nothing = tt
-known_with Up S None (Some k) known more nothing =
+pub known_with : (f : RosterFields Cmnd) (Up : Type 0) (S : Message → Type 0) (old new : Option Known) → IsKnown f Up S old
+    → ((set : List Message) → Lists S set → Up → IfSome old (IsKnownIn f set) → IfSome new (IsKnownIn f set))
+    → (old ≡ None → new ≡ None) → IsKnown f Up S new
+known_with f Up S None None known more nothing = tt
+known_with f Up S None (Some k) known more nothing =
     let wrong : ◌≡◌ {A = Option Known} (Some k) None = nothing refl in absurd cc
-known_with Up S (Some k) None known more nothing = tt
-known_with Up S (Some k) (Some l) known more nothing = λ up.
+known_with f Up S (Some k) None known more nothing = tt
+known_with f Up S (Some k) (Some l) known more nothing = λ up.
     let it = known up in (it.0, it.1, more it.0 it.1 up it.2)
 
 -- and it is known only where it was
@@ -84,13 +94,13 @@ known_of_up_with Clean Up (Some k) None live nothing = tt
 known_of_up_with Clean Up (Some k) (Some l) live nothing = live
 
 -- how many messages are held, if something is known of them and they were counted
-pub count_known : (Up : Type 0) (S : Message → Type 0) (known : Option Known) (count : Option ℕ) → IsKnown Up S known
-    → ((set : List Message) → IfSome known (IsKnownIn set) → IfSome count (IsCount set)) → (known ≡ None → count ≡ None)
+pub count_known : (f : RosterFields Cmnd) (Up : Type 0) (S : Message → Type 0) (known : Option Known) (count : Option ℕ) → IsKnown f Up S known
+    → ((set : List Message) → IfSome known (IsKnownIn f set) → IfSome count (IsCount set)) → (known ≡ None → count ≡ None)
     → Up → (set : List Message) → Lists S set → IfSome count (IsCount set)
-count_known Up S known None is counted nothing up set lists = tt
-count_known Up S None (Some n) is counted nothing up set lists =
+count_known f Up S known None is counted nothing up set lists = tt
+count_known f Up S None (Some n) is counted nothing up set lists =
     let wrong : ◌≡◌ {A = Option ℕ} (Some n) None = nothing refl in absurd cc
-count_known Up S (Some k) (Some n) is counted nothing up set lists =
+count_known f Up S (Some k) (Some n) is counted nothing up set lists =
     let it = is up in
     count_of_set it.0 set n (same_listed S it.0 set it.1 lists) (counted it.0 it.2)
 

@@ -60,7 +60,7 @@ impl<K: Keeper> Model for Desk<K> {
     ghost invariant = { λ d. FitsBase d.base × (K.is_up d.keeper → K.is_desk d.keeper)
         × (K.is_up d.keeper → K.roster d.keeper ≡ d.roster.text) × (K.is_up d.keeper
         → LeavesOnly (K.may_leave d.keeper) (IsDeskOf (K.roster d.keeper) (K.holds d.keeper)))
-        × IsKnown (K.is_up d.keeper) (K.holds d.keeper) d.known
+        × IsKnown d.roster.says (K.is_up d.keeper) (K.holds d.keeper) d.known
         × IsKnownOfUp (K.is_clean d.keeper) (K.is_up d.keeper) d.known };
 }
 

@@ -2,7 +2,9 @@
 
 ghost use Rattle.std.specs.Prelude.{◌≡◌, List, [], ◌∷◌, ◌++◌, IfErr};
 ghost use Rattle.std.specs.Prelude.{IfOk, OnOk, IsErr, IfSome, Err, None, Some};
+ghost use Rattle.sudo_words.specs.declared.cmnd.Cmnd.{Cmnd as AnyCmnd};
 ghost use Rattle.messages.specs.declared.message.Message.{Message as AnyMessage};
+ghost use Rattle.roster.specs.Fields.{RosterFields};
 ghost use Rattle.desk.specs.Count.{IsCount};
 ghost use Rattle.desk.specs.private.Known.{IsKnown, IsKnownIn, IsKnownOfUp};
 ghost use Rattle.desk.specs.Refusals.{IsWant};
@@ -13,8 +15,11 @@ ghost use Rattle.store_tables.specs.Sets.{Lists, SameSet};
 
 use crate::refusal::Refusal;
 use desk_store::{Keeper, KeeperError};
-use messages::Message;
+use messages::{Message, RequestName};
 use outcomes::Gathered;
+use reviewed::with_suspect;
+use roster::Roster;
+use std::collections::BTreeSet;
 
 /// What is known of a set of messages.
 #[derive(Drop)]
@@ -23,17 +28,20 @@ pub(crate) struct Known {
     pub(crate) gathered: Gathered,
     /// How many they are, if that was counted.
     pub(crate) count: Option<usize>,
+    /// The names under which an approval may not count, if a report has looked for them.
+    pub(crate) suspects: Option<BTreeSet<RequestName>>,
 }
 
 /// The keeper's messages. The desk stays as it is, and so does what a crash leaves of it. What is
-/// known of the messages stays known; it is an argument for the proof alone.
+/// known of the messages stays known; it and the roster are arguments for the proof alone.
 pub(crate) fn listed<K: Keeper>(
     keeper: &mut K,
+    _roster: &Roster,
     _known: &Option<Known>,
 ) -> Result<Vec<Message>, KeeperError>
     requires desk { K.is_up keeper.old → K.is_desk keeper.old }
-    requires known { IsKnown (K.is_up keeper.old) (K.holds keeper.old) _known.now }
-    ensures known { IsKnown (K.is_up keeper.new) (K.holds keeper.new) _known.now }
+    requires known { IsKnown _roster.now.says (K.is_up keeper.old) (K.holds keeper.old) _known.now }
+    ensures known { IsKnown _roster.now.says (K.is_up keeper.new) (K.holds keeper.new) _known.now }
     ensures live { K.is_clean keeper.new → OnOk result (K.is_up keeper.new) }
     ensures leaves { K.is_clean keeper.new
         → AddsOnly (K.may_leave keeper.old) (K.may_leave keeper.new) (λ _. ⊥) }
@@ -51,16 +59,22 @@ pub(crate) fn listed<K: Keeper>(
 }
 
 /// What is known of the messages: what was known already, or else the keeper gathers it. The desk
-/// stays as it is, and so does what a crash leaves of it.
-pub(crate) fn known_of<K: Keeper>(known: Option<Known>, keeper: &mut K) -> Result<Known, Refusal>
+/// stays as it is, and so does what a crash leaves of it. The roster is an argument for the proof
+/// alone.
+pub(crate) fn known_of<K: Keeper>(
+    _roster: &Roster,
+    known: Option<Known>,
+    keeper: &mut K,
+) -> Result<Known, Refusal>
     requires desk { K.is_up keeper.old → K.is_desk keeper.old }
-    requires known { IsKnown (K.is_up keeper.old) (K.holds keeper.old) known }
+    requires known { IsKnown _roster.now.says (K.is_up keeper.old) (K.holds keeper.old) known }
     requires live { IsKnownOfUp (K.is_clean keeper.old) (K.is_up keeper.old) known }
     requires durable { K.is_up keeper.old → LeavesOnly (K.may_leave keeper.old)
         (IsDeskOf (K.roster keeper.old) (K.holds keeper.old)) }
-    ensures known { IfOk result (λ g. IsKnown (K.is_up keeper.new) (K.holds keeper.old) (Some g)) }
-    ensures still_known { IfOk result
-        (λ g. IsKnown (K.is_up keeper.new) (K.holds keeper.new) (Some g)) }
+    ensures known { IfOk result (λ g. IsKnown _roster.now.says
+        (K.is_up keeper.new) (K.holds keeper.old) (Some g)) }
+    ensures still_known { IfOk result (λ g. IsKnown _roster.now.says
+        (K.is_up keeper.new) (K.holds keeper.new) (Some g)) }
     ensures err { IfErr result IsWant }
     ensures live { K.is_clean keeper.new → OnOk result (K.is_up keeper.new) }
     ensures leaves { K.is_clean keeper.new
@@ -79,20 +93,23 @@ pub(crate) fn known_of<K: Keeper>(known: Option<Known>, keeper: &mut K) -> Resul
         None => Ok(Known {
             gathered: keeper.gather()?,
             count: None,
+            suspects: None,
         }),
     }
 }
 
 /// What is known with one message more, which is not counted; nothing, where memory runs out.
 pub(crate) fn with_message(known: Option<Known>, message: &Message) -> Option<Known>
-    ensures more { (set : List AnyMessage) → IfSome known (IsKnownIn set)
-        → IfSome result (IsKnownIn (set ++ message.now ∷ [])) }
+    ensures more { (f : RosterFields AnyCmnd) (set : List AnyMessage)
+        → IfSome known (IsKnownIn f set)
+        → IfSome result (IsKnownIn f (set ++ message.now ∷ [])) }
     ensures nothing { known ≡ None → result ≡ None }
 {
     let Some(mut known) = known else {
         return None;
     };
     known.count = None;
+    known.suspects = with_suspect(known.suspects.take(), message);
     match known.gathered.take(message) {
         Ok(()) => Some(known),
         Err(_) => None,
@@ -101,8 +118,8 @@ pub(crate) fn with_message(known: Option<Known>, message: &Message) -> Option<Kn
 
 /// What is known, with the count of the messages.
 pub(crate) fn with_count(known: Option<Known>, count: usize) -> Option<Known>
-    ensures counted { (set : List AnyMessage) → IsCount set count → IfSome known (IsKnownIn set)
-        → IfSome result (IsKnownIn set) }
+    ensures counted { (f : RosterFields AnyCmnd) (set : List AnyMessage) → IsCount set count
+        → IfSome known (IsKnownIn f set) → IfSome result (IsKnownIn f set) }
     ensures nothing { known ≡ None → result ≡ None }
 {
     let Some(mut known) = known else {
@@ -114,8 +131,8 @@ pub(crate) fn with_count(known: Option<Known>, count: usize) -> Option<Known>
 
 /// How many messages there are, if they were counted.
 pub(crate) fn count_of(known: &Option<Known>) -> Option<usize>
-    ensures counted { (set : List AnyMessage) → IfSome known.now (IsKnownIn set)
-        → IfSome result (IsCount set) }
+    ensures counted { (f : RosterFields AnyCmnd) (set : List AnyMessage)
+        → IfSome known.now (IsKnownIn f set) → IfSome result (IsCount set) }
     ensures nothing { known.now ≡ None → result ≡ None }
 {
     match known {

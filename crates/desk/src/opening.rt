@@ -33,10 +33,12 @@ pub(crate) fn known_at_first(alloc: Global, origin: Origin) -> Option<Known>
         Origin::Made => Some(Known {
             gathered: Gathered::new(alloc),
             count: Some(0),
+            suspects: None,
         }),
         Origin::Found(Some(gathered)) => Some(Known {
             gathered,
             count: None,
+            suspects: None,
         }),
         Origin::Found(None) => None,
     }

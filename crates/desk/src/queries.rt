@@ -15,10 +15,11 @@ ghost use Rattle.desk.specs.Refusals.{IsWant};
 ghost use Rattle.desk.specs.Serving.{OnlyAsks, ServesAnswer};
 ghost use Rattle.outcomes.specs.Rights.{GivesRights, GivesRightsAfter};
 ghost use Rattle.outcomes.specs.Summaries.{AreSummaries};
+ghost use Rattle.reviewed.specs.Reviewed.{AreReviewed};
 ghost use Rattle.desk.specs.declared.refusal.Refusal.TheVariants as refusal;
 
 use crate::desk::Desk;
-use crate::holdings::{Holdings, holdings_in};
+use crate::holdings::{Holdings, holdings_at, holdings_in};
 use crate::loading::known_of;
 use crate::refusal::Refusal;
 use desk_store::Keeper;
@@ -42,7 +43,7 @@ impl<K: Keeper> Desk<K> {
         ensures served { ServesAnswer K.Keeper self.old.keeper self.new.keeper result }
         ensures asks { OnlyAsks K.Keeper self.old.keeper self.new.keeper result }
     {
-        let known = known_of(self.known.take(), &mut self.keeper)?;
+        let known = known_of(&self.roster, self.known.take(), &mut self.keeper)?;
         let status = status_in(&self.roster, &known.gathered, name);
         self.known = Some(known);
         Ok(status)
@@ -63,7 +64,7 @@ impl<K: Keeper> Desk<K> {
         ensures served { ServesAnswer K.Keeper self.old.keeper self.new.keeper result }
         ensures asks { OnlyAsks K.Keeper self.old.keeper self.new.keeper result }
     {
-        let known = known_of(self.known.take(), &mut self.keeper)?;
+        let known = known_of(&self.roster, self.known.take(), &mut self.keeper)?;
         let list = messages_in(self.alloc, &known.gathered, asker, no);
         self.known = Some(known);
         Ok(list?)
@@ -81,7 +82,7 @@ impl<K: Keeper> Desk<K> {
         ensures served { ServesAnswer K.Keeper self.old.keeper self.new.keeper result }
         ensures asks { OnlyAsks K.Keeper self.old.keeper self.new.keeper result }
     {
-        let known = known_of(self.known.take(), &mut self.keeper)?;
+        let known = known_of(&self.roster, self.known.take(), &mut self.keeper)?;
         let list = live_in(self.alloc, &self.roster, &known.gathered, at);
         self.known = Some(known);
         Ok(list?)
@@ -99,7 +100,7 @@ impl<K: Keeper> Desk<K> {
         ensures served { ServesAnswer K.Keeper self.old.keeper self.new.keeper result }
         ensures asks { OnlyAsks K.Keeper self.old.keeper self.new.keeper result }
     {
-        let known = known_of(self.known.take(), &mut self.keeper)?;
+        let known = known_of(&self.roster, self.known.take(), &mut self.keeper)?;
         let texts = parked_in(self.alloc, &known.gathered);
         self.known = Some(known);
         Ok(texts?)
@@ -120,7 +121,7 @@ impl<K: Keeper> Desk<K> {
         ensures served { ServesAnswer K.Keeper self.old.keeper self.new.keeper result }
         ensures asks { OnlyAsks K.Keeper self.old.keeper self.new.keeper result }
     {
-        let known = known_of(self.known.take(), &mut self.keeper)?;
+        let known = known_of(&self.roster, self.known.take(), &mut self.keeper)?;
         let list = summaries_in(self.alloc, &known.gathered);
         self.known = Some(known);
         Ok(list?)
@@ -142,8 +143,31 @@ impl<K: Keeper> Desk<K> {
         ensures served { ServesAnswer K.Keeper self.old.keeper self.new.keeper result }
         ensures asks { OnlyAsks K.Keeper self.old.keeper self.new.keeper result }
     {
-        let known = known_of(self.known.take(), &mut self.keeper)?;
+        let known = known_of(&self.roster, self.known.take(), &mut self.keeper)?;
         let held = holdings_in(self.alloc, &known.gathered);
+        self.known = Some(known);
+        Ok(held?)
+    }
+
+    /// What a report at the moment looks at: the summaries of the grants in force then and of the
+    /// names under which an approval may not count, and the parked texts. After a first report it
+    /// costs what these have, however much has ended.
+    pub fn holdings_at(&mut self, at: Moment) -> Result<Holdings, Refusal>
+        ensures reviewed { (set : List AnyMessage)
+            → K.is_up self.new.keeper → Lists (K.holds self.old.keeper) set → IfOk result
+            (λ held. AreReviewed self.old.roster.says set at held.summaries.items) }
+        ensures parked { (set : List AnyMessage) → K.is_up self.new.keeper
+            → Lists (K.holds self.old.keeper) set
+            → IfOk result (λ held. AreParked set (map string_bytes held.parked.items)) }
+        ensures err { IfErr result IsWant }
+        ensures unchanged { K.is_up self.new.keeper → K.is_same self.old.keeper self.new.keeper }
+        ensures roster { self.new.roster ≡ self.old.roster }
+        ensures base { self.new.base ≡ self.old.base }
+        ensures served { ServesAnswer K.Keeper self.old.keeper self.new.keeper result }
+        ensures asks { OnlyAsks K.Keeper self.old.keeper self.new.keeper result }
+    {
+        let mut known = known_of(&self.roster, self.known.take(), &mut self.keeper)?;
+        let held = holdings_at(self.alloc, &self.roster, &mut known, at);
         self.known = Some(known);
         Ok(held?)
     }
@@ -246,7 +270,7 @@ impl<K: Keeper> Desk<K> {
         if !self.roster.has_host(host) {
             return Err(Refusal::UnknownHost);
         }
-        let known = known_of(self.known.take(), &mut self.keeper)?;
+        let known = known_of(&self.roster, self.known.take(), &mut self.keeper)?;
         let file = host_file_in(
             self.alloc,
             &self.roster,

@@ -32,7 +32,7 @@ impl<K: Keeper> Desk<K> {
     {
         // What is known stays only where the keeper answers.
         let remembered = self.known.take();
-        let list = listed(&mut self.keeper, &remembered)?;
+        let list = listed(&mut self.keeper, &self.roster, &remembered)?;
         self.known = remembered;
         Ok(list)
     }
@@ -53,7 +53,7 @@ impl<K: Keeper> Desk<K> {
     {
         // What is known stays only where the keeper answers.
         let known = self.known.take();
-        let set = listed(&mut self.keeper, &known)?;
+        let set = listed(&mut self.keeper, &self.roster, &known)?;
         self.known = known;
         Ok(texts_in(self.alloc, set.as_slice())?)
     }

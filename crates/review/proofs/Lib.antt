@@ -9,5 +9,6 @@ pub mod Joined
 pub mod OfSummaries
 pub mod SomeNeed
 pub mod SomeReport
+pub mod PassedOver
 pub mod Needless
 pub mod PastReports

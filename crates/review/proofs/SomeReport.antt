@@ -145,7 +145,7 @@ module _ (f : RosterFields Cmnd) (set : List Message) (known : (m : Message) →
           },
         )
 
-    barred : (status : Status) → IsStatus f set (kept_name k) status → (lines : List (List ℕ)) × AreBarred f set (kept_name k) lines
+    pub barred : (status : Status) → IsStatus f set (kept_name k) status → (lines : List (List ℕ)) × AreBarred f set (kept_name k) lines
     barred Disputed is = not_open Disputed is refl
     barred Lapsed is = not_open Lapsed is refl
     barred Refused is = opened Refused is refl _ is

@@ -28,7 +28,7 @@ pub fn report<K: Keeper>(desk: &mut Desk<K>, at: Moment) -> Result<String, Refus
     ensures served { ServesAnswer K.Keeper desk.old.keeper desk.new.keeper result }
     ensures asks { OnlyAsks K.Keeper desk.old.keeper desk.new.keeper result }
 {
-    let Holdings { summaries, parked } = desk.holdings()?;
+    let Holdings { summaries, parked } = desk.holdings_at(at)?;
     let alloc = *summaries.allocator();
     Ok(report_of(alloc, desk.roster(), desk.base(), &summaries, &parked, at)?)
 }

@@ -1,7 +1,10 @@
 -- What is known of a desk's messages. For private clauses.
 use Rattle.std.specs.Prelude.{◌≡◌, ℕ, List, [], Option, Some, None, IfSome}
+use Rattle.sudo_words.specs.declared.cmnd.Cmnd.{Cmnd}
 use Rattle.messages.specs.declared.message.Message.{Message}
+use Rattle.roster.specs.Fields.{RosterFields}
 use Rattle.outcomes.specs.Gathered.{AreGathered}
+use Rattle.reviewed.specs.Reviewed.{AreKnownSuspects}
 use Rattle.store_tables.specs.Sets.{IsNothing, Lists}
 use Rattle.desk_store.specs.Keeping.{IsKnownOf}
 use Rattle.desk.specs.Count.{IsCount}
@@ -14,14 +17,16 @@ abbrev pub IsCounted : List Message → Option ℕ → Type 0
 IsCounted set None = Unit {0}
 IsCounted set (Some count) = IsCount set count
 
--- this is known of the listed set
-abbrev pub IsKnownIn : List Message → Known → Type 0
-IsKnownIn set known = AreGathered set known.gathered × IsCounted set known.count
+-- this is known of the listed set under the roster
+abbrev pub IsKnownIn : RosterFields Cmnd → List Message → Known → Type 0
+IsKnownIn f set known = AreGathered set known.gathered × IsCounted set known.count
+    × AreKnownSuspects f set known.suspects
 
--- While the keeper is up, this is known of the set, unless nothing is known.
-abbrev pub IsKnown : (Up : Type 0) → (Message → Type 0) → Option Known → Type 0
-IsKnown Up S None = Unit {0}
-IsKnown Up S (Some known) = Up → (set : List Message) × Lists S set × IsKnownIn set known
+-- While the keeper is up, this is known of the set under the roster, unless nothing is known.
+abbrev pub IsKnown : RosterFields Cmnd → (Up : Type 0)
+    → (Message → Type 0) → Option Known → Type 0
+IsKnown f Up S None = Unit {0}
+IsKnown f Up S (Some known) = Up → (set : List Message) × Lists S set × IsKnownIn f set known
 
 -- Something is known only while the keeper is up, as long as its disk has been honest.
 abbrev pub IsKnownOfUp : (Clean Up : Type 0) → Option Known → Type 0
@@ -35,10 +40,11 @@ IsOriginOf S Made = IsNothing S
 IsOriginOf S (Found told) = IfSome told (IsKnownOf S)
 
 -- At first what is gathered from no messages is known of a desk that was made, and of one that was
--- found what the look told; how many its messages are was not counted then.
+-- found what the look told; how many its messages are was not counted then, and no report was made.
 abbrev pub IsKnownAtFirst : Origin → Option Known → Type 0
 IsKnownAtFirst Made None = Unit {0}
-IsKnownAtFirst Made (Some known) = IsKnownIn [] known
+IsKnownAtFirst Made (Some known) =
+    AreGathered [] known.gathered × IsCounted [] known.count × (known.suspects ≡ None)
 IsKnownAtFirst (Found told) None = Unit {0}
 IsKnownAtFirst (Found told) (Some known) =
-    (told ≡ Some known.gathered) × (known.count ≡ None)
+    (told ≡ Some known.gathered) × (known.count ≡ None) × (known.suspects ≡ None)

@@ -12,7 +12,7 @@ returns-in_ok-gather-in-None-clause-still_known g c = λ up.
       k.0,
       lists_still (K.holds old) (K.holds new) k.0
           (g.met.K.Keeper.stays_set old new (c.gather.ensures.same up) (c.requires.desk (c.gather.ensures.served.was_up up))) k.1,
-      (k.2, tt),
+      (k.2, tt, tt),
     )
 
 pub returns-in-Some-clause-live : goal.returns-in-Some-clause-live

@@ -1,9 +1,14 @@
-use Rattle.std.proofs.Common.{Option, subst}
+use Rattle.std.proofs.Common.{Option, subst, sym}
 use Rattle.std.specs.Option.{IfSome}
+use Rattle.std.specs.BTreeSet.{BTreeSet}
+use Rattle.messages.specs.declared.request_name.RequestName.{RequestName}
+use Rattle.reviewed.specs.Reviewed.{AreKnownSuspects}
 use Rattle.desk.specs.declared.loading.Known.{Known}
 use Rattle.desk.specs.private.Known.{IsKnownIn}
 use Rattle.desk.proofs.loading.with_message.Goals as goal
 
 pub returns-in-Ok-clause-more : goal.returns-in-Ok-clause-more
-returns-in-Ok-clause-more c = λ set of.
-    let k = subst (λ (o : Option Known). IfSome o (IsKnownIn set)) c.in-Some.is of in (c.in-Ok.ensures.ok set k.0, tt)
+returns-in-Ok-clause-more c = λ f set of.
+    let k = subst (λ (o : Option Known). IfSome o (IsKnownIn f set)) c.in-Some.is of in
+    let before = subst (λ (o : Option (BTreeSet RequestName)). AreKnownSuspects f set o) (sym c.take.ensures.value) k.2 in
+    (c.in-Ok.ensures.ok set k.0, tt, c.with_suspect.ensures f set before)

@@ -15,10 +15,11 @@ use Rattle.desk.proofs.desk.Desk.count.Goals as goal
 pub returns-in-Some-clause-count : goal.returns-in-Some-clause-count
 returns-in-Some-clause-count g c =
     let K = g.K.Keeper in
+    let f = c.self.inside.roster.says in
     let old = c.self.inside.keeper in
     let answer : (set : List Message) → K.is_up old → Lists (K.holds old) set → IsCount set c.in-Some.count = λ set up lists.
-    let found = count_known (K.is_up old) (K.holds old) c.self.inside.known c.count_of.result c.self.invariant.4
-    c.count_of.ensures.counted c.count_of.ensures.nothing up set lists in
+    let found = count_known f (K.is_up old) (K.holds old) c.self.inside.known c.count_of.result c.self.invariant.4
+    (c.count_of.ensures.counted f) c.count_of.ensures.nothing up set lists in
     subst (λ (o : Option ℕ). IfSome o (IsCount set)) c.in-Some.is found in
     rw (← c.self.view_is) answer
 
@@ -37,6 +38,7 @@ returns-clause-count g c = λ set up lists.
 pub invariant_of-self : goal.invariant_of-self
 invariant_of-self g c =
     let K = g.K.Keeper in
+    let f = c.self-2.inside.roster.says in
     let old = c.args.self.now.keeper in
     let k = c.self-2.inside.keeper in
     let was : c.self.inside.keeper ≡ old = ap (λ (d : DeskState _). d.keeper) c.self.view_is in
@@ -50,9 +52,9 @@ invariant_of-self g c =
       c.self-2.invariant.1,
       c.self-2.invariant.2,
       c.self-2.invariant.3,
-      known_with (K.is_up k) (K.holds k) c.take.result c.with_count.result
-          (subst (IsKnown (K.is_up k) (K.holds k)) (sym c.take.ensures.value) c.self-2.invariant.4)
-          (λ set lists up known. c.with_count.ensures.counted set (returns-clause-count g c set up (before set lists up)) known) c.with_count.ensures.nothing,
+      known_with f (K.is_up k) (K.holds k) c.take.result c.with_count.result
+          (subst (IsKnown f (K.is_up k) (K.holds k)) (sym c.take.ensures.value) c.self-2.invariant.4)
+          (λ set lists up known. c.with_count.ensures.counted f set (returns-clause-count g c set up (before set lists up)) known) c.with_count.ensures.nothing,
       known_of_up_with (K.is_clean k) (K.is_up k) c.take.result c.with_count.result
           (subst (IsKnownOfUp (K.is_clean k) (K.is_up k)) (sym c.take.ensures.value) c.self-2.invariant.5) c.with_count.ensures.nothing,
     )

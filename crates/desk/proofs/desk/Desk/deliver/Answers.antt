@@ -56,13 +56,14 @@ invariant_of-self-2 g c =
     let K = g.K.Keeper in
     let old = c.self.inside.keeper in
     let new = c.add-added.new.self in
-    let known = subst (IsKnown (K.is_up old) (K.holds old)) (sym c.take.ensures.value) c.self.invariant.4 in (
+    let f = c.self.inside.roster.says in
+    let known = subst (IsKnown f (K.is_up old) (K.holds old)) (sym c.take.ensures.value) c.self.invariant.4 in (
       c.self.invariant.0,
       λ up. c.add-added.ensures.desk up,
       λ up. c.add-added.ensures.roster up ∙ c.self.invariant.2 (c.add-added.ensures.served.was_up up),
       λ up. c.add-added.ensures.durable up,
-      known_more (K.is_up old) (K.is_up new) (K.holds old) (K.holds new) c.in_ok-message.message c.take.result c.with_message-known.result known
-          c.add-added.ensures.served.was_up c.in_ok-added.ensures.added c.with_message-known.ensures.more c.with_message-known.ensures.nothing,
+      known_more f (K.is_up old) (K.is_up new) (K.holds old) (K.holds new) c.in_ok-message.message c.take.result c.with_message-known.result known
+          c.add-added.ensures.served.was_up c.in_ok-added.ensures.added (c.with_message-known.ensures.more f) c.with_message-known.ensures.nothing,
       known_of_up (K.is_clean new) (K.is_up new) c.with_message-known.result c.in_ok-added.ensures.live,
     )
 

@@ -20,7 +20,9 @@ invariant_of-result g c =
     let new = c.find_or_make.new.keeper in
     let fits : FitsBase c.args.base = search rules in
     let text : c.text.result.now ≡ c.args.roster.text = search rules in
-    let known = at_first (K.is_up new) (K.holds new) c.in-Ok.origin c.known_at_first.result c.known_at_first.ensures c.in-Ok.ensures.first in (
+    let known =
+    at_first c.args.roster.says (K.is_up new) (K.holds new) c.in-Ok.origin c.known_at_first.result c.known_at_first.ensures
+    c.in-Ok.ensures.first in (
       subst FitsBase (sym c.new.ensures) fits,
       c.in-Ok.ensures.desk,
       λ up. c.in-Ok.ensures.roster up ∙ text,
