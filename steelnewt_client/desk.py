@@ -10,6 +10,7 @@ from collections import deque
 from contextlib import suppress
 from dataclasses import dataclass
 from datetime import datetime
+from functools import lru_cache
 from http.client import HTTPConnection, HTTPException, IncompleteRead, RemoteDisconnected
 
 from steelnewt_client.codes import NO_ROUTE, TOO_LONG, Answer, Fate, judge, unusable
@@ -210,26 +211,12 @@ class Post:
         try:
             piece = self._peer.recv(MOST_HEAD)
             self._whole += piece
-            answer = self._answer(is_over=not piece)
+            answer = answer_in(self._whole, not piece)
         except (OSError, HTTPException) as error:
             answer = no_reply(error)
         if answer is not None:
             self.close()
         return answer
-
-    def _answer(self, is_over: bool) -> Answer | None:
-        if (head := HEAD.match(self._whole)) is None:
-            if is_over or len(self._whole) > MOST_HEAD:
-                raise RemoteDisconnected("")
-            return None
-        length = LENGTH.search(head[2])
-        end = head.end() + min(MOST_REPLY, int(length[1]) if length else MOST_REPLY)
-        if len(self._whole) < end:
-            if not is_over:
-                return None
-            if length is not None:
-                raise IncompleteRead(self._whole)
-        return judge(int(head[1]), self._whole[head.end() : end].decode("utf-8", "replace"))
 
     def wait(self) -> Answer:
         """The answer to this one alone."""
@@ -249,6 +236,24 @@ class Post:
 
     def close(self) -> None:
         self._peer.close()
+
+
+@lru_cache(maxsize=64)
+def answer_in(whole: bytes, is_over: bool) -> Answer | None:
+    """The answer in what came, where that is whole. (A desk acknowledges in the same bytes each
+    time, so the last ones are kept with their answers.)"""
+    if (head := HEAD.match(whole)) is None:
+        if is_over or len(whole) > MOST_HEAD:
+            raise RemoteDisconnected("")
+        return None
+    length = LENGTH.search(head[2])
+    end = head.end() + min(MOST_REPLY, int(length[1]) if length else MOST_REPLY)
+    if len(whole) < end:
+        if not is_over:
+            return None
+        if length is not None:
+            raise IncompleteRead(whole)
+    return judge(int(head[1]), whole[head.end() : end].decode("utf-8", "replace"))
 
 
 @dataclass(frozen=True)

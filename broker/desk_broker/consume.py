@@ -42,7 +42,8 @@ EMPTY = 0.5  # seconds between two looks at a queue that is empty
 # What is said of a message that is put by. (One whose relay is to be mended would hold up all others
 # here: a person publishes it again.)
 PUT_BY = {Fate.FINAL: "refused for good", Fate.MEND: "refused until it is mended"}
-LOOK = 0.01  # seconds between two looks at a queue, while messages are on their way to the desk
+LOOK = 0.01  # seconds between two looks at a queue, while messages are on their way to the desk,
+LATER = 0.05  # and while more of them wait here
 
 
 class Link:
@@ -156,7 +157,7 @@ class Consumer:
     def _go_on(self, link: Link, flight: Flight) -> int:
         """Takes what came from the queue, and posts for a while; how many answers there were."""
         link.wait(min(EMPTY, flight.idle_for()))
-        flight.go_on(LOOK)
+        flight.go_on(LATER if flight.has_waiting() else LOOK)
         return self._settle_done(link, flight)
 
     def _settle_done(self, link: Link, flight: Flight) -> int:

@@ -27,7 +27,9 @@ from steelnewt_client.desk import Desk, Post
 
 LOG = logging.getLogger("desk-consume")
 POSTS = 16  # at once
-AHEAD = 2 * POSTS  # begun, from the first that is not acknowledged on
+ENOUGH = 2 * POSTS  # answered, so that they are acknowledged together
+AHEAD = POSTS + ENOUGH  # begun, from the first that is not acknowledged on
+LULL = 0.001  # seconds in which answers come while many posts are open: they are read together
 TRIES = 2  # of a message at which this program fails
 PAUSE = 1.0  # seconds between these
 TICK = 0.2  # seconds between two looks at whether it is time to stop
@@ -119,9 +121,15 @@ class Flight:
         that has begun."""
         until = time.monotonic() + most
         self._begin_more()
-        while self._open and len(self._done) < POSTS and (left := until - time.monotonic()) > 0:
+        while self._open and len(self._done) < ENOUGH and (left := until - time.monotonic()) > 0:
+            if len(self._open) == POSTS and left > LULL:
+                time.sleep(LULL)
             self._read(min(left, TICK))
             self._begin_more()
+
+    def has_waiting(self) -> bool:
+        """Whether there is more to post than what has begun."""
+        return bool(self._waiting)
 
     def idle_for(self) -> float:
         """The seconds for which there is nothing to do here, if nothing comes from the queue."""

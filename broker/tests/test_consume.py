@@ -311,7 +311,7 @@ def test_many_are_acknowledged_by_one_word() -> None:
     queue = Queue([b"%d" % number for number in range(count)], 4 * flight.POSTS)
     carried(Told([TAKEN] * count), queue)
     assert queue.acknowledged == count
-    assert queue.words <= 2 + count // flight.POSTS, "one for the head, and for so many each"
+    assert queue.words <= 3 + count // flight.ENOUGH, "one for the head, and for so many each"
 
 
 def test_an_empty_queue_is_taken_from_at_once() -> None:

@@ -370,16 +370,14 @@ def grants(folder: str, base: str) -> int:
             text=True,
         )
     file = desk.write(folder, "host.sudo", done.stdout)
-    # a base of so many rules is read whole, and refused then (`K6`)
-    empty, none = desk.write(folder, "empty.sudo", ""), desk.write(folder, "none", "")
+    empty = desk.write(folder, "empty.sudo", "")
+    # reading alone: without aliases `decide` does little else, and it frees no more than `check`
+    asked = ["user1", "host1", "op1", "20260601120000Z", "/usr/bin/tool1"]
     costs = [
         desk.instructions([*desk.PROGRAM, "print", people, base, "-", "db1"], given),
         desk.instructions([*desk.PROGRAM, "deliver", people, base, "-", "web"], given),
         *(desk.instructions([*desk.PROGRAM, "check", policy]) for policy in (file, empty)),
-        *(
-            desk.instructions([*desk.PROGRAM, "deliver", people, policy, "-", "web"], none)
-            for policy in (file, empty)
-        ),
+        *(desk.instructions([*desk.PROGRAM, "decide", policy, *asked]) for policy in (file, empty)),
     ]
     if 0 in costs:
         return 0

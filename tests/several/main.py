@@ -3,9 +3,10 @@
     bash tests/several/several.sh [--short | --rate] [--seed N] [--keep] [--folder DIR] [DESK ..]
 
 runs this in namespaces of its own; DESK are the words of the program, build/desk without them. All
-data lie below build/, on a disk, or, of the short test, in memory, where it is there: kills do not
-lose what is there either, and how long the test takes does not hang on the disk. `--rate` only
-measures how many messages a second go through, also to desks that do nothing but answer (stub.py).
+data lie below build/, on a disk, or, of the short test and of `--rate`, in memory, where it is
+there: kills do not lose what is there either, and how long it takes does not hang on the disk.
+`--rate` only measures how many messages a second go through, also to desks that do nothing but
+answer (stub.py); with `--folder build` it measures the disk, whose syncs a desk waits for.
 """
 
 from __future__ import annotations
@@ -152,7 +153,7 @@ def place(words: argparse.Namespace) -> pathlib.Path:
     """Where the data are to lie."""
     if words.folder is not None:
         return pathlib.Path(words.folder)
-    if words.short and MEMORY.is_dir():
+    if (words.short or words.rate) and MEMORY.is_dir():
         return MEMORY
     (ROOT / "build").mkdir(exist_ok=True)
     return ROOT / "build"

@@ -7,15 +7,20 @@ import signal
 import sys
 import time
 
+from desk_broker.flight import POSTS, Acks, Delivery, Flight
+from desk_broker.tally import Tally
+from steelnewt_client.codes import Fate
+from steelnewt_client.desk import plain_desk
 from tests.several import stub
 from tests.several.bench import Bench
 from tests.several.desks import Desk, Files
-from tests.several.programs import Failure, wait_until
+from tests.several.programs import Failure
 from tests.several.relays import Traffic
 from tests.several.sites import RELAYS, Post
 
 NAMES = ["a", "b", "c"]
 PATIENCE = 600.0  # seconds
+QUIET = 0.2  # seconds without a post on its way, after which a desk is asked what it holds
 LEAST = 1_500  # messages a second, to each of three desks
 
 
@@ -30,17 +35,60 @@ def exchange(desk: Desk, body: bytes) -> bytes:
     return whole
 
 
-def alone(bench: Bench, posts: list[Post]) -> float:
-    """What a desk takes that no broker stands before, in messages a second."""
-    desk = Desk("alone", bench.files, bench.folder, bench.started, bench.plain)
-    desk.start()
-    begun = time.monotonic()
+def one_by_one(desk: Desk, posts: list[Post]) -> None:
     for post in posts:
         if not exchange(desk, post.body).endswith(b"\r\n\r\nack\n"):
             raise Failure("the desk alone does not acknowledge")
-    rate = len(posts) / (time.monotonic() - begun)
-    desk.lose_store()
-    return rate
+
+
+def at_once(desk: Desk, posts: list[Post]) -> None:
+    """As a consumer posts them, without a broker."""
+    flight, acks = Flight(desk.name, plain_desk(desk.address), Tally(desk.name)), Acks()
+    for tag, post in enumerate(posts, 1):
+        acks.begin(tag)
+        flight.begin(Delivery(tag, post.relay, post.body, None))
+    left = len(posts)
+    while left:
+        flight.go_on(1.0)
+        for delivery, answer in flight.done():
+            if answer.fate is not Fate.TAKEN:
+                raise Failure(f"the desk alone does not acknowledge: {answer.said}")
+            acks.settle(delivery.tag)
+            left -= 1
+        if (last := acks.due()) is not None:
+            flight.acknowledged(last)
+    flight.end()
+
+
+def tell_alone(bench: Bench, posts: list[Post]) -> None:
+    """What a desk takes that no broker stands before, in messages a second."""
+    desk = Desk("alone", bench.files, bench.folder, bench.started, bench.plain)
+    desk.start()
+    ways = (("one post after the other", one_by_one), (f"{POSTS} posts at once", at_once))
+    for how, post_all in ways:
+        begun = time.monotonic()
+        post_all(desk, posts)
+        rate = len(posts) / (time.monotonic() - begun)
+        desk.lose_store()
+        bench.tell(f"a desk alone, {how}: {rate:.0f} messages a second")
+
+
+def held_at(wanted: dict[Desk, int]) -> float:
+    """When the last post came to its end, after which all desks hold so many messages.
+
+    (After each new message a desk counts all that it has by reading it, so one that is asked again
+    and again does little else. It is asked when no post is on its way to it.)
+    """
+    begun = last = time.monotonic()
+    while (now := time.monotonic()) - begun < PATIENCE:
+        if any(desk.in_flight() for desk in wanted):
+            last = now
+        elif now - last > QUIET:
+            if all(desk.count() >= count for desk, count in wanted.items()):
+                return last
+            last = now
+        time.sleep(0.01)
+    raise Failure(f"after {PATIENCE:g} s not all desks hold what was confirmed")
 
 
 def through(bench: Bench, posts: list[Post]) -> tuple[float, float]:
@@ -56,12 +104,7 @@ def through(bench: Bench, posts: list[Post]) -> tuple[float, float]:
     traffic.join(PATIENCE)
     begun = min(relay.first_at for relay in traffic.relays)
     confirmed = time.monotonic() - begun
-
-    def is_held() -> bool:
-        return all(desk.count() >= count for desk, count in wanted.items())
-
-    wait_until("all desks hold what was confirmed", is_held, PATIENCE, 0.02)
-    return len(posts) / confirmed, len(posts) / (time.monotonic() - begun)
+    return len(posts) / confirmed, len(posts) / (held_at(wanted) - begun)
 
 
 def spent(bench: Bench) -> list[float]:
@@ -113,9 +156,12 @@ def measure(bench: Bench, posts: list[Post]) -> float:
         name = NAMES[count - 1]
         bench.new_desk(name).start()
         bench.new_consumer(name).start()
-        some = posts[count - 1 :: len(NAMES)]  # (each post is in one part: all are waited for)
+        # (one after the other: a verdict whose request is in another part would be parked, and
+        # each request that comes later is looked for among all that are)
+        first, last = (len(posts) * number // len(NAMES) for number in (count - 1, count))
+        some = posts[first:last]
         if count == 1:
-            bench.tell(f"a desk alone: {alone(bench, some):.0f} messages a second")
+            tell_alone(bench, some)
         rate = tell_rates(bench, some, f"{count} desks")
     return rate
 
