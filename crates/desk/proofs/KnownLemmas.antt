@@ -10,7 +10,7 @@ use Rattle.roster.specs.Fields.{RosterFields}
 use Rattle.store_tables.specs.Sets.{IsWith, Lists, SameSet}
 use Rattle.std.specs.BTreeSet.{BTreeSet}
 use Rattle.outcomes.specs.Gathered.{Known as Gathered}
-use Rattle.reviewed.specs.Reviewed.{AreKnownSuspects}
+use Rattle.suspects.specs.LookedAt.{AreKnownSuspects}
 use Rattle.desk_store.specs.Keeping.{IsKnownOf}
 use Rattle.outcomes.proofs.Membership.{no_member}
 use Rattle.desk.specs.Count.{IsCount}

@@ -6,16 +6,16 @@ ghost use Rattle.messages.specs.declared.message.Message.{Message as AnyMessage}
 ghost use Rattle.outcomes.specs.Gathered.{AreGathered};
 ghost use Rattle.outcomes.specs.Parked.{AreParked};
 ghost use Rattle.outcomes.specs.Summaries.{AreSummaries};
-ghost use Rattle.reviewed.specs.Reviewed.{AreReviewed};
+ghost use Rattle.suspects.specs.LookedAt.{AreReviewed};
 ghost use Rattle.desk.specs.private.Known.{IsKnownIn};
 
 use crate::loading::Known;
 use grants::Summary;
 use outcomes::{Gathered, parked_in, summaries_in};
-use reviewed::{reviewed_in, suspects_among};
 use roster::Roster;
 use std::alloc::Global;
 use sudo_words::{Moment, NoMemory};
+use suspects::{reviewed_in, suspects_among};
 
 /// What a desk holds, name by name.
 #[derive(Debug, Drop)]

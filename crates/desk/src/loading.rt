@@ -17,9 +17,9 @@ use crate::refusal::Refusal;
 use desk_store::{Keeper, KeeperError};
 use messages::{Message, RequestName};
 use outcomes::Gathered;
-use reviewed::with_suspect;
 use roster::Roster;
 use std::collections::BTreeSet;
+use suspects::with_suspect;
 
 /// What is known of a set of messages.
 #[derive(Drop)]

@@ -15,7 +15,7 @@ ghost use Rattle.desk.specs.Refusals.{IsWant};
 ghost use Rattle.desk.specs.Serving.{OnlyAsks, ServesAnswer};
 ghost use Rattle.outcomes.specs.Rights.{GivesRights, GivesRightsAfter};
 ghost use Rattle.outcomes.specs.Summaries.{AreSummaries};
-ghost use Rattle.reviewed.specs.Reviewed.{AreReviewed};
+ghost use Rattle.suspects.specs.LookedAt.{AreReviewed};
 ghost use Rattle.desk.specs.declared.refusal.Refusal.TheVariants as refusal;
 
 use crate::desk::Desk;

@@ -31,7 +31,7 @@ use Rattle.outcomes.proofs.NameMaps.{same_cases}
 use Rattle.outcomes.proofs.Orders.{behind_each}
 use Rattle.outcomes.proofs.Standing.{name_from_named}
 use Rattle.outcomes.proofs.Windows.{between}
-use Rattle.reviewed.specs.Reviewed.{AllCount, AreReviewed, MayBePassedOver}
+use Rattle.suspects.specs.LookedAt.{AllCount, AreReviewed, MayBePassedOver}
 use Rattle.review.specs.declared.names.Parts.{Parts}
 use Rattle.review.specs.declared.reason.Reason.{Reason}
 use Rattle.review.specs.Barred.{AreBarredLines, IsWhy, HasApprovedAt, barred_for}

@@ -9,7 +9,7 @@ ghost use Rattle.messages.specs.declared.message.Message.{Message as AnyMessage}
 ghost use Rattle.grants.specs.Summaries.{Kept};
 ghost use Rattle.outcomes.specs.Parked.{AreParked};
 ghost use Rattle.outcomes.specs.Summaries.{AreSummaries};
-ghost use Rattle.reviewed.specs.Reviewed.{AreReviewed};
+ghost use Rattle.suspects.specs.LookedAt.{AreReviewed};
 ghost use Rattle.review.specs.Columns.{lines_text};
 ghost use Rattle.review.specs.Report.{IsReport};
 ghost use Rattle.review.specs.private.Names.{HaveNames};

@@ -4,7 +4,7 @@ use Rattle.sudo_words.specs.declared.cmnd.Cmnd.{Cmnd}
 use Rattle.messages.specs.declared.message.Message.{Message}
 use Rattle.roster.specs.Fields.{RosterFields}
 use Rattle.outcomes.specs.Gathered.{AreGathered}
-use Rattle.reviewed.specs.Reviewed.{AreKnownSuspects}
+use Rattle.suspects.specs.LookedAt.{AreKnownSuspects}
 use Rattle.store_tables.specs.Sets.{IsNothing, Lists}
 use Rattle.desk_store.specs.Keeping.{IsKnownOf}
 use Rattle.desk.specs.Count.{IsCount}

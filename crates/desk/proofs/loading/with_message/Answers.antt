@@ -2,7 +2,7 @@ use Rattle.std.proofs.Common.{Option, subst, sym}
 use Rattle.std.specs.Option.{IfSome}
 use Rattle.std.specs.BTreeSet.{BTreeSet}
 use Rattle.messages.specs.declared.request_name.RequestName.{RequestName}
-use Rattle.reviewed.specs.Reviewed.{AreKnownSuspects}
+use Rattle.suspects.specs.LookedAt.{AreKnownSuspects}
 use Rattle.desk.specs.declared.loading.Known.{Known}
 use Rattle.desk.specs.private.Known.{IsKnownIn}
 use Rattle.desk.proofs.loading.with_message.Goals as goal

@@ -3,7 +3,7 @@ use Rattle.std.specs.List.{Contains}
 use Rattle.messages.specs.Wire.{IsMessage}
 use Rattle.messages.specs.declared.message.Message.{Message}
 use Rattle.outcomes.specs.Parked.{AreParked}
-use Rattle.reviewed.specs.Reviewed.{AreReviewed}
+use Rattle.suspects.specs.LookedAt.{AreReviewed}
 use Rattle.review.specs.Report.{IsReport}
 use Rattle.review.proofs.of_desk.report.Goals as goal
 

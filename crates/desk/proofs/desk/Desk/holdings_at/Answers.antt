@@ -6,8 +6,8 @@ use Rattle.messages.specs.declared.message.Message.{Message}
 use Rattle.store_tables.specs.Sets.{Lists}
 use Rattle.outcomes.specs.Parked.{AreParked}
 use Rattle.outcomes.proofs.SetLemmas.{parked_of_set}
-use Rattle.reviewed.specs.Reviewed.{AreReviewed}
-use Rattle.reviewed.proofs.ReviewLemmas.{reviewed_of_set}
+use Rattle.suspects.specs.LookedAt.{AreReviewed}
+use Rattle.suspects.proofs.ReviewLemmas.{reviewed_of_set}
 use Rattle.desk.proofs.QueryLemmas.{same_listed}
 use Rattle.desk.proofs.desk.Desk.holdings_at.Goals as goal
 

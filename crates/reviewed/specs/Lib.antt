@@ -1,3 +1,0 @@
--- which names a report has to look at
-pub mod Reviewed
-pub mod private

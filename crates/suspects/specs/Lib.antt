@@ -1,0 +1,3 @@
+-- which names a report has to look at
+pub mod LookedAt
+pub mod private
