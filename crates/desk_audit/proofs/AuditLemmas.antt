@@ -34,7 +34,7 @@ use Rattle.outcomes.proofs.Orders.{behind_from_each}
 use Rattle.desk_audit.specs.Audit.{IsAudit, TellsName}
 use Rattle.desk_audit.specs.Documents.{AreOfName}
 use Rattle.desk_audit.specs.Told.{TellsMessages, name_in}
-use Rattle.findings.specs.declared.entry.Entry.{Entry}
+use Rattle.findings.specs.declared.entry.AuditEntry.{AuditEntry}
 use Rattle.findings.specs.declared.entry.About.{About}
 use Rattle.desk_audit.specs.private.ByName.{Gathers, IsToldAt}
 use Rattle.desk_audit.specs.private.Entries.{AreEntriesOf, IsEntryOf}
@@ -65,24 +65,24 @@ abbrev pub Keyed : Type 0
 Keyed = RequestName × About
 
 -- an entry, as the map has it
-abbrev pub keyed : Entry → Keyed
+abbrev pub keyed : AuditEntry → Keyed
 keyed e = (e.name, e.about)
 
-abbrev pub EntryPrecedes : (d e : Entry) → Type 0
+abbrev pub EntryPrecedes : (d e : AuditEntry) → Type 0
 EntryPrecedes d e = NamePrecedes d.name e.name
 
 -- ---- their order
 
-above : (k : RequestName) (es : List Entry) → AllByRecursion (λ y. name_cmp k y ≡ Less) (keys_of (map keyed es))
-    → (e : Entry) → Contains es e → name_cmp k e.name ≡ Less
+above : (k : RequestName) (es : List AuditEntry) → AllByRecursion (λ y. name_cmp k y ≡ Less) (keys_of (map keyed es))
+    → (e : AuditEntry) → Contains es e → name_cmp k e.name ≡ Less
 above k [] all e m = absurd (no_member e m)
 above k (d ∷ es) all e m =
     elim (Contains-cases d es e m) as (λ _. name_cmp k e.name ≡ Less) [
-      | inl same ↦ subst (λ (x : Entry). name_cmp k x.name ≡ Less) same all.0
+      | inl same ↦ subst (λ (x : AuditEntry). name_cmp k x.name ≡ Less) same all.0
       | inr later ↦ above k es all.1 e later
     ]
 
-in_order : (es : List Entry) → IsStrictlySortedBy name_cmp (keys_of (map keyed es)) → AreInOrder EntryPrecedes es
+in_order : (es : List AuditEntry) → IsStrictlySortedBy name_cmp (keys_of (map keyed es)) → AreInOrder EntryPrecedes es
 in_order [] sorted = tt
 in_order (e ∷ es) sorted = (
   behind_from_each EntryPrecedes e es (λ d m.
@@ -98,17 +98,17 @@ exact_names a b h =
 
 -- ---- all of them
 
-module _ (f : RosterFields Cmnd) (set list : List Message) (all : Abouts) (g : Gathers list all) (entries : List Entry)
+module _ (f : RosterFields Cmnd) (set list : List Message) (all : Abouts) (g : Gathers list all) (entries : List AuditEntry)
     (same : map keyed entries ≡ all.entries) where
-  at_its_name : (e : Entry) → Contains entries e → IsToldAt list e.name e.about
+  at_its_name : (e : AuditEntry) → Contains entries e → IsToldAt list e.name e.about
   at_its_name e among =
       let there : Contains all.entries (keyed e) = subst (λ (ks : List Keyed). Contains ks (keyed e)) same (to_mapped keyed entries e among) in
       subst (IsAt list e.name) (at_entry all g.ordered (keyed e) there) (g.each e.name)
 
-  has_entry : (m : Message) → Contains list m → (e : Entry) × Contains entries e × (e.name ≡ name_in m)
+  has_entry : (m : Message) → Contains list m → (e : AuditEntry) × Contains entries e × (e.name ≡ name_in m)
   has_entry m spoken = by_name (at_name all (name_in m)) refl (g.each (name_in m))
     where
-      by_name : (o : Option About) → at_name all (name_in m) ≡ o → IsAt list (name_in m) o → (e : Entry) × Contains entries e × (e.name ≡ name_in m)
+      by_name : (o : Option About) → at_name all (name_in m) ≡ o → IsAt list (name_in m) o → (e : AuditEntry) × Contains entries e × (e.name ≡ name_in m)
       by_name None was nobody = absurd (nobody m spoken refl)
       by_name (Some about) was is =
           let there : Contains all.entries (name_in m, about) = (btree_map_get_iff names_total exact_names all g.ordered (name_in m) about).0 was in
@@ -117,7 +117,7 @@ module _ (f : RosterFields Cmnd) (set list : List Message) (all : Abouts) (g : G
 
   pub are_entries : AllByRecursion (λ e. ComesTo f set e.name e.status) entries → AreEntriesOf f set list entries
   are_entries statuses =
-      let Status : Entry → Type 0 = λ e. ComesTo f set e.name e.status in
+      let Status : AuditEntry → Type 0 = λ e. ComesTo f set e.name e.status in
       record {
         in_order = in_order entries (subst (λ (ks : List Keyed). IsStrictlySortedBy name_cmp (keys_of ks)) (sym same) g.ordered);
         each = λ e among.
@@ -131,7 +131,7 @@ module _ (f : RosterFields Cmnd) (set list : List Message) (all : Abouts) (g : G
       }
 
 -- All that a list of the set says of each name is the set's audit.
-pub audit_of_list : (f : RosterFields Cmnd) (set list : List Message) (entries : List Entry)
+pub audit_of_list : (f : RosterFields Cmnd) (set list : List Message) (entries : List AuditEntry)
     → SameMessages list set → AreEntriesOf f set list entries → IsAudit f set entries
 audit_of_list f set list entries same are = record {
   in_order = are.in_order;
@@ -162,10 +162,10 @@ module _ (f : RosterFields Cmnd) (set list : List Message) (name : RequestName) 
     );
   }
 
-  its_name : (e : Entry) → IsEntryOf f set list e → e.name ≡ name
+  its_name : (e : AuditEntry) → IsEntryOf f set list e → e.name ≡ name
   its_name e is = sym is.spoken.2 ∙ ((about is.spoken.0).0 is.spoken.1).1
 
-  tells_name : (e : Entry) → IsEntryOf f set list e → TellsName f set e
+  tells_name : (e : AuditEntry) → IsEntryOf f set list e → TellsName f set e
   tells_name e is =
       let same = its_name e is in
       let told = told_within e.about (subst (λ (n : RequestName). TellsMessages list n e.about) same is.about) in
@@ -176,7 +176,7 @@ module _ (f : RosterFields Cmnd) (set list : List Message) (name : RequestName) 
       }
 
   -- What the messages about a name say is what is told of it.
-  pub of_its_messages : (entries : List Entry) → AreEntriesOf f set list entries → AreOfName f set name entries
+  pub of_its_messages : (entries : List AuditEntry) → AreEntriesOf f set list entries → AreOfName f set name entries
   of_its_messages [] are =
       inr ((λ m there named. let found = are.all m ((about m).1 (there, named)) in no_member found.0 found.1), refl)
   of_its_messages (e ∷ []) are =
@@ -188,24 +188,25 @@ module _ (f : RosterFields Cmnd) (set list : List Message) (name : RequestName) 
 
 -- ---- one more
 
-pub keyed_is : (e : Entry) (name : RequestName) (about : About) → e.name ≡ name → e.about ≡ about → keyed e ≡ (name, about)
+pub keyed_is : (e : AuditEntry) (name : RequestName) (about : About) → e.name ≡ name → e.about ≡ about → keyed e ≡ (name, about)
 keyed_is e name about same_name same_about =
     subst (λ (n : RequestName). keyed e ≡ (n, about)) same_name (subst (λ (a : About). keyed e ≡ (e.name, a)) same_about refl)
 
-pub split_once_more : (old new : List Entry) (e : Entry) (k : Keyed) (rest next all : List Keyed)
+pub split_once_more : (old new : List AuditEntry) (e : AuditEntry) (k : Keyed) (rest next all : List Keyed)
     → new ≡ old ++ e ∷ [] → keyed e ≡ k → rest ≡ k ∷ next → map keyed old ++ rest ≡ all → map keyed new ++ next ≡ all
 split_once_more old new e k rest next all more is steps split =
-    ap (λ (es : List Entry). map keyed es ++ next) more
+    ap (λ (es : List AuditEntry). map keyed es ++ next) more
     ∙ ap (λ (ks : List Keyed). ks ++ next) (map-append keyed old (e ∷ []) ∙ ap (λ (x : Keyed). map keyed old ++ x ∷ []) is)
     ∙ turn_split (map keyed old) rest next all k split steps
 
-pub split_ends : (es : List Entry) (rest all : List Keyed) → rest ≡ [] → map keyed es ++ rest ≡ all → map keyed es ≡ all
+pub split_ends : (es : List AuditEntry) (rest all : List Keyed) → rest ≡ [] → map keyed es ++ rest ≡ all → map keyed es ≡ all
 split_ends es rest all ended split =
     sym (append-nil (map keyed es)) ∙ subst (λ (ks : List Keyed). map keyed es ++ ks ≡ all) ended split
 
-status_push : (P : Entry → Type 0) (es : List Entry) (e : Entry) → AllByRecursion P es → P e → AllByRecursion P (es ++ e ∷ [])
+status_push : (P : AuditEntry → Type 0) (es : List AuditEntry) (e : AuditEntry) → AllByRecursion P es → P e → AllByRecursion P (es ++ e ∷ [])
 status_push P [] e all is = (is, tt)
 status_push P (d ∷ es) e all is = (all.0, status_push P es e all.1 is)
 
-pub one_status_more : (P : Entry → Type 0) (old new : List Entry) (e : Entry) → new ≡ old ++ e ∷ [] → AllByRecursion P old → P e → AllByRecursion P new
-one_status_more P old new e more all is = subst (λ (es : List Entry). AllByRecursion P es) (sym more) (status_push P old e all is)
+pub one_status_more : (P : AuditEntry → Type 0) (old new : List AuditEntry) (e : AuditEntry) → new ≡ old ++ e ∷ []
+    → AllByRecursion P old → P e → AllByRecursion P new
+one_status_more P old new e more all is = subst (λ (es : List AuditEntry). AllByRecursion P es) (sym more) (status_push P old e all is)

@@ -23,7 +23,7 @@ use Rattle.outcomes.proofs.SetLemmas.{one_outcome}
 use Rattle.grants.specs.declared.outcome.Status.{Status}
 use Rattle.grants.specs.declared.outcome.Status.TheVariants.{Disputed, Lapsed, Refused, Waiting, Void, Granted}
 use Rattle.findings.specs.Picks.{all, has_host_among, has_person_of, has_span, has_span_of, is_told, is_whole}
-use Rattle.findings.specs.declared.entry.Entry.{Entry}
+use Rattle.findings.specs.declared.entry.AuditEntry.{AuditEntry}
 use Rattle.findings.specs.declared.entry.About.{About}
 use Rattle.findings.specs.declared.pick.Pick.{Pick}
 use Rattle.findings.proofs.OneDocument.{Parts, one_document, parts_of}
@@ -49,7 +49,8 @@ one_verdicts set name a b x y =
     (λ v there. (y.verdicts v).1 ((x.verdicts v).0 there)) (λ v there. (x.verdicts v).1 ((y.verdicts v).0 there))
 
 -- what is told of a name is told in one way
-pub one_entry : (f : RosterFields Cmnd) (set : List Message) (d e : Entry) → d.name ≡ e.name → TellsName f set d → TellsName f set e → parts_of d ≡ parts_of e
+pub one_entry : (f : RosterFields Cmnd) (set : List Message) (d e : AuditEntry) → d.name ≡ e.name
+    → TellsName f set d → TellsName f set e → parts_of d ≡ parts_of e
 one_entry f set d e same x y =
     let about : TellsMessages set e.name d.about = subst (λ (n : RequestName). TellsMessages set n d.about) same x.about in
     let requests : d.about.requests.items ≡ e.about.requests.items = one_requests set e.name d.about e.about about y.about in
@@ -60,32 +61,33 @@ one_entry f set d e same x y =
 
 -- ---- one audit
 
-abbrev entry_name : Entry → RequestName
+abbrev entry_name : AuditEntry → RequestName
 entry_name e = e.name
 
-after_names : (e : Entry) (es : List Entry) → AllAfter EntryPrecedes e es → AllAfter NamePrecedes e.name (map entry_name es)
+after_names : (e : AuditEntry) (es : List AuditEntry) → AllAfter EntryPrecedes e es → AllAfter NamePrecedes e.name (map entry_name es)
 after_names e [] after = tt
 after_names e (d ∷ es) after = (after.0, after_names e es after.1)
 
-names_in_order : (es : List Entry) → AreInOrder EntryPrecedes es → AreInOrder NamePrecedes (map entry_name es)
+names_in_order : (es : List AuditEntry) → AreInOrder EntryPrecedes es → AreInOrder NamePrecedes (map entry_name es)
 names_in_order [] ordered = tt
 names_in_order (e ∷ es) ordered = (after_names e es ordered.0, names_in_order es ordered.1)
 
 module _ (f : RosterFields Cmnd) (set : List Message) where
-  name_there : (xs ys : List Entry) → IsAudit f set xs → IsAudit f set ys → (n : RequestName) → Contains (map entry_name xs) n → Contains (map entry_name ys) n
+  name_there : (xs ys : List AuditEntry) → IsAudit f set xs → IsAudit f set ys
+      → (n : RequestName) → Contains (map entry_name xs) n → Contains (map entry_name ys) n
   name_there xs ys x y n there =
       let mine = from_mapped entry_name xs n there in
       let spoken = (x.each mine.0 mine.1).spoken in
       let other = y.all spoken.0 spoken.1 in
       subst (Contains (map entry_name ys)) (other.2 ∙ spoken.2 ∙ mine.2) (to_mapped entry_name ys other.0 other.1)
 
-  same_names : (xs ys : List Entry) → IsAudit f set xs → IsAudit f set ys → map entry_name xs ≡ map entry_name ys
+  same_names : (xs ys : List AuditEntry) → IsAudit f set xs → IsAudit f set ys → map entry_name xs ≡ map entry_name ys
   same_names xs ys x y =
       same_lists NamePrecedes names_strict (map entry_name xs) (map entry_name ys) (names_in_order xs x.in_order) (names_in_order ys y.in_order)
       (name_there xs ys x y) (name_there ys xs y x)
 
-  same_parts : (xs ys : List Entry) → map entry_name xs ≡ map entry_name ys → ((e : Entry) → Contains xs e → TellsName f set e)
-      → ((e : Entry) → Contains ys e → TellsName f set e) → map parts_of xs ≡ map parts_of ys
+  same_parts : (xs ys : List AuditEntry) → map entry_name xs ≡ map entry_name ys → ((e : AuditEntry) → Contains xs e → TellsName f set e)
+      → ((e : AuditEntry) → Contains ys e → TellsName f set e) → map parts_of xs ≡ map parts_of ys
   same_parts [] [] names x y = refl
   same_parts [] (e ∷ ys) names x y = absurd cc
   same_parts (d ∷ xs) [] names x y = absurd cc
@@ -97,7 +99,7 @@ module _ (f : RosterFields Cmnd) (set : List Message) where
       ∙ ap (λ (ps : List Parts). parts_of e ∷ ps)
       (same_parts xs ys tails (λ k there. x k (Contains-behind d xs k there)) (λ k there. y k (Contains-behind e ys k there)))
 
-  one_audit : (xs ys : List Entry) → IsAudit f set xs → IsAudit f set ys → map parts_of xs ≡ map parts_of ys
+  one_audit : (xs ys : List AuditEntry) → IsAudit f set xs → IsAudit f set ys → map parts_of xs ≡ map parts_of ys
   one_audit xs ys x y = same_parts xs ys (same_names xs ys x y) x.each y.each
 
 -- ---- what is chosen of it
@@ -112,7 +114,7 @@ span_same pick a b (Some Refused) requests verdicts = ap (list_any (λ (q : Requ
 span_same pick a b (Some Waiting) requests verdicts = ap (list_any (λ (q : RequestFields). has_span pick q.from q.until)) requests
 span_same pick a b (Some Void) requests verdicts = ap (list_any (λ (q : RequestFields). has_span pick q.from q.until)) requests
 
-told_alike : (pick : Pick) (x y : Entry) → parts_of x ≡ parts_of y → is_told pick x ≡ is_told pick y
+told_alike : (pick : Pick) (x y : AuditEntry) → parts_of x ≡ parts_of y → is_told pick x ≡ is_told pick y
 told_alike pick x y same =
     let requests : x.about.requests.items ≡ y.about.requests.items = ap (λ (p : Parts). p.requests) same in
     let verdicts : x.about.verdicts.items ≡ y.about.verdicts.items = ap (λ (p : Parts). p.verdicts) same in
@@ -126,8 +128,8 @@ told_alike pick x y same =
     ∙ ap (λ (b : Bool). is_whole pick || (has_span_of pick y.about y.status && b && has_person_of pick x.name.by x.about.verdicts.items)) host
     ∙ ap (λ (b : Bool). is_whole pick || (has_span_of pick y.about y.status && has_host_among pick y.about.requests.items && b)) person
 
-module _ (p : Entry → Bool) (alike : (x y : Entry) → parts_of x ≡ parts_of y → p x ≡ p y) where
-  filter_same : (xs ys : List Entry) → map parts_of xs ≡ map parts_of ys → map parts_of (filter p xs) ≡ map parts_of (filter p ys)
+module _ (p : AuditEntry → Bool) (alike : (x y : AuditEntry) → parts_of x ≡ parts_of y → p x ≡ p y) where
+  filter_same : (xs ys : List AuditEntry) → map parts_of xs ≡ map parts_of ys → map parts_of (filter p xs) ≡ map parts_of (filter p ys)
   filter_same [] [] same = refl
   filter_same [] (y ∷ ys) same = absurd cc
   filter_same (x ∷ xs) [] same = absurd cc
@@ -151,7 +153,7 @@ one_audit_text f set pick s t x y =
 
 -- ---- one name
 
-one_of_name : (f : RosterFields Cmnd) (set : List Message) (name : RequestName) (xs ys : List Entry) → AreOfName f set name xs → AreOfName f set name ys
+one_of_name : (f : RosterFields Cmnd) (set : List Message) (name : RequestName) (xs ys : List AuditEntry) → AreOfName f set name xs → AreOfName f set name ys
     → map parts_of xs ≡ map parts_of ys
 one_of_name f set name xs ys (inl x) (inl y) =
     ap (map parts_of) x.3
@@ -170,26 +172,26 @@ module _ (f : RosterFields Cmnd) (set : List Message) (asker : List ℕ) (number
   abbrev the_name : RequestName
   the_name = record { by = asker; no = number }
 
-  its_name : (e : Entry) → is_named asker number e ≡ true → e.name ≡ the_name
+  its_name : (e : AuditEntry) → is_named asker number e ≡ true → e.name ≡ the_name
   its_name e is =
       let tests = and_parts _ _ is in
       let by : e.name.by ≡ asker = (bytes_eq-Decides e.name.by asker).0 tests.0 in
       let same : e.name.no ≡ number = (Decides-eqb e.name.no number).0 tests.1 in
       ap (λ (b : List ℕ). record { by = b; no = e.name.no }) by ∙ ap (λ (n : ℕ). record { by = asker; no = n }) same
 
-  is_its : (e : Entry) → e.name ≡ the_name → is_named asker number e ≡ true
+  is_its : (e : AuditEntry) → e.name ≡ the_name → is_named asker number e ≡ true
   is_its e is =
       let by : e.name.by ≡ asker = ap (λ (n : RequestName). n.by) is in
       let same : e.name.no ≡ number = ap (λ (n : RequestName). n.no) is in
       and_from _ _ ((bytes_eq-Decides e.name.by asker).1 by) ((Decides-eqb e.name.no number).1 same)
 
   -- one entry has the name, and no other; or none has it
-  abbrev Found : List Entry → Type 0
+  abbrev Found : List AuditEntry → Type 0
   Found xs =
-      ((e : Entry) × Contains xs e × (e.name ≡ the_name) × (filter (is_named asker number) xs ≡ e ∷ []))
-      ⊎ (((e : Entry) → Contains xs e → e.name ≡ the_name → ⊥) × (filter (is_named asker number) xs ≡ []))
+      ((e : AuditEntry) × Contains xs e × (e.name ≡ the_name) × (filter (is_named asker number) xs ≡ e ∷ []))
+      ⊎ (((e : AuditEntry) → Contains xs e → e.name ≡ the_name → ⊥) × (filter (is_named asker number) xs ≡ []))
 
-  found : (xs : List Entry) → AreInOrder EntryPrecedes xs → Found xs
+  found : (xs : List AuditEntry) → AreInOrder EntryPrecedes xs → Found xs
   found [] ordered = inr ((λ e there. absurd (no_member e there)), refl)
   found (x ∷ xs) ordered = by (is_named asker number x) refl (found xs ordered.1)
     where
@@ -201,7 +203,7 @@ module _ (f : RosterFields Cmnd) (set : List Message) (asker : List ℕ) (number
             Contains-head x xs,
             its_name x is,
             ap (λ (b : Bool). cond b (x ∷ filter (is_named asker number) xs) (filter (is_named asker number) xs)) is
-                ∙ ap (λ (es : List Entry). x ∷ es) none.1,
+                ∙ ap (λ (es : List AuditEntry). x ∷ es) none.1,
           )
       by false is (inl it) =
           inl (
@@ -220,7 +222,7 @@ module _ (f : RosterFields Cmnd) (set : List Message) (asker : List ℕ) (number
       )
 
   -- the audit's entry of the name is what is told of it
-  pub named_entries : (xs : List Entry) → IsAudit f set xs → AreOfName f set the_name (filter (is_named asker number) xs)
+  pub named_entries : (xs : List AuditEntry) → IsAudit f set xs → AreOfName f set the_name (filter (is_named asker number) xs)
   named_entries xs is = by (found xs is.in_order)
     where
       by : Found xs → AreOfName f set the_name (filter (is_named asker number) xs)

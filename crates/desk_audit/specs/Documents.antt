@@ -8,7 +8,7 @@ use Rattle.messages.specs.declared.request_name.RequestName.{RequestName}
 use Rattle.roster.specs.Fields.{RosterFields}
 use Rattle.findings.specs.Document.{IsDocument}
 use Rattle.findings.specs.Picks.{all, is_told}
-use Rattle.findings.specs.declared.entry.Entry.{Entry}
+use Rattle.findings.specs.declared.entry.AuditEntry.{AuditEntry}
 use Rattle.findings.specs.declared.pick.Pick.{Pick}
 use Rattle.desk_audit.specs.Audit.{IsAudit, TellsName}
 use Rattle.desk_audit.specs.Told.{name_in}
@@ -16,23 +16,23 @@ use Rattle.desk_audit.specs.Told.{name_in}
 -- the entries of the audit that are asked about, as a document
 pub record IsAuditText (f : RosterFields Cmnd)
     (messages : List Message) (pick : Pick) (text : List ℕ) : Type 0 where
-  pub entries : List Entry
+  pub entries : List AuditEntry
   pub audit : IsAudit f messages entries
   pub document : IsDocument f pick (filter (is_told pick) entries) text
 
 -- the name's entry; or none, where no message is about it
-abbrev pub AreOfName : RosterFields Cmnd → List Message → RequestName → List Entry → Type 0
+abbrev pub AreOfName : RosterFields Cmnd → List Message → RequestName → List AuditEntry → Type 0
 AreOfName f messages name entries =
-    ((e : Entry) × TellsName f messages e × (e.name ≡ name) × (entries ≡ e ∷ []))
+    ((e : AuditEntry) × TellsName f messages e × (e.name ≡ name) × (entries ≡ e ∷ []))
     ⊎ (((m : Message) → Contains messages m → name_in m ≡ name → ⊥) × (entries ≡ []))
 
 -- the same as a document
 pub record IsNameText (f : RosterFields Cmnd)
     (messages : List Message) (name : RequestName) (text : List ℕ) : Type 0 where
-  pub entries : List Entry
+  pub entries : List AuditEntry
   pub of_name : AreOfName f messages name entries
   pub document : IsDocument f all entries text
 
 -- the entry is that of the asker's request under the number
-abbrev pub is_named : (asker : List ℕ) → (number : ℕ) → Entry → Bool
+abbrev pub is_named : (asker : List ℕ) → (number : ℕ) → AuditEntry → Bool
 is_named asker number e = bytes_eq e.name.by asker && (e.name.no == number)

@@ -14,7 +14,7 @@ ghost use Rattle.desk_audit.specs.private.Entries.{AreEntriesOf};
 
 use crate::gathering::{ByName, gather};
 use desk::{Desk, Keeper, Refusal};
-use findings::{About, Entry};
+use findings::{About, AuditEntry};
 use messages::RequestName;
 use std::alloc::Global;
 
@@ -23,7 +23,7 @@ fn entry_of<K: Keeper>(
     desk: &mut Desk<K>,
     name: RequestName,
     about: About,
-) -> Result<Entry, Refusal>
+) -> Result<AuditEntry, Refusal>
     ensures status { (set : List AnyMessage) → K.is_up desk.new.keeper
         → Lists (K.holds desk.old.keeper) set
         → IfOk result (λ entry. ComesTo desk.old.roster.says set name entry.status) }
@@ -37,7 +37,7 @@ fn entry_of<K: Keeper>(
     ensures asks { OnlyAsks K.Keeper desk.old.keeper desk.new.keeper result }
 {
     let status = desk.status_of(&name)?;
-    Ok(Entry {
+    Ok(AuditEntry {
         name,
         about,
         status,
@@ -49,7 +49,7 @@ pub(crate) fn entries_of<K: Keeper>(
     alloc: Global,
     desk: &mut Desk<K>,
     all: ByName,
-) -> Result<Vec<Entry>, Refusal>
+) -> Result<Vec<AuditEntry>, Refusal>
     ensures told { (set list : List AnyMessage) → K.is_up desk.new.keeper
         → K.is_desk desk.old.keeper → Lists (K.holds desk.old.keeper) set → Gathers list all
         → IfOk result (λ entries. AreEntriesOf desk.old.roster.says set list entries.items) }
@@ -75,7 +75,7 @@ pub(crate) fn entries_of<K: Keeper>(
 ///
 /// Each status is what the messages about the name come to. It is refused only for want of memory
 /// or of storage. Nothing in the desk changes.
-pub fn audit<K: Keeper>(desk: &mut Desk<K>) -> Result<Vec<Entry>, Refusal>
+pub fn audit<K: Keeper>(desk: &mut Desk<K>) -> Result<Vec<AuditEntry>, Refusal>
     ensures audit { (set : List AnyMessage) → K.is_up desk.new.keeper
         → Lists (K.holds desk.old.keeper) set
         → IfOk result (λ entries. IsAudit desk.old.roster.says set entries.items) }

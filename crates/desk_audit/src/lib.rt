@@ -16,5 +16,5 @@ mod one_name;
 pub use as_json::{document, document_of};
 pub use entry::audit;
 pub use findings::{
-    About, Effect, Entry, Pick, Question, WordsFault, asked_by, counts, json, text,
+    About, AuditEntry, Effect, Pick, Question, WordsFault, asked_by, counts, json, text,
 };

@@ -10,17 +10,17 @@ ghost use Rattle.desk_audit.specs.Documents.{AreOfName, is_named};
 use crate::entry::{audit, entries_of};
 use crate::gathering::gather;
 use desk::{Desk, Keeper, Refusal};
-use findings::Entry;
+use findings::AuditEntry;
 
 /// Whether the entry is that of the asker's request under the number.
-fn is_named(entry: &Entry, asker: &str, no: u32) -> bool
+fn is_named(entry: &AuditEntry, asker: &str, no: u32) -> bool
     ensures { result ≡ is_named asker.now no entry.now }
 {
     entry.name.by.as_str() == asker && entry.name.no == no
 }
 
 /// The entries that are those of the asker's request under the number.
-fn named_among(entries: Vec<Entry>, asker: &str, no: u32) -> Vec<Entry>
+fn named_among(entries: Vec<AuditEntry>, asker: &str, no: u32) -> Vec<AuditEntry>
     ensures { result.items ≡ filter (is_named asker.now no) entries.items }
 {
     let mut entries = entries;
@@ -33,7 +33,7 @@ fn entries_in_audit<K: Keeper>(
     desk: &mut Desk<K>,
     asker: &str,
     no: u32,
-) -> Result<Vec<Entry>, Refusal>
+) -> Result<Vec<AuditEntry>, Refusal>
     ensures of_name { (set : List AnyMessage) → K.is_up desk.new.keeper
         → Lists (K.holds desk.old.keeper) set
         → IfOk result (λ entries. AreOfName desk.old.roster.says set
@@ -54,7 +54,7 @@ pub(crate) fn entries_about<K: Keeper>(
     desk: &mut Desk<K>,
     asker: &str,
     no: u32,
-) -> Result<Vec<Entry>, Refusal>
+) -> Result<Vec<AuditEntry>, Refusal>
     ensures of_name { (set : List AnyMessage) → K.is_up desk.new.keeper
         → Lists (K.holds desk.old.keeper) set
         → IfOk result (λ entries. AreOfName desk.old.roster.says set

@@ -13,22 +13,22 @@ use Rattle.store_tables.specs.SqliteStates.{IsUp, Rests}
 use Rattle.store_tables.specs.Stored.{content_of, with_roster}
 use Rattle.store_tables.specs.Committed.{ChangesAt}
 use Rattle.store_schema.specs.Beside.{IsOther, KeepsBeside}
-use Rattle.store_schema.specs.declared.part.Part.TheVariants as part
+use Rattle.store_schema.specs.declared.part.DeskPart.TheVariants as part
 use Rattle.store_schema.proofs.BesideLemmas.{other_apart, other_new, other_still, spared_beside, there_still}
 use Rattle.store_schema.proofs.ShapeLemmas.{common_of}
 use Rattle.store_schema.proofs.MarksLemmas.{unmarked_spared, unmarked_still}
-use Rattle.store_opening.specs.declared.found.Contents.{Contents}
-use Rattle.store_opening.specs.declared.found.Found.{Found}
-use Rattle.store_opening.specs.declared.found.Found.TheVariants as found
+use Rattle.store_opening.specs.declared.in_database.Contents.{Contents}
+use Rattle.store_opening.specs.declared.in_database.InDatabase.{InDatabase}
+use Rattle.store_opening.specs.declared.in_database.InDatabase.TheVariants as found
 use Rattle.store_migration.specs.Migrated.{GainsVerdicts, IsBeside, KeepsOthers, MigratesAt}
 use Rattle.store_opening.specs.Opened.{FoundIn, IsKept, IsOldDesk, Reads}
 use Rattle.desk_store.specs.private.Replacing.{Becomes, BecomesAt, Replaces}
 
 -- what was found, by its case
-pub found_today : (db : Database) (f : Found) (c : Contents) → f ≡ found.Desk c → FoundIn db f → FoundIn db (found.Desk c)
+pub found_today : (db : Database) (f : InDatabase) (c : Contents) → f ≡ found.Desk c → FoundIn db f → FoundIn db (found.Desk c)
 found_today db f c is told = subst (FoundIn db) is told
 
-pub found_older : (db : Database) (f : Found) (c : Contents) → f ≡ found.Old c → FoundIn db f → FoundIn db (found.Old c)
+pub found_older : (db : Database) (f : InDatabase) (c : Contents) → f ≡ found.Old c → FoundIn db f → FoundIn db (found.Old c)
 found_older db f c is told = subst (FoundIn db) is told
 
 -- a call that did nothing

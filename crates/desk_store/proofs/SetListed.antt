@@ -12,7 +12,7 @@ use Rattle.messages.specs.declared.message.Message.{Message}
 use Rattle.store_tables.specs.Kept.{HoldsText, table_in}
 use Rattle.store_tables.specs.Sets.{Lists}
 use Rattle.store_tables.specs.Stored.{is_stray, is_text}
-use Rattle.store_schema.specs.declared.part.Part.TheVariants.{Messages}
+use Rattle.store_schema.specs.declared.part.DeskPart.TheVariants.{Messages}
 use Rattle.store_opening.specs.Opened.{HasTexts}
 use Rattle.store_opening.specs.private.Reading.{AreBodies, IsKeepable, body}
 use Rattle.store_opening.specs.private.Selecting.{shown_of}

@@ -9,8 +9,8 @@ use Rattle.store_tables.specs.Sets.{Lists}
 use Rattle.store_tables.specs.Stored.{content_of}
 use Rattle.store_schema.specs.Shapes.{IsVacant}
 use Rattle.store_schema.proofs.ShapeLemmas.{common_of}
-use Rattle.store_opening.specs.declared.found.Found.{Found as InDatabase}
-use Rattle.store_opening.specs.declared.found.Found.TheVariants as database
+use Rattle.store_opening.specs.declared.in_database.InDatabase.{InDatabase}
+use Rattle.store_opening.specs.declared.in_database.InDatabase.TheVariants as database
 use Rattle.store_opening.specs.Opened.{FoundIn, IsDeskBesideRows, IsKept, IsOldDesk}
 use Rattle.store_opening.specs.Opened.{IsSomeDesk as IsFoundDesk}
 use Rattle.store_opening.proofs.OpenedLemmas.{not_old, not_vacant}

@@ -13,7 +13,7 @@ use crate::collected::Collected;
 use sqlite::{Alter, Connection};
 use std::alloc::Global;
 use store_migration::migrate;
-use store_opening::{Contents, Found, Stored, look};
+use store_opening::{Contents, InDatabase, Stored, look};
 use store_tables::{Fault, replace};
 use sudo_words::NoMemory;
 
@@ -84,8 +84,8 @@ pub(crate) fn replace_in<S: Alter>(
 {
     let found = look(alloc, conn)?;
     match found {
-        Found::Desk(contents) => replace_today(alloc, conn, roster, &contents),
-        Found::Old(contents) => replace_older(alloc, conn, roster, &contents),
-        Found::Empty | Found::NotADesk => Err(Fault::Stray),
+        InDatabase::Desk(contents) => replace_today(alloc, conn, roster, &contents),
+        InDatabase::Old(contents) => replace_older(alloc, conn, roster, &contents),
+        InDatabase::Empty | InDatabase::NotADesk => Err(Fault::Stray),
     }
 }

@@ -27,7 +27,7 @@ use messages::Message;
 use outcomes::Gathered;
 use sqlite::{Alter, Connection};
 use std::alloc::Global;
-use store_opening::{Contents, Found as InDatabase, look, messages_of};
+use store_opening::{Contents, InDatabase, look, messages_of};
 use store_schema::{is_ready, make};
 use store_tables::{Fault, arrive};
 

@@ -12,7 +12,7 @@ use Rattle.findings.specs.Judging.{approvers, asked_at, effect_on, IsCompletionO
 use Rattle.findings.specs.Terminal.{AreEntryLines, host_line, lacks_lines, request_lines, status_line, verdict_line}
 use Rattle.findings.specs.Terminal.{window_line, window_lines}
 use Rattle.findings.specs.declared.by_host.HostWindow.{HostWindow}
-use Rattle.findings.specs.declared.entry.Entry.{Entry}
+use Rattle.findings.specs.declared.entry.AuditEntry.{AuditEntry}
 use Rattle.findings.specs.private.Writing.{Adds, AddsAll}
 use Rattle.findings.proofs.JoinedLemmas.{drop_next}
 use Rattle.findings.proofs.PieceLemmas.{piece}
@@ -72,16 +72,16 @@ module _ {X : Type 0} (IsText : X → List ℕ → Type 0) (whole rest : List X)
 
 module _ (until complete : Option ℕ) (denial : Option Denial) (two three new : List ℕ) (vs : List VerdictFields) where
   -- what is known of an entry that was judged
-  abbrev pub AreWritten : RosterFields Cmnd → Entry → Type 0
+  abbrev pub AreWritten : RosterFields Cmnd → AuditEntry → Type 0
   AreWritten f e =
       IsDenialOn f e denial × (three ≡ two ++ flat_map (λ v. verdict_line (effect_on f e complete v) v) vs)
       × (new ≡ three ++ lacks_lines (lacks f e) (asked_at f e until) (approvers f e))
 
-  pub lines_of : (f g : RosterFields Cmnd) (d e : Entry) → g ≡ f → d ≡ e → AreWritten g d → AreWritten f e
+  pub lines_of : (f g : RosterFields Cmnd) (d e : AuditEntry) → g ≡ f → d ≡ e → AreWritten g d → AreWritten f e
   lines_of f g d e same_roster same_entry are =
-      subst (λ (x : Entry). AreWritten f x) same_entry (subst (λ (x : RosterFields Cmnd). AreWritten x d) same_roster are)
+      subst (λ (x : AuditEntry). AreWritten f x) same_entry (subst (λ (x : RosterFields Cmnd). AreWritten x d) same_roster are)
 
-pub lines_written : (f : RosterFields Cmnd) (e : Entry) (until complete : Option ℕ) (denial : Option Denial) (old one two three new : List ℕ)
+pub lines_written : (f : RosterFields Cmnd) (e : AuditEntry) (until complete : Option ℕ) (denial : Option Denial) (old one two three new : List ℕ)
     → IsCompletionOn f e complete → AreWritten until complete denial two three new e.about.verdicts.items f e
     → one ≡ old ++ status_line e.name e.status denial → two ≡ one ++ flat_map request_lines e.about.requests.items
     → Adds (AreEntryLines f until e) old new

@@ -26,7 +26,7 @@ use Rattle.findings.specs.Effects.{approvals_under, effect}
 use Rattle.findings.specs.Judging.{Asked, IsCompletionOf, approvers_of, ceiling_of, messages_on, only_one, only_request, or_own, waiting_as}
 use Rattle.findings.specs.Windows.{AreWindows, window_cmp, windows_by, windows_of}
 use Rattle.findings.specs.declared.by_host.HostWindow.{HostWindow}
-use Rattle.findings.specs.declared.entry.Entry.{Entry}
+use Rattle.findings.specs.declared.entry.AuditEntry.{AuditEntry}
 use Rattle.findings.specs.declared.pick.Pick.{Pick}
 use Rattle.findings.proofs.OneSortedList.{one_sorted_list}
 
@@ -38,7 +38,7 @@ pub record Parts : Type 0 where
   pub verdicts : List VerdictFields
   pub status : Option Status
 
-abbrev pub parts_of : Entry → Parts
+abbrev pub parts_of : AuditEntry → Parts
 parts_of e = record { name = e.name; requests = e.about.requests.items; verdicts = e.about.verdicts.items; status = e.status }
 
 module _ (f : RosterFields Cmnd) where
@@ -60,7 +60,7 @@ module _ (f : RosterFields Cmnd) where
   IsTextOf until p text = (complete : Option ℕ) × (denial : Option Denial) × IsCompletionOf f (only_request p.requests) p.verdicts complete
       × IsDenialOf f (lapsed p.status p.requests) denial × (text ≡ json_of until p complete denial)
 
-  of_entry : (until : Option ℕ) (e : Entry) (text : List ℕ) → IsEntryText f until e text → IsTextOf until (parts_of e) text
+  of_entry : (until : Option ℕ) (e : AuditEntry) (text : List ℕ) → IsEntryText f until e text → IsTextOf until (parts_of e) text
   of_entry until e text is = is
 
   one_moment : (set : List Message) (q : RequestFields) (m n : ℕ) → IsComplete f set q m → IsComplete f set q n → m ≡ n
@@ -99,7 +99,7 @@ tails_same : (a b : Parts) (ps qs : List Parts) → a ∷ ps ≡ b ∷ qs → ps
 tails_same a b ps qs e = cc
 
 module _ (f : RosterFields Cmnd) (until : Option ℕ) where
-  one_texts : (xs ys : List Entry) (ss ts : List (List ℕ)) → map parts_of xs ≡ map parts_of ys
+  one_texts : (xs ys : List AuditEntry) (ss ts : List (List ℕ)) → map parts_of xs ≡ map parts_of ys
       → AreTextsOf (IsEntryText f until) xs ss → AreTextsOf (IsEntryText f until) ys ts → ss ≡ ts
   one_texts [] [] ss ts same a b = a ∙ sym b
   one_texts [] (y ∷ ys) ss ts same a b = absurd cc
@@ -115,7 +115,7 @@ module _ (f : RosterFields Cmnd) (until : Option ℕ) where
 abbrev windows_in : Pick → Parts → List HostWindow
 windows_in pick p = windows_by pick p.requests p.status
 
-windows_by_parts : (pick : Pick) (es : List Entry) → flat_map (windows_of pick) es ≡ flat_map (windows_in pick) (map parts_of es)
+windows_by_parts : (pick : Pick) (es : List AuditEntry) → flat_map (windows_of pick) es ≡ flat_map (windows_in pick) (map parts_of es)
 windows_by_parts pick [] = refl
 windows_by_parts pick (e ∷ es) = ap (λ (ws : List HostWindow). windows_of pick e ++ ws) (windows_by_parts pick es)
 
@@ -145,7 +145,7 @@ exact_windows a b e =
     let no : a.no ≡ b.no = exact_unsigned a.no b.no four.1 in
     rw (host, start, end, by, no) refl
 
-pub one_windows : (pick : Pick) (xs ys : List Entry) (vs ws : List HostWindow) → map parts_of xs ≡ map parts_of ys
+pub one_windows : (pick : Pick) (xs ys : List AuditEntry) (vs ws : List HostWindow) → map parts_of xs ≡ map parts_of ys
     → AreWindows pick xs vs → AreWindows pick ys ws → vs ≡ ws
 one_windows pick xs ys vs ws same a b =
     let all : flat_map (windows_of pick) xs ≡ flat_map (windows_of pick) ys =
@@ -154,7 +154,7 @@ one_windows pick xs ys vs ws same a b =
     (subst (λ (zs : List HostWindow). IsPermutation zs vs) all a.each) b.each a.in_order b.in_order
 
 -- Entries that say the same have the same document, and one.
-pub one_document : (f : RosterFields Cmnd) (pick : Pick) (xs ys : List Entry) (s t : List ℕ) → map parts_of xs ≡ map parts_of ys
+pub one_document : (f : RosterFields Cmnd) (pick : Pick) (xs ys : List AuditEntry) (s t : List ℕ) → map parts_of xs ≡ map parts_of ys
     → IsDocument f pick xs s → IsDocument f pick ys t → s ≡ t
 one_document f pick xs ys s t same a b =
     a.text_is

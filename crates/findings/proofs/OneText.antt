@@ -7,7 +7,7 @@ use Rattle.findings.specs.Document.{AreTextsOf, lapsed}
 use Rattle.findings.specs.Judging.{only_request}
 use Rattle.findings.specs.Terminal.{AreEntryLines, IsText, entry_lines, text, those_under}
 use Rattle.findings.specs.declared.by_host.HostWindow.{HostWindow}
-use Rattle.findings.specs.declared.entry.Entry.{Entry}
+use Rattle.findings.specs.declared.entry.AuditEntry.{AuditEntry}
 use Rattle.findings.specs.declared.pick.Pick.{Pick}
 use Rattle.findings.proofs.OneDocument.{one_completion, one_denial_of, one_windows}
 
@@ -19,7 +19,7 @@ each_one IsOne one (x ∷ xs) ss ts a b =
     let more : a.1 ≡ b.1 = each_one IsOne one xs a.1 b.1 a.4 b.4 in
     a.2 ∙ ap (λ (t : List ℕ). t ∷ a.1) head ∙ ap (λ (ts : List (List ℕ)). b.0 ∷ ts) more ∙ sym b.2
 
-one_entry : (f : RosterFields Cmnd) (until : Option ℕ) (e : Entry) (s t : List ℕ) → AreEntryLines f until e s → AreEntryLines f until e t → s ≡ t
+one_entry : (f : RosterFields Cmnd) (until : Option ℕ) (e : AuditEntry) (s t : List ℕ) → AreEntryLines f until e s → AreEntryLines f until e t → s ≡ t
 one_entry f until e s t x y =
     let qs = e.about.requests.items in
     x.4
@@ -27,9 +27,9 @@ one_entry f until e s t x y =
     ∙ ap (λ (d : Option Denial). entry_lines f until e y.0 d) (one_denial_of f (lapsed e.status qs) x.1 y.1 x.3 y.3)
     ∙ sym y.4
 
-pub one_text : (f : RosterFields Cmnd) (pick : Pick) (es : List Entry) (s t : List ℕ) → IsText f pick es s → IsText f pick es t → s ≡ t
+pub one_text : (f : RosterFields Cmnd) (pick : Pick) (es : List AuditEntry) (s t : List ℕ) → IsText f pick es s → IsText f pick es t → s ≡ t
 one_text f pick es s t a b =
-    let IsOne : Entry → List ℕ → Type 0 = AreEntryLines f pick.until in
+    let IsOne : AuditEntry → List ℕ → Type 0 = AreEntryLines f pick.until in
     let one = one_entry f pick.until in
     let requests : a.requests ≡ b.requests = each_one IsOne one (those_under true es) a.requests b.requests a.requests_are b.requests_are in
     let parked : a.parked ≡ b.parked = each_one IsOne one (those_under false es) a.parked b.parked a.parked_are b.parked_are in

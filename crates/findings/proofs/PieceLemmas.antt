@@ -8,7 +8,7 @@ use Rattle.roster.specs.Fields.{RosterFields}
 use Rattle.grants.specs.declared.denial.Denial.{Denial}
 use Rattle.findings.specs.Document.{IsDenialOn, IsEntryText, lacks_json, requests_json, status_json, verdicts_json}
 use Rattle.findings.specs.Judging.{approvers, asked_at, effect_on, IsCompletionOn, lacks}
-use Rattle.findings.specs.declared.entry.Entry.{Entry}
+use Rattle.findings.specs.declared.entry.AuditEntry.{AuditEntry}
 use Rattle.findings.specs.private.Writing.{Adds}
 
 -- one more piece
@@ -19,16 +19,16 @@ piece old so_far mid part new before added = added ∙ ap (λ (t : List ℕ). t 
 
 module _ (until complete : Option ℕ) (denial : Option Denial) (old one two three four new : List ℕ) (vs : List VerdictFields) where
   -- what is known of an entry that was judged
-  abbrev pub IsWritten : RosterFields Cmnd → Entry → Type 0
+  abbrev pub IsWritten : RosterFields Cmnd → AuditEntry → Type 0
   IsWritten f e =
       IsDenialOn f e denial × (three ≡ two ++ verdicts_json (effect_on f e complete) vs)
       × (four ≡ three ++ lacks_json (lacks f e) (asked_at f e until) (approvers f e))
 
-  pub written_of : (f g : RosterFields Cmnd) (d e : Entry) → g ≡ f → d ≡ e → IsWritten g d → IsWritten f e
+  pub written_of : (f g : RosterFields Cmnd) (d e : AuditEntry) → g ≡ f → d ≡ e → IsWritten g d → IsWritten f e
   written_of f g d e same_roster same_entry is =
-      subst (λ (x : Entry). IsWritten f x) same_entry (subst (λ (x : RosterFields Cmnd). IsWritten x d) same_roster is)
+      subst (λ (x : AuditEntry). IsWritten f x) same_entry (subst (λ (x : RosterFields Cmnd). IsWritten x d) same_roster is)
 
-pub entry_written : (f : RosterFields Cmnd) (e : Entry) (until complete : Option ℕ) (denial : Option Denial) (old one two three four new : List ℕ)
+pub entry_written : (f : RosterFields Cmnd) (e : AuditEntry) (until complete : Option ℕ) (denial : Option Denial) (old one two three four new : List ℕ)
     → IsCompletionOn f e complete → IsWritten until complete denial old one two three four new e.about.verdicts.items f e
     → one ≡ old ++ status_json e.name e.status denial → two ≡ one ++ requests_json e.about.requests.items → new ≡ four ++ codes "}"
     → Adds (IsEntryText f until e) old new

@@ -24,7 +24,7 @@ use Rattle.findings.specs.declared.by_host.HostWindow.{HostWindow}
 use Rattle.findings.specs.declared.effects.Effect.{Effect}
 use Rattle.findings.specs.declared.effects.Effect.TheVariants.{Weighs, Late}
 use Rattle.findings.specs.declared.effects.Effect.TheVariants as effects
-use Rattle.findings.specs.declared.entry.Entry.{Entry}
+use Rattle.findings.specs.declared.entry.AuditEntry.{AuditEntry}
 use Rattle.findings.specs.declared.pick.Pick.{Pick}
 use Rattle.findings.specs.Windows.{AreWindows}
 
@@ -127,7 +127,7 @@ lacks_json (Some count) (Some at) people = waiting_json count at (map quoted (pe
 
 -- ---- an entry
 
-abbrev pub entry_json : RosterFields Cmnd → (until : Option ℕ) → Entry
+abbrev pub entry_json : RosterFields Cmnd → (until : Option ℕ) → AuditEntry
     → (complete : Option ℕ) → Option Denial → List ℕ
 entry_json f until e complete denial =
     status_json e.name e.status denial ++ requests_json e.about.requests.items
@@ -155,11 +155,11 @@ IsDenialOf f None denial = denial ≡ None
 IsDenialOf f (Some q) None = Admits f (Request q)
 IsDenialOf f (Some q) (Some d) = IsDenial f (Request q) d
 
-abbrev pub IsDenialOn : RosterFields Cmnd → Entry → Option Denial → Type 0
+abbrev pub IsDenialOn : RosterFields Cmnd → AuditEntry → Option Denial → Type 0
 IsDenialOn f e denial = IsDenialOf f (lapsed e.status e.about.requests.items) denial
 
 -- the text of an entry
-abbrev pub IsEntryText : RosterFields Cmnd → (until : Option ℕ) → Entry → List ℕ → Type 0
+abbrev pub IsEntryText : RosterFields Cmnd → (until : Option ℕ) → AuditEntry → List ℕ → Type 0
 IsEntryText f until e text =
     (complete : Option ℕ) × (denial : Option Denial) × IsCompletionOn f e complete
     × IsDenialOn f e denial × (text ≡ entry_json f until e complete denial)
@@ -184,7 +184,7 @@ document names windows =
 
 -- The entries, in their order, and the windows on the hosts that are asked about.
 pub record IsDocument (f : RosterFields Cmnd)
-    (pick : Pick) (entries : List Entry) (text : List ℕ) : Type 0 where
+    (pick : Pick) (entries : List AuditEntry) (text : List ℕ) : Type 0 where
   pub names : List (List ℕ)
   pub windows : List HostWindow
   pub names_are : AreTextsOf (IsEntryText f pick.until) entries names

@@ -16,7 +16,7 @@ use Rattle.grants.specs.declared.outcome.Status.TheVariants.{Disputed, Lapsed, R
 use Rattle.grants.specs.declared.outcome.Status.TheVariants.{Waiting, Void, Granted}
 use Rattle.findings.specs.Effects.{approvals_under, effect, is_of_one}
 use Rattle.findings.specs.declared.effects.Effect.{Effect}
-use Rattle.findings.specs.declared.entry.Entry.{Entry}
+use Rattle.findings.specs.declared.entry.AuditEntry.{AuditEntry}
 
 -- the word for a status; without one, nobody asks
 abbrev pub status_text : Option Status → List ℕ
@@ -33,11 +33,11 @@ abbrev pub ceiling_of : RosterFields Cmnd → List RequestFields → Option (Cei
 ceiling_of f [] = None
 ceiling_of f (q ∷ more) = ceiling_at f q.ceiling
 
-abbrev pub ceiling_for : RosterFields Cmnd → Entry → Option (CeilingFields Cmnd)
+abbrev pub ceiling_for : RosterFields Cmnd → AuditEntry → Option (CeilingFields Cmnd)
 ceiling_for f e = ceiling_of f e.about.requests.items
 
 -- each person's first approval that counts
-abbrev pub approvals_for : RosterFields Cmnd → Entry → List VerdictFields
+abbrev pub approvals_for : RosterFields Cmnd → AuditEntry → List VerdictFields
 approvals_for f e = approvals_under f (ceiling_for f e) e.about.verdicts.items
 
 -- ---- when it was complete
@@ -63,12 +63,13 @@ IsCompletionOf f None vs complete = complete ≡ None
 IsCompletionOf f (Some q) vs complete =
     MatchOption complete (NeverComplete f (messages_on q vs) q) (IsComplete f (messages_on q vs) q)
 
-abbrev pub IsCompletionOn : RosterFields Cmnd → Entry → (complete : Option ℕ) → Type 0
+abbrev pub IsCompletionOn : RosterFields Cmnd → AuditEntry → (complete : Option ℕ) → Type 0
 IsCompletionOn f e complete =
     IsCompletionOf f (only_request e.about.requests.items) e.about.verdicts.items complete
 
 -- what became of a verdict on the name
-abbrev pub effect_on : RosterFields Cmnd → Entry → (complete : Option ℕ) → VerdictFields → Effect
+abbrev pub effect_on : RosterFields Cmnd → AuditEntry → (complete : Option ℕ)
+    → VerdictFields → Effect
 effect_on f e complete v = effect f (ceiling_for f e) complete e.status v
 
 -- ---- a request that waits
@@ -94,11 +95,11 @@ waiting_as (Some Void) asked = None
 waiting_as (Some (Granted w)) asked = None
 
 -- the request that waits, with its ceiling
-abbrev pub waiting : RosterFields Cmnd → Entry → Option Asked
+abbrev pub waiting : RosterFields Cmnd → AuditEntry → Option Asked
 waiting f e = waiting_as e.status (only_one (ceiling_for f e) e.about.requests.items)
 
 -- how many people's approvals it lacks
-abbrev pub lacks : RosterFields Cmnd → Entry → Option ℕ
+abbrev pub lacks : RosterFields Cmnd → AuditEntry → Option ℕ
 lacks f e = option_map (λ a. a.1.needs - length (approvals_for f e)) (waiting f e)
 
 -- the person may approve it at the moment, and has not yet
@@ -119,7 +120,7 @@ abbrev pub approvers_of : RosterFields Cmnd
 approvers_of f approvals at None = []
 approvers_of f approvals at (Some asked) = those_who_may f approvals asked at f.people
 
-abbrev pub approvers : RosterFields Cmnd → Entry → (at : ℕ) → List (List ℕ)
+abbrev pub approvers : RosterFields Cmnd → AuditEntry → (at : ℕ) → List (List ℕ)
 approvers f e at = approvers_of f (approvals_for f e) at (waiting f e)
 
 -- the moment for which it is told who may approve: `until` if it is given, else the request's own
@@ -127,5 +128,5 @@ abbrev pub or_own : Option ℕ → RequestFields → ℕ
 or_own None q = q.at
 or_own (Some until) q = until
 
-abbrev pub asked_at : RosterFields Cmnd → Entry → Option ℕ → Option ℕ
+abbrev pub asked_at : RosterFields Cmnd → AuditEntry → Option ℕ → Option ℕ
 asked_at f e until = option_map (λ a. or_own until a.0) (waiting f e)

@@ -7,7 +7,7 @@ use Rattle.messages.specs.Fields.{RequestFields, VerdictFields}
 use Rattle.grants.specs.declared.outcome.Status.{Status}
 use Rattle.grants.specs.declared.outcome.Status.TheVariants.{Disputed, Lapsed, Refused}
 use Rattle.grants.specs.declared.outcome.Status.TheVariants.{Waiting, Void, Granted}
-use Rattle.findings.specs.declared.entry.Entry.{Entry}
+use Rattle.findings.specs.declared.entry.AuditEntry.{AuditEntry}
 use Rattle.findings.specs.declared.entry.About.{About}
 use Rattle.findings.specs.declared.pick.Pick.{Pick}
 
@@ -78,7 +78,7 @@ has_person_of pick asker verdicts =
 -- ---- all of it
 
 -- the entry is asked about
-abbrev pub asks_about : Pick → Entry → Bool
+abbrev pub asks_about : Pick → AuditEntry → Bool
 asks_about pick e =
     has_span_of pick e.about e.status && has_host_among pick e.about.requests.items
     && has_person_of pick e.name.by e.about.verdicts.items
@@ -88,5 +88,5 @@ is_whole pick =
     is_none pick.from && is_none pick.until && is_none pick.host && is_none pick.person
 
 -- it is told: nothing narrows the question, or it is asked about
-abbrev pub is_told : Pick → Entry → Bool
+abbrev pub is_told : Pick → AuditEntry → Bool
 is_told pick e = is_whole pick || asks_about pick e

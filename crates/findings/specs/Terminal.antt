@@ -26,7 +26,7 @@ use Rattle.findings.specs.Judging.{status_text}
 use Rattle.findings.specs.Windows.{AreWindows}
 use Rattle.findings.specs.declared.by_host.HostWindow.{HostWindow}
 use Rattle.findings.specs.declared.effects.Effect.{Effect}
-use Rattle.findings.specs.declared.entry.Entry.{Entry}
+use Rattle.findings.specs.declared.entry.AuditEntry.{AuditEntry}
 use Rattle.findings.specs.declared.pick.Pick.{Pick}
 
 -- ---- lines
@@ -142,7 +142,7 @@ lacks_lines (Some count) (Some at) people = waiting_lines count at (people at)
 
 -- ---- an entry
 
-abbrev pub entry_lines : RosterFields Cmnd → (until : Option ℕ) → Entry
+abbrev pub entry_lines : RosterFields Cmnd → (until : Option ℕ) → AuditEntry
     → (complete : Option ℕ) → Option Denial → List ℕ
 entry_lines f until e complete denial =
     status_line e.name e.status denial ++ flat_map request_lines e.about.requests.items
@@ -150,7 +150,7 @@ entry_lines f until e complete denial =
     ++ lacks_lines (lacks f e) (asked_at f e until) (approvers f e)
 
 -- the lines of an entry
-abbrev pub AreEntryLines : RosterFields Cmnd → (until : Option ℕ) → Entry → List ℕ → Type 0
+abbrev pub AreEntryLines : RosterFields Cmnd → (until : Option ℕ) → AuditEntry → List ℕ → Type 0
 AreEntryLines f until e text =
     (complete : Option ℕ) × (denial : Option Denial) × IsCompletionOn f e complete
     × IsDenialOn f e denial × (text ≡ entry_lines f until e complete denial)
@@ -179,12 +179,12 @@ window_lines above (w ∷ ws) =
 -- ---- the whole
 
 -- somebody asks under the name, or nobody does and its verdicts wait
-abbrev pub is_under : (is_asked : Bool) → Entry → Bool
+abbrev pub is_under : (is_asked : Bool) → AuditEntry → Bool
 is_under true e = is_some e.status
 is_under false e = is_none e.status
 
 -- the entries of names under which somebody asks, or of the others
-abbrev pub those_under : (is_asked : Bool) → List Entry → List Entry
+abbrev pub those_under : (is_asked : Bool) → List AuditEntry → List AuditEntry
 those_under is_asked entries = filter (is_under is_asked) entries
 
 abbrev pub text : (requests parked : List (List ℕ)) → List HostWindow → List ℕ
@@ -195,7 +195,7 @@ text requests parked windows =
 -- The entries of names under which somebody asks, then those of the others, each in their order,
 -- and the windows on the hosts that are asked about.
 pub record IsText (f : RosterFields Cmnd)
-    (pick : Pick) (entries : List Entry) (whole : List ℕ) : Type 0 where
+    (pick : Pick) (entries : List AuditEntry) (whole : List ℕ) : Type 0 where
   pub requests : List (List ℕ)
   pub parked : List (List ℕ)
   pub windows : List HostWindow

@@ -12,7 +12,7 @@ use Rattle.grants.specs.declared.outcome.Status.TheVariants.{Waiting, Void, Gran
 use Rattle.grants.specs.declared.outcome.Window.{Window}
 use Rattle.findings.specs.Picks.{has_host}
 use Rattle.findings.specs.declared.by_host.HostWindow.{HostWindow}
-use Rattle.findings.specs.declared.entry.Entry.{Entry}
+use Rattle.findings.specs.declared.entry.AuditEntry.{AuditEntry}
 use Rattle.findings.specs.declared.pick.Pick.{Pick}
 
 -- the window of a grant on a host
@@ -33,7 +33,7 @@ windows_by pick requests (Some Waiting) = []
 windows_by pick requests (Some Void) = []
 windows_by pick requests (Some (Granted w)) = flat_map (λ q. windows_on pick q w q.hosts) requests
 
-abbrev pub windows_of : Pick → Entry → List HostWindow
+abbrev pub windows_of : Pick → AuditEntry → List HostWindow
 windows_of pick e = windows_by pick e.about.requests.items e.status
 
 -- by host in byte order, then by moment and name
@@ -46,6 +46,6 @@ window_cmp a b =
 
 -- the windows of the entries, on the hosts that are asked about, in their order
 pub record AreWindows (pick : Pick)
-    (entries : List Entry) (windows : List HostWindow) : Type 0 where
+    (entries : List AuditEntry) (windows : List HostWindow) : Type 0 where
   pub each : IsPermutation (flat_map (windows_of pick) entries) windows
   pub in_order : IsSorted window_cmp windows

@@ -4,7 +4,7 @@ ghost use Rattle.std.specs.Prelude.{◌≡◌, ◌++◌, IfOk, OnOk};
 ghost use Rattle.std.specs.List.{flat_map};
 ghost use Rattle.findings.specs.Windows as spec;
 
-use crate::entry::Entry;
+use crate::entry::AuditEntry;
 use crate::pick::Pick;
 use grants::{Status, Window};
 use messages::Request;
@@ -70,7 +70,7 @@ fn push_requests(
 }
 
 /// Adds the windows of an entry on the hosts that are asked about.
-fn push_windows(list: &mut Vec<HostWindow>, pick: &Pick, entry: &Entry) -> Result<(), NoMemory>
+fn push_windows(list: &mut Vec<HostWindow>, pick: &Pick, entry: &AuditEntry) -> Result<(), NoMemory>
     ensures { OnOk result
         (list.new.items ≡ list.old.items ++ spec.windows_of pick.now entry.now) }
 {
@@ -83,7 +83,11 @@ fn push_windows(list: &mut Vec<HostWindow>, pick: &Pick, entry: &Entry) -> Resul
 }
 
 /// The windows of the entries on the hosts that are asked about.
-fn all_windows(alloc: Global, pick: &Pick, entries: &[Entry]) -> Result<Vec<HostWindow>, NoMemory>
+fn all_windows(
+    alloc: Global,
+    pick: &Pick,
+    entries: &[AuditEntry],
+) -> Result<Vec<HostWindow>, NoMemory>
     ensures { IfOk result (λ list. list.items ≡ flat_map (spec.windows_of pick.now) entries.now) }
 {
     let mut list = Vec::new(alloc);
@@ -97,7 +101,7 @@ fn all_windows(alloc: Global, pick: &Pick, entries: &[Entry]) -> Result<Vec<Host
 pub(crate) fn windows(
     alloc: Global,
     pick: &Pick,
-    entries: &[Entry],
+    entries: &[AuditEntry],
 ) -> Result<Vec<HostWindow>, NoMemory>
     ensures { IfOk result (λ list. spec.AreWindows pick.now entries.now list.items) }
 {

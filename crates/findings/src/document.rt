@@ -12,7 +12,7 @@ ghost use Rattle.findings.specs.private.Writing as writing;
 
 use crate::by_host::{HostWindow, windows};
 use crate::effects::Effect;
-use crate::entry::Entry;
+use crate::entry::AuditEntry;
 use crate::judged::{Judged, judge, status_word};
 use crate::pick::Pick;
 use grants::{Denial, Status, Weight, Window};
@@ -260,7 +260,7 @@ fn push_word(out: &mut String, status: &Option<Status>) -> Result<(), NoMemory>
 }
 
 /// Adds the name and the status.
-fn push_status(out: &mut String, entry: &Entry, denial: Option<Denial>) -> Result<(), NoMemory>
+fn push_status(out: &mut String, entry: &AuditEntry, denial: Option<Denial>) -> Result<(), NoMemory>
     ensures { OnOk result (string_bytes out.new ≡ string_bytes out.old
         ++ document.status_json entry.now.name entry.now.status denial) }
 {
@@ -277,7 +277,7 @@ fn push_entry(
     out: &mut String,
     roster: &Roster,
     until: &Option<Moment>,
-    entry: &Entry,
+    entry: &AuditEntry,
 ) -> Result<(), NoMemory>
     ensures { OnOk result (writing.Adds
         (document.IsEntryText roster.now.says until.now entry.now)
@@ -299,7 +299,7 @@ fn push_entries(
     out: &mut String,
     roster: &Roster,
     until: &Option<Moment>,
-    entries: &[Entry],
+    entries: &[AuditEntry],
 ) -> Result<(), NoMemory>
     ensures { OnOk result (writing.AddsJoined
         (document.AreTextsOf (document.IsEntryText roster.now.says until.now) entries.now)
@@ -344,7 +344,7 @@ pub fn json(
     alloc: Global,
     roster: &Roster,
     pick: &Pick,
-    entries: &[Entry],
+    entries: &[AuditEntry],
 ) -> Result<String, NoMemory>
     ensures { IfOk result
         (λ s. document.IsDocument roster.now.says pick.now entries.now (string_bytes s)) }

@@ -14,7 +14,7 @@ pub struct About {
 
 /// A name, the messages about it, and its status.
 #[derive(Drop)]
-pub struct Entry {
+pub struct AuditEntry {
     /// The name.
     pub name: RequestName,
     /// The messages about it.

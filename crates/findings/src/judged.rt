@@ -9,7 +9,7 @@ ghost use Rattle.findings.specs.Effects as effects;
 ghost use Rattle.findings.specs.Judging as says;
 
 use crate::effects::{Effect, approvals, effect_under, has_one};
-use crate::entry::Entry;
+use crate::entry::AuditEntry;
 use grants::{Denial, Status, Summary, admit, apply, ask, completed_at};
 use messages::{Message, Request, Verdict};
 use roster::{Ceiling, Roster};
@@ -35,7 +35,7 @@ pub(crate) fn status_word(status: &Option<Status>) -> &'static str
 #[derive(Drop)]
 pub(crate) struct Judged<'a> {
     roster: &'a Roster,
-    entry: &'a Entry,
+    entry: &'a AuditEntry,
     /// The ceiling of the first request, if the roster has it.
     ceiling: Option<&'a Ceiling>,
     /// Each person's first approval that counts.
@@ -142,7 +142,7 @@ fn completion_among(
 pub(crate) fn judge<'a>(
     alloc: Global,
     roster: &'a Roster,
-    entry: &'a Entry,
+    entry: &'a AuditEntry,
 ) -> Result<Judged<'a>, NoMemory>
     ensures same { IfOk result (λ j. (j.roster.now ≡ roster.now) × (j.entry.now ≡ entry.now)) }
     ensures complete { IfOk result
@@ -201,7 +201,7 @@ impl<'a> Judged<'a> {
         ensures { option_map (λ a. (a.request.now, a.ceiling.now)) result
             ≡ says.waiting self.now.roster.now.says self.now.entry.now }
     {
-        let entry: &'a Entry = self.entry;
+        let entry: &'a AuditEntry = self.entry;
         match entry.status {
             Some(Status::Waiting) => only_one(self.ceiling, entry.about.requests.as_slice()),
             _ => None,
@@ -292,7 +292,7 @@ impl<'a> Judged<'a> {
         ensures { IfOk result
             (document.IsDenialOn self.now.roster.now.says self.now.entry.now) }
     {
-        let entry: &Entry = self.entry;
+        let entry: &AuditEntry = self.entry;
         match lapsed(&entry.status, entry.about.requests.as_slice()) {
             Some(request) => denial_of(self.roster, request),
             None => Ok(None),

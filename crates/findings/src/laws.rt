@@ -17,7 +17,7 @@ ghost use Rattle.findings.specs.Document.{IsDocument};
 ghost use Rattle.findings.specs.Judging.{IsCompletionOf};
 ghost use Rattle.findings.specs.Terminal.{IsText};
 ghost use Rattle.findings.specs.Terminal as terminal;
-ghost use Rattle.findings.specs.declared.entry.Entry.{Entry};
+ghost use Rattle.findings.specs.declared.entry.AuditEntry.{AuditEntry};
 ghost use Rattle.findings.specs.declared.pick.Pick.{Pick};
 
 /// The verdicts on a request decide when it was complete: that is when it was by the whole set that
@@ -32,13 +32,13 @@ pub fn completion_by_its_verdicts()
 
 /// Entries have one document.
 pub fn one_document()
-    ensures { (f : RosterFields Cmnd) (pick : Pick) (entries : List Entry) (s t : List ℕ)
+    ensures { (f : RosterFields Cmnd) (pick : Pick) (entries : List AuditEntry) (s t : List ℕ)
         → IsDocument f pick entries s → IsDocument f pick entries t → s ≡ t }
 {}
 
 /// Entries have one text for a terminal.
 pub fn one_text()
-    ensures { (f : RosterFields Cmnd) (pick : Pick) (entries : List Entry) (s t : List ℕ)
+    ensures { (f : RosterFields Cmnd) (pick : Pick) (entries : List AuditEntry) (s t : List ℕ)
         → IsText f pick entries s → IsText f pick entries t → s ≡ t }
 {}
 

@@ -16,7 +16,7 @@ mod words;
 
 pub use document::json;
 pub use effects::{Effect, counts};
-pub use entry::{About, Entry};
+pub use entry::{About, AuditEntry};
 pub use pick::Pick;
 pub use terminal::text;
 pub use words::{Question, WordsFault, asked_by};

@@ -5,7 +5,7 @@ ghost use Rattle.std.specs.List.{list_any};
 ghost use Rattle.findings.specs.Picks as picks;
 ghost use Rattle.findings.specs.Picks.{AsksAboutAll};
 
-use crate::entry::{About, Entry};
+use crate::entry::{About, AuditEntry};
 use grants::{Status, Window};
 use messages::{Request, Verdict};
 use sudo_words::{HostName, Moment, Name};
@@ -165,7 +165,7 @@ impl Pick {
     }
 
     /// Whether the entry is asked about.
-    fn has(&self, entry: &Entry) -> bool
+    fn has(&self, entry: &AuditEntry) -> bool
         ensures { result ≡ picks.asks_about self.now entry.now }
     {
         self.has_some_span(&entry.about, &entry.status)
@@ -175,7 +175,7 @@ impl Pick {
 
     /// The entries that are asked about, in their order: all of them if nothing narrows the
     /// question.
-    pub fn among(&self, entries: Vec<Entry>) -> Vec<Entry>
+    pub fn among(&self, entries: Vec<AuditEntry>) -> Vec<AuditEntry>
         ensures told { result.items ≡ filter (picks.is_told self.now) entries.items }
         ensures all { AsksAboutAll self.now → result ≡ entries }
     {

@@ -13,7 +13,7 @@ ghost use Rattle.findings.specs.private.Writing as writing;
 use crate::by_host::{HostWindow, windows};
 use crate::columns::{BEHIND_HEADING, push_heading, push_line, push_plain, words};
 use crate::effects::Effect;
-use crate::entry::Entry;
+use crate::entry::AuditEntry;
 use crate::judged::{Judged, judge, status_word};
 use crate::pick::Pick;
 use grants::{Denial, Status, Window};
@@ -85,7 +85,7 @@ fn push_why(out: &mut String, denial: Option<Denial>) -> Result<(), NoMemory>
 }
 
 /// Adds the first line of an entry: its name and its status.
-fn push_status(out: &mut String, entry: &Entry, denial: Option<Denial>) -> Result<(), NoMemory>
+fn push_status(out: &mut String, entry: &AuditEntry, denial: Option<Denial>) -> Result<(), NoMemory>
     ensures { OnOk result (string_bytes out.new ≡ string_bytes out.old
         ++ terminal.status_line entry.now.name entry.now.status denial) }
 {
@@ -266,7 +266,7 @@ fn push_entry(
     out: &mut String,
     roster: &Roster,
     until: &Option<Moment>,
-    entry: &Entry,
+    entry: &AuditEntry,
 ) -> Result<(), NoMemory>
     ensures { OnOk result (writing.Adds
         (terminal.AreEntryLines roster.now.says until.now entry.now)
@@ -282,7 +282,7 @@ fn push_entry(
 }
 
 /// Whether the entry is of a name that somebody asks under, or else of one that nobody does.
-fn is_under(is_asked: bool, entry: &Entry) -> bool
+fn is_under(is_asked: bool, entry: &AuditEntry) -> bool
     ensures { result ≡ terminal.is_under is_asked entry.now }
 {
     if is_asked {
@@ -298,7 +298,7 @@ fn push_entries(
     out: &mut String,
     roster: &Roster,
     until: &Option<Moment>,
-    entries: &[Entry],
+    entries: &[AuditEntry],
     is_asked: bool,
 ) -> Result<(), NoMemory>
     ensures { OnOk result (writing.AddsAll
@@ -369,7 +369,7 @@ pub fn text(
     alloc: Global,
     roster: &Roster,
     pick: &Pick,
-    entries: &[Entry],
+    entries: &[AuditEntry],
 ) -> Result<String, NoMemory>
     ensures { IfOk result
         (λ s. terminal.IsText roster.now.says pick.now entries.now (string_bytes s)) }

@@ -23,8 +23,8 @@ use Rattle.store_tables.proofs.QueryLemmas.{asks_inside, shown_same}
 use Rattle.store_tables.proofs.Takes as takes
 use Rattle.store_tables.proofs.Where.{IsClear, scanning}
 use Rattle.store_tables.proofs.Where as where'
-use Rattle.store_schema.specs.declared.part.Part.{Part}
-use Rattle.store_schema.specs.declared.part.Part.TheVariants.{Desk, Messages, Names, Marks, Verdicts, Parked}
+use Rattle.store_schema.specs.declared.part.DeskPart.{DeskPart}
+use Rattle.store_schema.specs.declared.part.DeskPart.TheVariants.{Desk, Messages, Names, Marks, Verdicts, Parked}
 use Rattle.store_schema.specs.Migratable.{IsMigratable}
 use Rattle.store_schema.specs.Parts.{name_of}
 use Rattle.store_schema.specs.Shapes.{FindsPart, IsOld}
@@ -38,7 +38,7 @@ use Rattle.store_migration.proofs.PartLemmas.{mark_of, still}
 
 -- ---- the DELETE
 
-parts : (p : Part) → IsClear (delete_of p) (name_of p)
+parts : (p : DeskPart) → IsClear (delete_of p) (name_of p)
 unfolding everything
 parts Desk = record { p = _; parsed = refl; statement = refl; formats = refl }
 parts Messages = record { p = _; parsed = refl; statement = refl; formats = refl }
@@ -47,11 +47,11 @@ parts Marks = record { p = _; parsed = refl; statement = refl; formats = refl }
 parts Verdicts = record { p = _; parsed = refl; statement = refl; formats = refl }
 parts Parked = record { p = _; parsed = refl; statement = refl; formats = refl }
 
-means : (p : Part) (s : Schema) (it : FindsPart s p)
+means : (p : DeskPart) (s : Schema) (it : FindsPart s p)
     → Means s (delete_of p) (command.Delete it.at (record { lets = []; body = scanning it.table.tree }))
 means p s it = where'.clears s (delete_of p) (name_of p) (parts p) it.at it.table it.finds
 
-deletes : (p : Part) (old new : State) (count : ℕ) → FindsPart old.now.schema p
+deletes : (p : DeskPart) (old new : State) (count : ℕ) → FindsPart old.now.schema p
     → IsUnreferred old.now.schema (tree_of old.now.schema (name_of p)) → Executes (delete_of p) [] old new (Ok count) → Deletes p old.now new.now
 deletes p old new count it alone ran =
     let s = old.now.schema in
@@ -67,13 +67,13 @@ deletes p old new count it alone ran =
       others = subst (λ n. AllByRecursion (λ (u : Table). u.tree ≢ n → new.now.trees u.tree ≡ old.now.trees u.tree) s.tables) (sym tree) done.0.others;
     }
 
-pub deleted : (p : Part) (old new : State) (r : Result ℕ Error) → ExecutesInside 0 (delete_of p) [] old new r → OnOk r (Deleted p old new)
+pub deleted : (p : DeskPart) (old new : State) (r : Result ℕ Error) → ExecutesInside 0 (delete_of p) [] old new r → OnOk r (Deleted p old new)
 deleted p old new (Ok count) h = record { inside = h.1; deletes = λ it alone. deletes p old new count it alone h.0 }
 deleted p old new (Err e) h = tt
 
 -- ---- the SELECT
 
-pub rows_shown : (p : Part) (old new : State) (r : Result (Vec Row Global) Error) → IsTrue old.in_transaction
+pub rows_shown : (p : DeskPart) (old new : State) (r : Result (Vec Row Global) Error) → IsTrue old.in_transaction
     → IfOk r (λ rows. Shown (select_of p) [] old new rows.items) → IfOk r (λ rows. Left p rows.items old new)
 rows_shown p old new (Ok rows) inside shown = record {
   mode = (asks_inside (select_of p) [] old new rows.items inside shown).mode;
@@ -89,13 +89,13 @@ none_stored f [] e = refl
 none_stored f (r ∷ rows) e = absurd (omega (arith, e))
 
 -- where nothing is shown, the table has no row
-bare : (p : Part) (db : Database) (rows : List Row) → ShowsPart p db rows → (length rows == 0) ≡ true → table_in db (name_of p) ≡ []
+bare : (p : DeskPart) (db : Database) (rows : List Row) → ShowsPart p db rows → (length rows == 0) ≡ true → table_in db (name_of p) ≡ []
 bare p db rows shows none =
     let empty : length rows ≡ 0 = (Decides-eqb (length rows) 0).0 none in
     let lengths = length_permutation (map (shown_of p) (table_in db (name_of p))) rows shows in
     none_stored (shown_of p) (table_in db (name_of p)) (sym (sym empty ∙ lengths))
 
-pub cleared : (p : Part) (a b c : State) (rows : List Row) → Deleted p a b → Left p rows b c → (length rows == 0) ≡ true → Cleared p a c
+pub cleared : (p : DeskPart) (a b c : State) (rows : List Row) → Deleted p a b → Left p rows b c → (length rows == 0) ≡ true → Cleared p a c
 cleared p a b c rows gone left none = record {
   was_open = gone.inside.was_open;
   mode = left.mode;
@@ -109,19 +109,19 @@ cleared p a b c rows gone left none = record {
 -- ---- several tables
 
 -- another table of the schema
-abbrev Other : Schema → Part → Part → Type 0
+abbrev Other : Schema → DeskPart → DeskPart → Type 0
 Other s p q = FindsPart s q × (mark_of p ≢ mark_of q)
 
 none_done : (a : Database) → Empties [] a a
 none_done a = record { schema = refl; empty = tt; others = λ t there apart. refl }
 
-module _ (p : Part) (old a b : Database) (it : FindsPart a.schema p) (gone : Clears p a b) where
-  all_still : (done : List Part) → AllByRecursion (Other a.schema p) done
+module _ (p : DeskPart) (old a b : Database) (it : FindsPart a.schema p) (gone : Clears p a b) where
+  all_still : (done : List DeskPart) → AllByRecursion (Other a.schema p) done
       → AllByRecursion (λ q. table_in a (name_of q) ≡ []) done → AllByRecursion (λ q. table_in b (name_of q) ≡ []) done
   all_still [] others empty = tt
   all_still (q ∷ done) others empty = (still p q a b it others.0.0 others.0.1 gone.schema gone.others ∙ empty.0, all_still done others.1 empty.1)
 
-  one_more : (done : List Part) → AllByRecursion (Other a.schema p) done → Empties done old a → Empties (p ∷ done) old b
+  one_more : (done : List DeskPart) → AllByRecursion (Other a.schema p) done → Empties done old a → Empties (p ∷ done) old b
   one_more done others e = record {
     schema = gone.schema ∙ e.schema;
     empty = (gone.empty, all_still done others e.empty);

@@ -13,8 +13,8 @@ use Rattle.store_tables.specs.Kept.{table_in}
 use Rattle.store_tables.specs.Stored.{Finds, tree_of}
 use Rattle.store_tables.specs.Steps.{KeepsBut}
 use Rattle.store_tables.proofs.AddLemmas.{all_at}
-use Rattle.store_schema.specs.declared.part.Part.{Part}
-use Rattle.store_schema.specs.declared.part.Part.TheVariants.{Desk, Messages, Names, Marks, Verdicts, Parked}
+use Rattle.store_schema.specs.declared.part.DeskPart.{DeskPart}
+use Rattle.store_schema.specs.declared.part.DeskPart.TheVariants.{Desk, Messages, Names, Marks, Verdicts, Parked}
 use Rattle.store_schema.specs.Parts.{name_of}
 use Rattle.store_schema.specs.Shapes.{FindsPart}
 use Rattle.store_schema.proofs.Grown.{grows, indexes_grow}
@@ -26,7 +26,7 @@ use Rattle.store_schema.proofs.ShapeLemmas.{tree_in}
 abbrev letters : List ℕ → ℕ
 letters name = slice_index_or name 0 0 * 256 + slice_index_or name 1 0
 
-abbrev pub mark_of : Part → ℕ
+abbrev pub mark_of : DeskPart → ℕ
 mark_of Desk = 25701
 mark_of Messages = 28005
 mark_of Names = 28257
@@ -34,7 +34,7 @@ mark_of Marks = 28001
 mark_of Verdicts = 30309
 mark_of Parked = 28769
 
-mark_is : (p : Part) → letters (name_of p) ≡ mark_of p
+mark_is : (p : DeskPart) → letters (name_of p) ≡ mark_of p
 mark_is Desk = refl
 mark_is Messages = refl
 mark_is Names = refl
@@ -42,11 +42,11 @@ mark_is Marks = refl
 mark_is Verdicts = refl
 mark_is Parked = refl
 
-marked : (s : Schema) (p : Part) (it : FindsPart s p) → letters it.table.name ≡ mark_of p
+marked : (s : Schema) (p : DeskPart) (it : FindsPart s p) → letters it.table.name ≡ mark_of p
 marked s p it = ap letters (name_in p it.table it.is) ∙ mark_is p
 
 -- two parts have two trees
-pub apart : (s : Schema) (p q : Part) → FindsPart s p → FindsPart s q → mark_of p ≢ mark_of q → tree_of s (name_of p) ≢ tree_of s (name_of q)
+pub apart : (s : Schema) (p q : DeskPart) → FindsPart s p → FindsPart s q → mark_of p ≢ mark_of q → tree_of s (name_of p) ≢ tree_of s (name_of q)
 apart s p q one two differ same =
     let t = one.table in
     let u = two.table in
@@ -56,7 +56,7 @@ apart s p q one two differ same =
     differ (sym (marked s p one) ∙ ap (λ (v : Table). letters v.name) is ∙ marked s q two)
 
 -- a change of one part's table leaves another's as it is
-pub still : (p q : Part) (a b : Database) → FindsPart a.schema p → FindsPart a.schema q → mark_of p ≢ mark_of q
+pub still : (p q : DeskPart) (a b : Database) → FindsPart a.schema p → FindsPart a.schema q → mark_of p ≢ mark_of q
     → b.schema ≡ a.schema → KeepsBut (name_of p) a b → table_in b (name_of q) ≡ table_in a (name_of q)
 still p q a b one two differ schema others =
     let tree : two.table.tree ≡ tree_of a.schema (name_of q) = sym (tree_in a.schema q two) in

@@ -11,8 +11,8 @@ use Rattle.sqlite_rules.proofs.ListLemmas.{all_has}
 use Rattle.store_tables.specs.Kept.{IsForeign, IsTidy, table_in}
 use Rattle.store_tables.specs.Stored.{Finds, IsUnreferred, tree_of}
 use Rattle.store_tables.proofs.StepLemmas.{keyed_none, neat_none}
-use Rattle.store_schema.specs.declared.part.Part.{Part}
-use Rattle.store_schema.specs.declared.part.Part.TheVariants as part
+use Rattle.store_schema.specs.declared.part.DeskPart.{DeskPart}
+use Rattle.store_schema.specs.declared.part.DeskPart.TheVariants as part
 use Rattle.store_schema.specs.Migratable.{IsMigratable}
 use Rattle.store_schema.specs.Parts.{name_of, table_at}
 use Rattle.store_schema.specs.Shapes.{FindsPart, IsOld, Lacks}
@@ -26,7 +26,7 @@ use Rattle.store_migration.specs.Migrated.{IsBeside}
 use Rattle.store_migration.specs.private.Moving.{Emptied, EmptiesAll, Prepared, Prepares}
 use Rattle.store_migration.proofs.PartLemmas.{apart, below_next, has_got, mark_of}
 
-has_empty : (b : Database) (p : Part) (it : FindsPart b.schema p) → table_in b (name_of p) ≡ []
+has_empty : (b : Database) (p : DeskPart) (it : FindsPart b.schema p) → table_in b (name_of p) ≡ []
     → IsUnreferred b.schema (tree_of b.schema (name_of p)) → HasEmpty b p
 has_empty b p it none alone' = record {
   found = it;
@@ -36,7 +36,7 @@ has_empty b p it none alone' = record {
 
 module _ (b c : Database) (adds : Adds (table_at part.Verdicts 0) b c) where
   -- a table that is found is still found, in its tree
-  found_still : (p : Part) → FindsPart b.schema p → FindsPart c.schema p
+  found_still : (p : DeskPart) → FindsPart b.schema p → FindsPart c.schema p
   found_still p it = record {
     at = it.at;
     table = it.table;
@@ -45,7 +45,7 @@ module _ (b c : Database) (adds : Adds (table_at part.Verdicts 0) b c) where
     is = it.is;
   }
 
-  tree_still : (p : Part) → FindsPart b.schema p → tree_of c.schema (name_of p) ≡ tree_of b.schema (name_of p)
+  tree_still : (p : DeskPart) → FindsPart b.schema p → tree_of c.schema (name_of p) ≡ tree_of b.schema (name_of p)
   unfolding found_still
   tree_still p it = tree_in c.schema p (found_still p it) ∙ sym (tree_in b.schema p it)
 
@@ -127,7 +127,7 @@ module _ (a b c : Database) (was : IsOld a.schema) (may_a : IsMigratable a.schem
   messages_kept =
       let m = was.common.messages in
       let tree = tree_in a.schema part.Messages m in
-      let other = λ (q : Part) (it : FindsPart a.schema q) (differ : mark_of part.Messages ≢ mark_of q).
+      let other = λ (q : DeskPart) (it : FindsPart a.schema q) (differ : mark_of part.Messages ≢ mark_of q).
       λ (same : m.table.tree ≡ tree_of a.schema (name_of q)). apart a.schema part.Messages q m it differ (tree ∙ same) in
       let now : tree_of c.schema (codes "messages") ≡ m.table.tree =
       tree_still b c adds part.Messages old.common.messages ∙ ap (λ s. tree_of s (codes "messages")) e.schema ∙ tree in
@@ -152,7 +152,7 @@ module _ (a b c : Database) (was : IsOld a.schema) (may_a : IsMigratable a.schem
     parked = λ same. beside.parked (same ∙ tree_before part.Parked old.common.parked);
   }
     where
-      tree_before : (q : Part) → FindsPart b.schema q → tree_of c.schema (name_of q) ≡ tree_of a.schema (name_of q)
+      tree_before : (q : DeskPart) → FindsPart b.schema q → tree_of c.schema (name_of q) ≡ tree_of a.schema (name_of q)
       tree_before q it = tree_still b c adds q it ∙ ap (λ s. tree_of s (name_of q)) e.schema
 
   pub prepares : Prepares a c

@@ -9,12 +9,12 @@ ghost use Rattle.store_migration.specs.private.Moving.{Emptied};
 
 use crate::statements::{delete, rows_left};
 use sqlite::{Alter, Transaction};
-use store_schema::Part;
+use store_schema::DeskPart;
 use store_tables::Fault;
 
 /// Empties the table. A DELETE leaves a row whose rowid is not a whole number: if one is left, the
 /// answer is `Fault::Stray`.
-fn clear<S: Alter>(tx: &mut Transaction<'_, S>, part: Part) -> Result<(), Fault>
+fn clear<S: Alter>(tx: &mut Transaction<'_, S>, part: DeskPart) -> Result<(), Fault>
     ensures same_reference { tx.new.conn.ghost_name ≡ tx.old.conn.ghost_name }
     ensures cleared { InStep (state S.Store tx.old.conn.now)
         (state S.Store tx.new.conn.now) (λ a b. OnOk result (Cleared part a b)) }
@@ -36,8 +36,8 @@ pub(crate) fn clear_all<S: Alter>(tx: &mut Transaction<'_, S>) -> Result<(), Fau
         (state S.Store tx.new.conn.now) (λ a b. OnOk result (Emptied a b)) }
     ensures step { IsStep (state S.Store tx.old.conn.now) (state S.Store tx.new.conn.now) }
 {
-    clear(tx, Part::Names)?;
-    clear(tx, Part::Parked)?;
-    clear(tx, Part::Marks)?;
-    clear(tx, Part::Desk)
+    clear(tx, DeskPart::Names)?;
+    clear(tx, DeskPart::Parked)?;
+    clear(tx, DeskPart::Marks)?;
+    clear(tx, DeskPart::Desk)
 }

@@ -12,7 +12,7 @@ use crate::clearing::clear_all;
 use messages::Message;
 use sqlite::{Alter, Transaction};
 use std::alloc::Global;
-use store_schema::{Part, add_table};
+use store_schema::{DeskPart, add_table};
 use store_tables::{Fault, put_roster, refill_rows};
 
 /// Turns the tables into those of a desk of today, with no rows but the messages.
@@ -23,7 +23,7 @@ fn prepare<S: Alter>(tx: &mut Transaction<'_, S>) -> Result<(), Fault>
     ensures step { IsStep (state S.Store tx.old.conn.now) (state S.Store tx.new.conn.now) }
 {
     clear_all(tx)?;
-    add_table(tx, Part::Verdicts)?;
+    add_table(tx, DeskPart::Verdicts)?;
     Ok(())
 }
 

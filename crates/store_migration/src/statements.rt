@@ -8,24 +8,24 @@ ghost use Rattle.store_migration.specs.private.Clearing.{Deleted, Left, delete_o
 
 use sqlite::{Alter, Error, Row, Transaction};
 use store_opening::select_of;
-use store_schema::Part;
+use store_schema::DeskPart;
 
 /// The statement that deletes all rows of the table.
-fn delete_of(part: Part) -> &'static str
+fn delete_of(part: DeskPart) -> &'static str
     ensures { result.now ≡ delete_of part }
 {
     match part {
-        Part::Desk => "DELETE FROM desk",
-        Part::Messages => "DELETE FROM messages",
-        Part::Names => "DELETE FROM names",
-        Part::Marks => "DELETE FROM marks",
-        Part::Verdicts => "DELETE FROM verdicts",
-        Part::Parked => "DELETE FROM parked",
+        DeskPart::Desk => "DELETE FROM desk",
+        DeskPart::Messages => "DELETE FROM messages",
+        DeskPart::Names => "DELETE FROM names",
+        DeskPart::Marks => "DELETE FROM marks",
+        DeskPart::Verdicts => "DELETE FROM verdicts",
+        DeskPart::Parked => "DELETE FROM parked",
     }
 }
 
 /// Deletes the rows of the table.
-pub(crate) fn delete<S: Alter>(tx: &mut Transaction<'_, S>, part: Part) -> Result<usize, Error>
+pub(crate) fn delete<S: Alter>(tx: &mut Transaction<'_, S>, part: DeskPart) -> Result<usize, Error>
     ensures same_reference { tx.new.conn.ghost_name ≡ tx.old.conn.ghost_name }
     ensures deleted { InStep (state S.Store tx.old.conn.now)
         (state S.Store tx.new.conn.now) (λ a b. OnOk result (Deleted part a b)) }
@@ -37,7 +37,7 @@ pub(crate) fn delete<S: Alter>(tx: &mut Transaction<'_, S>, part: Part) -> Resul
 /// The rows of the table. The database stays as it is.
 pub(crate) fn rows_left<S: Alter>(
     tx: &mut Transaction<'_, S>,
-    part: Part,
+    part: DeskPart,
 ) -> Result<Vec<Row>, Error>
     ensures same_reference { tx.new.conn.ghost_name ≡ tx.old.conn.ghost_name }
     ensures left { InStep (state S.Store tx.old.conn.now) (state S.Store tx.new.conn.now)

@@ -16,8 +16,8 @@ use Rattle.sqlite_resolve.specs.Lowering.{Checked, and_then}
 use Rattle.sqlite_schema.specs.declared.command.Command.{Command}
 use Rattle.sqlite_schema.specs.declared.command.Returning.{Returning}
 use Rattle.sqlite_resolve.specs.Scope.{Name}
-use Rattle.store_schema.specs.declared.part.Part.{Part}
-use Rattle.store_schema.specs.declared.part.Part.TheVariants.{Desk, Messages, Names, Marks, Verdicts, Parked}
+use Rattle.store_schema.specs.declared.part.DeskPart.{DeskPart}
+use Rattle.store_schema.specs.declared.part.DeskPart.TheVariants.{Desk, Messages, Names, Marks, Verdicts, Parked}
 use Rattle.store_opening.specs.Statements.{select_of}
 
 -- the text parses as a SELECT
@@ -75,7 +75,7 @@ none_understood s text it = elim (reads_listing s text) as (λ b. HasNone (if b 
 
 -- ---- the texts
 
-query_of : (p : Part) → IsQuery (select_of p)
+query_of : (p : DeskPart) → IsQuery (select_of p)
 unfolding everything
 query_of Desk = record { p = _; sel = _; parsed = refl; statement = refl }
 query_of Messages = record { p = _; sel = _; parsed = refl; statement = refl }
@@ -84,7 +84,7 @@ query_of Marks = record { p = _; sel = _; parsed = refl; statement = refl }
 query_of Verdicts = record { p = _; sel = _; parsed = refl; statement = refl }
 query_of Parked = record { p = _; sel = _; parsed = refl; statement = refl }
 
-pub part_commits_none : (p : Part) (s : State) (db : Trees) → CommitsShowing (select_of p) [] s db → ⊥
+pub part_commits_none : (p : DeskPart) (s : State) (db : Trees) → CommitsShowing (select_of p) [] s db → ⊥
 unfolding CommitsShowing
 part_commits_none p s db h =
     let none : h.0.returning ≡ None = subst HasNone h.1.is (none_understood s.now.schema (select_of p) (query_of p)) in

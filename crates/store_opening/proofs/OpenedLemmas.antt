@@ -11,12 +11,12 @@ use Rattle.store_tables.specs.Rows.{AreRows, IsRow}
 use Rattle.store_tables.specs.Sets.{SameSet}
 use Rattle.store_tables.specs.Stored.{content_of, recorded_before}
 use Rattle.store_tables.proofs.RowSets.{rows_same}
-use Rattle.store_schema.specs.declared.part.Part.TheVariants as part
+use Rattle.store_schema.specs.declared.part.DeskPart.TheVariants as part
 use Rattle.store_schema.specs.References.{AreUnreferred}
 use Rattle.store_schema.specs.Shapes.{FindsPart, HasCommon, IsOld, IsUnmarked, IsVacant}
 use Rattle.store_schema.proofs.ShapeLemmas.{desk_of}
-use Rattle.store_opening.specs.declared.found.Contents.{Contents}
-use Rattle.store_opening.specs.declared.found.Found.TheVariants as found
+use Rattle.store_opening.specs.declared.in_database.Contents.{Contents}
+use Rattle.store_opening.specs.declared.in_database.InDatabase.TheVariants as found
 use Rattle.store_opening.specs.Opened.{FoundIn, HasContents, IsDamaged, IsDeskBesideRows, IsKept}
 use Rattle.store_opening.specs.private.Rows.{HaveRowids}
 use Rattle.store_opening.specs.private.Judged.{AreContents, IsWhole, LackContents}

@@ -25,8 +25,8 @@ use Rattle.store_tables.specs.Stored.{Finds}
 use Rattle.store_tables.proofs.Selects.{IsSimple, begun, draft_of, level_at, select_is}
 use Rattle.store_tables.proofs.Layers.{result_one}
 use Rattle.store_tables.proofs.QueriesOf.{IsColumn, Means, after_column, column_shown, list_means, means, roster_means, roster_names, shown_column}
-use Rattle.store_schema.specs.declared.part.Part.{Part}
-use Rattle.store_schema.specs.declared.part.Part.TheVariants.{Desk, Messages, Names, Marks, Verdicts, Parked}
+use Rattle.store_schema.specs.declared.part.DeskPart.{DeskPart}
+use Rattle.store_schema.specs.declared.part.DeskPart.TheVariants.{Desk, Messages, Names, Marks, Verdicts, Parked}
 use Rattle.store_schema.specs.Parts.{marks, names_of}
 use Rattle.store_schema.specs.Shapes.{FindsPart}
 use Rattle.store_opening.specs.Statements.{select_of}
@@ -47,7 +47,7 @@ showing tree project = record {
   offset = lit (Int (pos 0));
 }
 
-abbrev pub project_of : Part → List Term
+abbrev pub project_of : DeskPart → List Term
 project_of Desk = col 1 0 ∷ col 1 2 ∷ col 1 3 ∷ []
 project_of Messages = col 1 1 ∷ []
 project_of Names = col 1 0 ∷ col 1 1 ∷ col 1 2 ∷ col 1 3 ∷ col 1 4 ∷ []
@@ -480,7 +480,7 @@ module _ (s : Schema) (at : ℕ) (t : Table) (parts : ShowsRowid (select_of Mark
       (select_is s (select_of Marks) (codes "marks") parts.it at t rowid_shows _ _ found.named found.has all refl refl rowid_typed) refl refl
 
 -- what the part's statement means
-pub means_of : (s : Schema) (p : Part) (it : FindsPart s p)
+pub means_of : (s : Schema) (p : DeskPart) (it : FindsPart s p)
     → (names : List Name) × Means s (select_of p) (command.Select (record { lets = []; body = showing it.table.tree (project_of p) }) names)
 means_of s Desk it = (roster_names, roster_means s it.at it.table.tree (subst (Finds s (codes "desk") it.at) it.is it.finds))
 means_of s Messages it = (codes "body" ∷ [], list_means s it.at it.table.tree (subst (Finds s (codes "messages") it.at) it.is it.finds))

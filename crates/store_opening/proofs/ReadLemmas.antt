@@ -21,8 +21,8 @@ use Rattle.sqlite.proofs.Callers.{IsPlain, reads_as}
 use Rattle.sqlite.proofs.StateLemmas.{survives_then}
 use Rattle.sqlite.specs.Effect.{Database}
 use Rattle.store_tables.specs.SqliteStates.{IsUp, IsAtRest, Rests}
-use Rattle.store_schema.specs.declared.part.Part.{Part}
-use Rattle.store_schema.specs.declared.part.Part.TheVariants.{Desk, Messages, Names, Marks, Verdicts, Parked}
+use Rattle.store_schema.specs.declared.part.DeskPart.{DeskPart}
+use Rattle.store_schema.specs.declared.part.DeskPart.TheVariants.{Desk, Messages, Names, Marks, Verdicts, Parked}
 use Rattle.store_schema.specs.Shapes.{FindsPart}
 use Rattle.store_schema.proofs.ShapeLemmas.{tree_in}
 use Rattle.store_opening.specs.Statements.{select_of}
@@ -120,7 +120,7 @@ survives_as old new P Q each s = record {
 }
 
 -- the statement of a part commits nothing, whatever the schema is
-survives_read : (p : Part) (old new : State) → Survives old new (CommitsShowing (select_of p) [] old) → Survives old new (λ _. ⊥)
+survives_read : (p : DeskPart) (old new : State) → Survives old new (CommitsShowing (select_of p) [] old) → Survives old new (λ _. ⊥)
 survives_read p old new s = survives_as old new (CommitsShowing (select_of p) [] old) (λ _. ⊥) (part_commits_none p old) s
 
 survives_both : (a b c : State) → Survives a b (λ _. ⊥) → Survives b c (λ _. ⊥) → Survives a c (λ _. ⊥)
@@ -175,11 +175,11 @@ shows_all old tree project low rows a =
     subst (λ l. IsPermutation l rows) shown
     (subst (IsPermutation (map (λ (o : Output). o.1) a.kept)) (sym a.shown) (IsPermutation-map (λ (o : Output). o.1) a.kept a.ordered a.same))
 
-seen_is : (p : Part) (rows : List Row) → map (seen (project_of p)) rows ≡ map (shown_of p) rows
+seen_is : (p : DeskPart) (rows : List Row) → map (seen (project_of p)) rows ≡ map (shown_of p) rows
 seen_is p [] = refl
 seen_is p (r ∷ rs) = λ i. one p i ∷ seen_is p rs i
   where
-    one : (p : Part) → seen (project_of p) r ≡ shown_of p r
+    one : (p : DeskPart) → seen (project_of p) r ≡ shown_of p r
     one Desk = refl
     one Messages = refl
     one Names = refl
@@ -187,10 +187,10 @@ seen_is p (r ∷ rs) = λ i. one p i ∷ seen_is p rs i
     one Verdicts = refl
     one Parked = refl
 
-pub part_plain : (s : State) (p : Part) → FindsPart s.now.schema p → IsPlain (understood s.now.schema (select_of p))
+pub part_plain : (s : State) (p : DeskPart) → FindsPart s.now.schema p → IsPlain (understood s.now.schema (select_of p))
 part_plain s p it = (means_of s.now.schema p it).1.plain
 
-pub part_shown : (old new : State) (p : Part) → FindsPart old.now.schema p → (r : Result (Vec Row Global) Error)
+pub part_shown : (old new : State) (p : DeskPart) → FindsPart old.now.schema p → (r : Result (Vec Row Global) Error)
     → IfOk r (λ rows. Shown (select_of p) [] old new rows.items) → IfOk r (λ rows. ShowsPart p old.now rows.items)
 part_shown old new p it (Ok rows) shown =
     let s = old.now.schema in
@@ -204,7 +204,7 @@ part_shown old new p it (Err e) shown = tt
 
 -- ---- the statement of a part
 
-module _ (sql : List ℕ) (p : Part) (is : sql ≡ select_of p) (old new : State) (found : IsUp old
+module _ (sql : List ℕ) (p : DeskPart) (is : sql ≡ select_of p) (old new : State) (found : IsUp old
     → FindsPart old.now.schema p) (r : Result (Vec Row Global) Error) where
   plain : IsUp old → IsPlain (understood old.now.schema sql)
   plain up = subst (λ t. IsPlain (understood old.now.schema t)) (sym is) (part_plain old p (found up))

@@ -19,7 +19,7 @@ use Rattle.messages.specs.declared.message.Message.{Message}
 use Rattle.messages.specs.declared.message.Message.TheVariants.{Request, Verdict}
 use Rattle.messages.proofs.Uniqueness.{one_message}
 use Rattle.store_tables.specs.Rows.{AreRows, Asks, IsMarked, IsRow, name_row, parked_row, verdict_row}
-use Rattle.store_schema.specs.declared.part.Part.TheVariants.{Names, Verdicts, Parked}
+use Rattle.store_schema.specs.declared.part.DeskPart.TheVariants.{Names, Verdicts, Parked}
 use Rattle.store_opening.specs.private.Rows.{HaveRowids}
 use Rattle.store_opening.specs.private.Compare.{agree, are_rows_of, asks, counts, has_name_row, has_parked_row, has_verdict_row}
 use Rattle.store_opening.specs.private.Compare.{is_disputed, is_name_row, is_named, is_of_name, is_once, is_other, is_parked_row}

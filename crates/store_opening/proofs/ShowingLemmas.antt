@@ -29,8 +29,8 @@ use Rattle.messages.proofs.KindLemmas.{one_kind}
 use Rattle.messages.proofs.Uniqueness.{one_message}
 use Rattle.store_tables.specs.Kept.{HoldsText, IsKeyed, table_in}
 use Rattle.store_tables.specs.Rows.{AreRows, Asks, IsRow, name_row, parked_row, verdict_row}
-use Rattle.store_schema.specs.declared.part.Part.{Part}
-use Rattle.store_schema.specs.declared.part.Part.TheVariants.{Names, Verdicts, Parked}
+use Rattle.store_schema.specs.declared.part.DeskPart.{DeskPart}
+use Rattle.store_schema.specs.declared.part.DeskPart.TheVariants.{Names, Verdicts, Parked}
 use Rattle.store_opening.specs.Opened.{IsKept}
 use Rattle.store_opening.specs.private.Reading.{IsKeepable}
 use Rattle.store_opening.specs.private.Selecting.{ShowsRows, shown_of}
@@ -101,7 +101,7 @@ row_parts : (r : Row) → is_int (rowid r) ≡ true → (id : Value) × (values 
 row_parts [] is = absurd (true≢false (sym is))
 row_parts (id ∷ values) is = (id, values, refl)
 
-module _ (p : Part) (table rows : List Row) (keyed : IsKeyed table) (shows : Rattle.std.specs.List.Sorted.IsPermutation (map (shown_of p) table) rows) where
+module _ (p : DeskPart) (table rows : List Row) (keyed : IsKeyed table) (shows : Rattle.std.specs.List.Sorted.IsPermutation (map (shown_of p) table) rows) where
   table_row : (r : Row) → Has rows r → (id : Value) × (values : List Value) × IsRow table values × (r ≡ shown_of p (id ∷ values))
   table_row r there =
       let o = has_mapped (shown_of p) table r (has_permuted rows (map (shown_of p) table) r (IsPermutation-sym _ _ shows) there) in

@@ -18,8 +18,8 @@ use Rattle.messages.specs.declared.message.Message.{Message}
 use Rattle.store_tables.specs.Kept.{IsKeyed, table_in}
 use Rattle.store_tables.specs.Rows.{AreRows, IsRow}
 use Rattle.store_tables.specs.Stored.{is_one, is_two, recorded, roster_of}
-use Rattle.store_schema.specs.declared.part.Part.{Part}
-use Rattle.store_schema.specs.declared.part.Part.TheVariants.{Desk, Messages, Names, Marks, Verdicts, Parked}
+use Rattle.store_schema.specs.declared.part.DeskPart.{DeskPart}
+use Rattle.store_schema.specs.declared.part.DeskPart.TheVariants.{Desk, Messages, Names, Marks, Verdicts, Parked}
 use Rattle.store_schema.specs.Parts.{name_of}
 use Rattle.store_schema.specs.Shapes.{FindsPart, IsUnmarked}
 use Rattle.store_schema.proofs.ShapeLemmas.{tree_in}
@@ -41,7 +41,7 @@ SameRows old new = (r : Row) → (Has old r → Has new r) × (Has new r → Has
 
 -- ---- one table
 
-module _ (db : Database) (sound : IsDatabase db) (p : Part) (reads : IsRead p)
+module _ (db : Database) (sound : IsDatabase db) (p : DeskPart) (reads : IsRead p)
     (it : FindsPart db.schema p) (rows : List Row) (shows : ShowsPart p db rows) where
   abbrev table : List Row
   table = table_in db (name_of p)
@@ -52,7 +52,7 @@ module _ (db : Database) (sound : IsDatabase db) (p : Part) (reads : IsRead p)
   wide : (r : Row) (n : ℕ) → (w : IsWholeRow n r) → (length r == suc n) ≡ true
   wide r n w = (Decides-eqb (length r) (suc n)).1 (ap length w.is ∙ ap suc w.width_is)
 
-  itself : (p : Part) → IsRead p → (r : Row) → IsWholeRow (width_of p) r → shown_of p r ≡ r
+  itself : (p : DeskPart) → IsRead p → (r : Row) → IsWholeRow (width_of p) r → shown_of p r ≡ r
   itself Desk reads r w = absurd reads
   itself Messages reads r w = absurd reads
   itself Names reads r w = sym (five r (wide r 4 w))

@@ -20,7 +20,7 @@ use Rattle.std.specs.Cmp.{eq_by_cmp_equiv}
 use Rattle.std.specs.Cmp.Lexicographic.{nat_list_cmp_total}
 use Rattle.store_tables.proofs.AddLemmas.{is_same}
 use Rattle.store_tables.proofs.TextSets.{contains_bodies, has_text, same_text}
-use Rattle.store_schema.specs.declared.part.Part.TheVariants.{Messages}
+use Rattle.store_schema.specs.declared.part.DeskPart.TheVariants.{Messages}
 use Rattle.store_opening.specs.Opened.{HasContents, HasTexts}
 use Rattle.store_opening.specs.private.Judged.{AreContents, LackContents}
 use Rattle.store_opening.specs.private.Reading.{AreBodies, HasForeign, body}

@@ -3,7 +3,7 @@ use Rattle.std.proofs.Common.{List}
 use Rattle.sqlite.specs.Order.{Row}
 use Rattle.sqlite.specs.State.{State}
 use Rattle.store_tables.specs.SqliteStates.{IsUp}
-use Rattle.store_schema.specs.declared.part.Part.TheVariants.{Names, Verdicts, Parked}
+use Rattle.store_schema.specs.declared.part.DeskPart.TheVariants.{Names, Verdicts, Parked}
 use Rattle.store_opening.specs.Opened.{Reads}
 use Rattle.store_opening.specs.private.Selecting.{ShowsPart, ShowsRows}
 use Rattle.store_opening.proofs.ReadLemmas.{before, then_reads}

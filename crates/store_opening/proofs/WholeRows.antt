@@ -15,8 +15,8 @@ use Rattle.sqlite_schema.specs.declared.schema.Column.{Column}
 use Rattle.sqlite_schema.specs.declared.schema.Constraint.TheVariants.{Datatype, NotNull}
 use Rattle.sqlite_schema.specs.Rules.{are_present, are_typed, has_computed, passes, suits}
 use Rattle.store_tables.proofs.AddLemmas.{all_at}
-use Rattle.store_schema.specs.declared.part.Part.{Part}
-use Rattle.store_schema.specs.declared.part.Part.TheVariants.{Desk, Messages, Names, Marks, Verdicts, Parked}
+use Rattle.store_schema.specs.declared.part.DeskPart.{DeskPart}
+use Rattle.store_schema.specs.declared.part.DeskPart.TheVariants.{Desk, Messages, Names, Marks, Verdicts, Parked}
 use Rattle.store_tables.specs.DeskTables.{names_at, parked_at, verdicts_at}
 use Rattle.store_schema.specs.Parts.{table_at}
 use Rattle.store_schema.specs.Shapes.{FindsPart}
@@ -80,11 +80,11 @@ module _ (db : Database) (sound : IsDatabase db) (at : ℕ) (t : Table) (has : s
 
 -- ---- a desk's tables that are read with their rowids
 
-abbrev pub width_of : Part → ℕ
+abbrev pub width_of : DeskPart → ℕ
 width_of p = length (table_at p 0).columns
 
 -- the part's rows are read with their rowids
-abbrev pub IsRead : Part → Type 0
+abbrev pub IsRead : DeskPart → Type 0
 IsRead Desk = ⊥
 IsRead Messages = ⊥
 IsRead Names = Unit {0}
@@ -92,7 +92,7 @@ IsRead Marks = ⊥
 IsRead Verdicts = Unit {0}
 IsRead Parked = Unit {0}
 
-pub whole_rows : (db : Database) → IsDatabase db → (p : Part) → IsRead p → (it : FindsPart db.schema p)
+pub whole_rows : (db : Database) → IsDatabase db → (p : DeskPart) → IsRead p → (it : FindsPart db.schema p)
     → (r : Row) → Has (db.trees it.table.tree) r → IsWholeRow (width_of p) r
 whole_rows db sound Desk reads it r there = absurd reads
 whole_rows db sound Messages reads it r there = absurd reads

@@ -12,10 +12,11 @@ use Rattle.store_tables.specs.Kept.{HoldsText, IsDeskDatabase, table_in}
 use Rattle.store_tables.specs.Sets.{Lists}
 use Rattle.store_tables.specs.SqliteStates.{IsUp, Rests}
 use Rattle.store_tables.specs.Stored.{IsWritten, content_of, has, is_stray, text_at}
-use Rattle.store_schema.specs.declared.part.Part.TheVariants.{Verdicts}
+use Rattle.store_schema.specs.declared.part.DeskPart.TheVariants.{Verdicts}
 use Rattle.store_schema.specs.Shapes.{FindsPart, HasCommon, IsOld, IsUnmarked, IsVacant}
-use Rattle.store_opening.specs.declared.found.Found.{Found}
-use Rattle.store_opening.specs.declared.found.Found.TheVariants.{Empty, Desk, Old, NotADesk}
+use Rattle.store_opening.specs.declared.in_database.InDatabase.{InDatabase}
+use Rattle.store_opening.specs.declared.in_database.InDatabase.TheVariants.{Empty, Desk, Old}
+use Rattle.store_opening.specs.declared.in_database.InDatabase.TheVariants.{NotADesk}
 
 -- ---- the row of `desk`
 
@@ -69,7 +70,7 @@ pub record IsOldDesk (db : Database) : Type 0 where
 -- ---- what is found
 
 -- what a database is found to keep
-abbrev pub FoundIn : Database → Found → Type 0
+abbrev pub FoundIn : Database → InDatabase → Type 0
 FoundIn db Empty = IsVacant db.schema
 FoundIn db (Desk c) = IsKept db × ((content_of db).roster ≡ string_bytes c.roster)
     × Lists (HoldsText db) c.messages.items
@@ -79,7 +80,7 @@ FoundIn db (Old c) =
 FoundIn db NotADesk = (¬ IsVacant db.schema) × (¬ IsDeskBesideRows db) × (¬ IsOldDesk db)
 
 -- a desk, of today's form or of an older one
-abbrev pub IsSomeDesk : Found → Type 0
+abbrev pub IsSomeDesk : InDatabase → Type 0
 IsSomeDesk Empty = ⊥
 IsSomeDesk (Desk c) = ⊤
 IsSomeDesk (Old c) = ⊤

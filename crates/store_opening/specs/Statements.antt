@@ -1,10 +1,10 @@
 -- The statements that read a desk's tables.
 use Rattle.std.specs.Prelude.{List, ℕ, codes}
-use Rattle.store_schema.specs.declared.part.Part.{Part}
-use Rattle.store_schema.specs.declared.part.Part.TheVariants.{Desk, Messages, Names}
-use Rattle.store_schema.specs.declared.part.Part.TheVariants.{Marks, Verdicts, Parked}
+use Rattle.store_schema.specs.declared.part.DeskPart.{DeskPart}
+use Rattle.store_schema.specs.declared.part.DeskPart.TheVariants.{Desk, Messages, Names}
+use Rattle.store_schema.specs.declared.part.DeskPart.TheVariants.{Marks, Verdicts, Parked}
 
-abbrev pub select_of : Part → List ℕ
+abbrev pub select_of : DeskPart → List ℕ
 select_of Desk = codes "SELECT id, schema, roster FROM desk"
 select_of Messages = codes "SELECT body FROM messages"
 select_of Names = codes "SELECT rowid, asker, no, body, disputed FROM names"

@@ -7,21 +7,21 @@ ghost use Rattle.sqlite.specs.State.{HasCleanDisk, IsLive};
 ghost use Rattle.sqlite.specs.Held.{state};
 ghost use Rattle.store_tables.specs.SqliteStates.{IsUp, Rests};
 ghost use Rattle.store_tables.specs.declared.fault.Fault.TheVariants as fault;
-ghost use Rattle.store_schema.specs.declared.part.Part.TheVariants as part;
+ghost use Rattle.store_schema.specs.declared.part.DeskPart.TheVariants as part;
 ghost use Rattle.store_schema.specs.Shapes.{FindsPart, HasCommon, IsOld, IsShape, IsUnmarked};
 ghost use Rattle.store_schema.specs.References.{AreUnreferred};
 ghost use Rattle.store_opening.specs.Opened.{FoundIn, IsDamaged, IsSomeDesk, Reads};
 ghost use Rattle.store_opening.specs.private.Judged.{ShowsContents};
 ghost use Rattle.store_opening.specs.private.Selecting.{ShowsTexts};
 
-use crate::found::{Contents, Found};
+use crate::in_database::{Contents, InDatabase};
 use crate::kept::keeps_rows;
 use crate::reading::{all_stored, roster_of};
 use crate::statements::rows_of;
 use crate::tables::{Texts, texts_of};
 use sqlite::{Alter, Connection, Error};
 use std::alloc::Global;
-use store_schema::{Part, Shape, are_unreferred, shape_of};
+use store_schema::{DeskPart, Shape, are_unreferred, shape_of};
 use store_tables::Fault;
 use sudo_words::NoMemory;
 
@@ -83,7 +83,7 @@ fn both(a: bool, b: bool) -> bool
 }
 
 /// Looks at a database that has a desk's tables.
-fn look_within<S: Alter>(alloc: Global, conn: &mut Connection<S>) -> Result<Found, Fault>
+fn look_within<S: Alter>(alloc: Global, conn: &mut Connection<S>) -> Result<InDatabase, Fault>
     requires rests { Rests (state S.Store conn.old) }
     requires common { IsUp (state S.Store conn.old)
         → HasCommon (state S.Store conn.old).now.schema }
@@ -100,14 +100,14 @@ fn look_within<S: Alter>(alloc: Global, conn: &mut Connection<S>) -> Result<Foun
 {
     let alone = is_alone(conn);
     let Some(contents) = contents_in(alloc, conn, 2)? else {
-        return Ok(Found::NotADesk);
+        return Ok(InDatabase::NotADesk);
     };
     let kept = keeps_rows(alloc, conn, contents.messages.as_slice())?;
     if !both(alone, kept) {
         drop(contents);
         return Err(Fault::Stray);
     }
-    Ok(Found::Desk(contents))
+    Ok(InDatabase::Desk(contents))
 }
 
 /// Whether the older desk's `marks` has a row.
@@ -123,12 +123,12 @@ fn has_marks<S: Alter>(conn: &mut Connection<S>) -> Result<bool, Error>
     ensures some { IsUp (state S.Store conn.new)
         → IfOk result (λ some. some ≡ true → ¬ IsUnmarked (state S.Store conn.old).now) }
 {
-    let marks = rows_of(conn, Part::Marks)?;
+    let marks = rows_of(conn, DeskPart::Marks)?;
     Ok(!marks.is_empty())
 }
 
 /// Looks at a database that has a desk's tables, and those of the older desk that it was.
-fn look_migrated<S: Alter>(alloc: Global, conn: &mut Connection<S>) -> Result<Found, Fault>
+fn look_migrated<S: Alter>(alloc: Global, conn: &mut Connection<S>) -> Result<InDatabase, Fault>
     requires rests { Rests (state S.Store conn.old) }
     requires common { IsUp (state S.Store conn.old)
         → HasCommon (state S.Store conn.old).now.schema }
@@ -145,13 +145,13 @@ fn look_migrated<S: Alter>(alloc: Global, conn: &mut Connection<S>) -> Result<Fo
         → result ≡ Err fault.Stray → IsDamaged (state S.Store conn.old).now }
 {
     if has_marks(conn)? {
-        return Ok(Found::NotADesk);
+        return Ok(InDatabase::NotADesk);
     }
     look_within(alloc, conn)
 }
 
 /// Looks at a database that has an older desk's tables.
-fn look_old<S: Alter>(alloc: Global, conn: &mut Connection<S>) -> Result<Found, Fault>
+fn look_old<S: Alter>(alloc: Global, conn: &mut Connection<S>) -> Result<InDatabase, Fault>
     requires rests { Rests (state S.Store conn.old) }
     requires old { IsUp (state S.Store conn.old) → IsOld (state S.Store conn.old).now.schema }
     ensures reads { Reads (state S.Store conn.old) (state S.Store conn.new) }
@@ -162,8 +162,8 @@ fn look_old<S: Alter>(alloc: Global, conn: &mut Connection<S>) -> Result<Found, 
     ensures not_stray { result ≢ Err fault.Stray }
 {
     match contents_in(alloc, conn, 1)? {
-        Some(contents) => Ok(Found::Old(contents)),
-        None => Ok(Found::NotADesk),
+        Some(contents) => Ok(InDatabase::Old(contents)),
+        None => Ok(InDatabase::NotADesk),
     }
 }
 
@@ -171,7 +171,7 @@ fn look_old<S: Alter>(alloc: Global, conn: &mut Connection<S>) -> Result<Found, 
 ///
 /// A desk is refused, as `Fault::Stray`, if its rows are not those that follow from its messages,
 /// or if a foreign key refers to its tables that lose rows.
-pub fn look<S: Alter>(alloc: Global, conn: &mut Connection<S>) -> Result<Found, Fault>
+pub fn look<S: Alter>(alloc: Global, conn: &mut Connection<S>) -> Result<InDatabase, Fault>
     requires rests { Rests (state S.Store conn.old) }
     ensures reads { Reads (state S.Store conn.old) (state S.Store conn.new) }
     ensures up { IsUp (state S.Store conn.old) → HasCleanDisk (state S.Store conn.new)
@@ -186,8 +186,8 @@ pub fn look<S: Alter>(alloc: Global, conn: &mut Connection<S>) -> Result<Found, 
         → result ≡ Err fault.Stray → IsDamaged (state S.Store conn.old).now }
 {
     match shape_in(conn) {
-        Shape::Free => Ok(Found::Empty),
-        Shape::Other => Ok(Found::NotADesk),
+        Shape::Free => Ok(InDatabase::Empty),
+        Shape::Other => Ok(InDatabase::NotADesk),
         Shape::Old => look_old(alloc, conn),
         Shape::Migrated => look_migrated(alloc, conn),
         Shape::Desk => look_within(alloc, conn),

@@ -10,7 +10,7 @@ ghost use Rattle.sqlite.specs.State.{HasCleanDisk};
 ghost use Rattle.sqlite.specs.Held.{state};
 ghost use Rattle.store_tables.specs.SqliteStates.{IsUp, Rests};
 ghost use Rattle.store_tables.specs.declared.fault.Fault.TheVariants as fault;
-ghost use Rattle.store_schema.specs.declared.part.Part.TheVariants as part;
+ghost use Rattle.store_schema.specs.declared.part.DeskPart.TheVariants as part;
 ghost use Rattle.store_schema.specs.Shapes.{FindsPart, HasCommon};
 ghost use Rattle.store_opening.specs.Opened.{Reads};
 ghost use Rattle.store_opening.specs.private.Compare as compare;
@@ -24,13 +24,18 @@ use crate::statements::rows_of;
 use crate::stored::Stored;
 use sqlite::{Alter, Connection, Row};
 use std::alloc::Global;
-use store_schema::Part;
+use store_schema::DeskPart;
 use store_tables::Fault;
 use sudo_words::NoMemory;
 
 /// Whether the rows of the table are those that follow from the messages, each with a rowid of its
 /// own.
-fn is_kept(alloc: Global, part: Part, known: &Known<'_>, rows: Vec<Row>) -> Result<bool, NoMemory>
+fn is_kept(
+    alloc: Global,
+    part: DeskPart,
+    known: &Known<'_>,
+    rows: Vec<Row>,
+) -> Result<bool, NoMemory>
     requires { IsIndex known.now.all.now known.now.names.items known.now.disputed.items }
     ensures { IfOk result (λ kept. kept ≡ compare.is_kept part known.now.all.now rows.items) }
 {
@@ -43,7 +48,7 @@ fn is_kept(alloc: Global, part: Part, known: &Known<'_>, rows: Vec<Row>) -> Resu
 fn keeps_part<S: Alter>(
     alloc: Global,
     conn: &mut Connection<S>,
-    part: Part,
+    part: DeskPart,
     known: &Known<'_>,
 ) -> Result<bool, Fault>
     requires rests { Rests (state S.Store conn.old) }
@@ -88,10 +93,10 @@ pub(crate) fn keeps_rows<S: Alter>(
         names verdicts parked × (kept ≡ compare.are_kept all.now names verdicts parked)) }
     ensures not_stray { result ≢ Err fault.Stray }
 {
-    let rows = rows_of(conn, Part::Names)?;
+    let rows = rows_of(conn, DeskPart::Names)?;
     let known = Known::new(alloc, all)?;
-    let names = is_kept(alloc, Part::Names, &known, rows)?;
-    let verdicts = keeps_part(alloc, conn, Part::Verdicts, &known)?;
-    let parked = keeps_part(alloc, conn, Part::Parked, &known)?;
+    let names = is_kept(alloc, DeskPart::Names, &known, rows)?;
+    let verdicts = keeps_part(alloc, conn, DeskPart::Verdicts, &known)?;
+    let parked = keeps_part(alloc, conn, DeskPart::Parked, &known)?;
     Ok(all_three(names, verdicts, parked))
 }

@@ -4,8 +4,8 @@
 
 mod cells;
 mod compare;
-mod found;
 mod found_in;
+mod in_database;
 mod kept;
 mod known;
 mod listed;
@@ -21,8 +21,8 @@ mod table;
 mod tables;
 mod walk;
 
-pub use found::{Contents, Found};
 pub use found_in::look;
+pub use in_database::{Contents, InDatabase};
 pub use listed::messages_of;
 pub use shown_set::{ShownSet, shown_of};
 pub use statements::select_of;

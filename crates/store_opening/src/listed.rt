@@ -7,7 +7,7 @@ ghost use Rattle.store_tables.specs.Kept.{HoldsText};
 ghost use Rattle.store_tables.specs.Sets.{Lists};
 ghost use Rattle.store_tables.specs.SqliteStates.{IsUp, Rests};
 ghost use Rattle.store_tables.specs.declared.fault.Fault.TheVariants as fault;
-ghost use Rattle.store_schema.specs.declared.part.Part.TheVariants as part;
+ghost use Rattle.store_schema.specs.declared.part.DeskPart.TheVariants as part;
 ghost use Rattle.store_schema.specs.Shapes.{FindsPart};
 ghost use Rattle.store_opening.specs.Opened.{HasTexts, Reads};
 ghost use Rattle.store_opening.specs.private.Reading.{AreBodies, HasForeign};
@@ -17,7 +17,7 @@ use crate::statements::rows_of;
 use messages::{Message, MessageReader};
 use sqlite::{Alter, Connection, Row};
 use std::alloc::Global;
-use store_schema::Part;
+use store_schema::DeskPart;
 use store_tables::Fault;
 use sudo_words::NoMemory;
 
@@ -62,6 +62,6 @@ pub fn messages_of<S: Alter>(alloc: Global, conn: &mut Connection<S>) -> Result<
     ensures listed { IsUp (state S.Store conn.new)
         → IfOk result (λ ms. Lists (HoldsText (state S.Store conn.old).now) ms.items) }
 {
-    let rows = rows_of(conn, Part::Messages)?;
+    let rows = rows_of(conn, DeskPart::Messages)?;
     messages_shown(alloc, rows)
 }

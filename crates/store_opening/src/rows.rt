@@ -5,7 +5,7 @@
 
 ghost use Rattle.std.specs.Prelude.{◌≡◌, Contains, IfOk};
 ghost use Rattle.std.specs.List.{list_all, list_any};
-ghost use Rattle.store_schema.specs.declared.part.Part.TheVariants as part;
+ghost use Rattle.store_schema.specs.declared.part.DeskPart.TheVariants as part;
 ghost use Rattle.store_opening.specs.private.Compare as compare;
 ghost use Rattle.store_opening.specs.private.Names.{IsIndex};
 
@@ -19,7 +19,7 @@ use crate::walk;
 use messages::Message;
 use sqlite::Row;
 use std::alloc::Global;
-use store_schema::Part;
+use store_schema::DeskPart;
 use sudo_words::NoMemory;
 
 /// The row of `names` is that of the request.
@@ -209,7 +209,7 @@ fn are_parked(alloc: Global, known: &Known<'_>, rows: &[Row]) -> Result<bool, No
 /// follow from them the answer is always yes.
 pub(crate) fn are_rows_of(
     alloc: Global,
-    part: Part,
+    part: DeskPart,
     known: &Known<'_>,
     rows: &[Row],
 ) -> Result<bool, NoMemory>
@@ -217,9 +217,9 @@ pub(crate) fn are_rows_of(
     ensures { IfOk result (λ are. are ≡ compare.are_rows_of part known.now.all.now rows.now) }
 {
     match part {
-        Part::Names => are_names(alloc, known, rows),
-        Part::Verdicts => are_verdicts(alloc, known, rows),
-        Part::Parked => are_parked(alloc, known, rows),
-        Part::Desk | Part::Messages | Part::Marks => Ok(true),
+        DeskPart::Names => are_names(alloc, known, rows),
+        DeskPart::Verdicts => are_verdicts(alloc, known, rows),
+        DeskPart::Parked => are_parked(alloc, known, rows),
+        DeskPart::Desk | DeskPart::Messages | DeskPart::Marks => Ok(true),
     }
 }

@@ -9,7 +9,7 @@ ghost use Rattle.messages.specs.declared.name_row.NameRow.{NameRow as AnyRow};
 ghost use Rattle.store_tables.specs.Kept.{HoldsText};
 ghost use Rattle.store_tables.specs.SqliteStates.{IsUp, Rests};
 ghost use Rattle.store_tables.specs.declared.fault.Fault.TheVariants as fault;
-ghost use Rattle.store_schema.specs.declared.part.Part.TheVariants as part;
+ghost use Rattle.store_schema.specs.declared.part.DeskPart.TheVariants as part;
 ghost use Rattle.store_schema.specs.Shapes.{FindsPart, HasCommon};
 ghost use Rattle.store_opening.specs.Opened.{IsKept, Reads};
 ghost use Rattle.store_opening.specs.private.Showing.{AreShown, IsNoStray, ShowsName};

@@ -10,24 +10,24 @@ ghost use Rattle.store_opening.specs.private.Selecting.{ShowsPart};
 ghost use Rattle.store_opening.specs.Opened.{Reads};
 
 use sqlite::{Alter, Connection, Error, Row};
-use store_schema::Part;
+use store_schema::DeskPart;
 
 /// The statement that shows the rows of the table.
-pub fn select_of(part: Part) -> &'static str
+pub fn select_of(part: DeskPart) -> &'static str
     ensures { result.now ≡ select_of part }
 {
     match part {
-        Part::Desk => "SELECT id, schema, roster FROM desk",
-        Part::Messages => "SELECT body FROM messages",
-        Part::Names => "SELECT rowid, asker, no, body, disputed FROM names",
-        Part::Marks => "SELECT rowid FROM marks",
-        Part::Verdicts => "SELECT rowid, asker, no, person, kind, at FROM verdicts",
-        Part::Parked => "SELECT rowid, body, asker, no FROM parked",
+        DeskPart::Desk => "SELECT id, schema, roster FROM desk",
+        DeskPart::Messages => "SELECT body FROM messages",
+        DeskPart::Names => "SELECT rowid, asker, no, body, disputed FROM names",
+        DeskPart::Marks => "SELECT rowid FROM marks",
+        DeskPart::Verdicts => "SELECT rowid, asker, no, person, kind, at FROM verdicts",
+        DeskPart::Parked => "SELECT rowid, body, asker, no FROM parked",
     }
 }
 
 /// The rows of the table. The database stays as it is.
-pub(crate) fn rows_of<S: Alter>(conn: &mut Connection<S>, part: Part) -> Result<Vec<Row>, Error>
+pub(crate) fn rows_of<S: Alter>(conn: &mut Connection<S>, part: DeskPart) -> Result<Vec<Row>, Error>
     requires rests { Rests (state S.Store conn.old) }
     requires found { IsUp (state S.Store conn.old)
         → FindsPart (state S.Store conn.old).now.schema part }

@@ -4,14 +4,14 @@ ghost use Rattle.std.specs.Prelude.{◌≡◌, IfOk, OnOk};
 ghost use Rattle.sqlite.specs.State.{HasCleanDisk};
 ghost use Rattle.sqlite.specs.Held.{state};
 ghost use Rattle.store_tables.specs.SqliteStates.{IsUp, Rests};
-ghost use Rattle.store_schema.specs.declared.part.Part.TheVariants as part;
+ghost use Rattle.store_schema.specs.declared.part.DeskPart.TheVariants as part;
 ghost use Rattle.store_schema.specs.Shapes.{FindsPart, HasCommon};
 ghost use Rattle.store_opening.specs.private.Selecting.{ShowsRows, ShowsTexts};
 ghost use Rattle.store_opening.specs.Opened.{Reads};
 
 use crate::statements::rows_of;
 use sqlite::{Alter, Connection, Error, Row};
-use store_schema::Part;
+use store_schema::DeskPart;
 
 /// The rows of `desk` and of `messages`.
 #[derive(Debug, Drop)]
@@ -38,8 +38,8 @@ pub(crate) fn texts_of<S: Alter>(conn: &mut Connection<S>) -> Result<Texts, Erro
     ensures shows { IsUp (state S.Store conn.new)
         → IfOk result (λ t. ShowsTexts (state S.Store conn.old).now t.desk.items t.messages.items) }
 {
-    let desk = rows_of(conn, Part::Desk)?;
-    let messages = rows_of(conn, Part::Messages)?;
+    let desk = rows_of(conn, DeskPart::Desk)?;
+    let messages = rows_of(conn, DeskPart::Messages)?;
     Ok(Texts { desk, messages })
 }
 
@@ -56,9 +56,9 @@ pub(crate) fn rows_beside<S: Alter>(conn: &mut Connection<S>) -> Result<Rows, Er
     ensures shows { IsUp (state S.Store conn.new) → IfOk result (λ t.
         ShowsRows (state S.Store conn.old).now t.names.items t.verdicts.items t.parked.items) }
 {
-    let names = rows_of(conn, Part::Names)?;
-    let verdicts = rows_of(conn, Part::Verdicts)?;
-    let parked = rows_of(conn, Part::Parked)?;
+    let names = rows_of(conn, DeskPart::Names)?;
+    let verdicts = rows_of(conn, DeskPart::Verdicts)?;
+    let parked = rows_of(conn, DeskPart::Parked)?;
     Ok(Rows {
         names,
         verdicts,

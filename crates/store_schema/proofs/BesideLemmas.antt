@@ -10,8 +10,8 @@ use Rattle.sqlite_schema.specs.Names.{same_name, table_named}
 use Rattle.store_tables.specs.Kept.{IsForeign, Spares}
 use Rattle.store_tables.specs.Stored.{Finds, HasDesk, is_in, tree_of}
 use Rattle.store_schema.specs.Beside.{IsOther, KeepsBeside, StandsBeside, found_as}
-use Rattle.store_schema.specs.declared.part.Part.{Part}
-use Rattle.store_schema.specs.declared.part.Part.TheVariants as part
+use Rattle.store_schema.specs.declared.part.DeskPart.{DeskPart}
+use Rattle.store_schema.specs.declared.part.DeskPart.TheVariants as part
 use Rattle.store_schema.specs.Parts.{name_of}
 use Rattle.store_schema.specs.Shapes.{FindsPart, Lacks}
 use Rattle.store_schema.proofs.Grown.{find_kept, get_kept, position_kept}
@@ -32,7 +32,7 @@ not_in s name at t tree it other same =
     let itself : (t.tree == tree) ≡ true = ap (λ n. t.tree == n) same ∙ same_number t.tree in
     absurd (let no : true ≡ false = sym itself ∙ is in cc)
 
-pub other_apart : (s : Schema) (p : Part) (tree : ℕ) → FindsPart s p → is_in (found_as s (name_of p)) tree ≡ false → tree ≢ tree_of s (name_of p)
+pub other_apart : (s : Schema) (p : DeskPart) (tree : ℕ) → FindsPart s p → is_in (found_as s (name_of p)) tree ≡ false → tree ≢ tree_of s (name_of p)
 other_apart s p tree it other same = not_in s (name_of p) it.at it.table tree it.finds other (same ∙ tree_in s p it)
 
 other_is_foreign : (s : Schema) → HasDesk s → (tree : ℕ) → IsOther s tree → IsForeign s tree
@@ -65,7 +65,7 @@ module _ (s u : Schema) (more : List Table) (tables : u.tables ≡ s.tables ++ m
   there_still t there = subst (λ ts. Has ts t) (sym tables) (has_before s.tables more t there)
 
   -- a part that was there is found as it was
-  pub found_still : (p : Part) → FindsPart s p → found_as u (name_of p) ≡ found_as s (name_of p)
+  pub found_still : (p : DeskPart) → FindsPart s p → found_as u (name_of p) ≡ found_as s (name_of p)
   found_still p it =
       let t = it.table in
       let was : found_as s (name_of p) ≡ Some t = ap (option_and_then (slice_get s.tables)) it.finds.named ∙ it.finds.has in
@@ -75,11 +75,11 @@ module _ (s u : Schema) (more : List Table) (tables : u.tables ≡ s.tables ++ m
       let has : slice_get u.tables it.at ≡ Some t = ap (λ ts. slice_get ts it.at) tables ∙ get_kept t s.tables more it.at it.finds.has in
       ap (option_and_then (slice_get u.tables)) named ∙ has ∙ sym was
 
-  pub other_still : (p : Part) (tree : ℕ) → FindsPart s p → is_in (found_as s (name_of p)) tree ≡ false → is_in (found_as u (name_of p)) tree ≡ false
+  pub other_still : (p : DeskPart) (tree : ℕ) → FindsPart s p → is_in (found_as s (name_of p)) tree ≡ false → is_in (found_as u (name_of p)) tree ≡ false
   other_still p tree it other = ap (λ o. is_in o tree) (found_still p it) ∙ other
 
   -- a part that came has a tree that no table had
-  pub new_tree : (p : Part) (t : Table) → table_named s (name_of p) ≡ None → (it : FindsPart u p) → Has s.tables t → it.table.tree ≢ t.tree
+  pub new_tree : (p : DeskPart) (t : Table) → table_named s (name_of p) ≡ None → (it : FindsPart u p) → Has s.tables t → it.table.tree ≢ t.tree
   new_tree p t free it there same =
       let tree = it.table.tree in
       let got = found_some (λ (v : Table). v.tree == tree) s.tables t there (ap (λ n. n == tree) (sym same) ∙ same_number tree) in
@@ -90,11 +90,11 @@ module _ (s u : Schema) (more : List Table) (tables : u.tables ≡ s.tables ++ m
       let named = not_named (λ (v : Table). v.tree == tree) (λ (v : Table). same_name v.name (name_of p)) 0 s.tables got.0 free got.1 in
       absurd (let no : true ≡ false = sym (named_so p it.table it.is) ∙ ap (λ (v : Table). same_name v.name (name_of p)) (sym is) ∙ named in cc)
 
-  pub other_new : (p : Part) (t : Table) → table_named s (name_of p) ≡ None → FindsPart u p → Has s.tables t → is_in (found_as u (name_of p)) t.tree ≡ false
+  pub other_new : (p : DeskPart) (t : Table) → table_named s (name_of p) ≡ None → FindsPart u p → Has s.tables t → is_in (found_as u (name_of p)) t.tree ≡ false
   other_new p t free it there =
       let found : found_as u (name_of p) ≡ Some it.table = ap (option_and_then (slice_get u.tables)) it.finds.named ∙ it.finds.has in
       ap (λ o. is_in o t.tree) found ∙ other_number it.table.tree t.tree (new_tree p t free it there)
 
 -- no table has the name
-pub other_none : (s : Schema) (p : Part) (tree : ℕ) → Lacks s p → is_in (found_as s (name_of p)) tree ≡ false
+pub other_none : (s : Schema) (p : DeskPart) (tree : ℕ) → Lacks s p → is_in (found_as s (name_of p)) tree ≡ false
 other_none s p tree lacks = ap (λ o. is_in (option_and_then (slice_get s.tables) o) tree) lacks.table

@@ -11,8 +11,8 @@ use Rattle.sqlite_schema.specs.declared.schema.Reference.{Reference}
 use Rattle.sqlite_schema.specs.Names.{same_name}
 use Rattle.store_tables.specs.Stored.{Finds, IsUnreferred, is_in, parent_of}
 use Rattle.store_tables.proofs.AddLemmas.{all_at}
-use Rattle.store_schema.specs.declared.part.Part.{Part}
-use Rattle.store_schema.specs.declared.part.Part.TheVariants.{Desk, Messages, Names, Marks, Verdicts, Parked}
+use Rattle.store_schema.specs.declared.part.DeskPart.{DeskPart}
+use Rattle.store_schema.specs.declared.part.DeskPart.TheVariants.{Desk, Messages, Names, Marks, Verdicts, Parked}
 use Rattle.store_schema.specs.Parts.{name_of, table_at}
 use Rattle.store_schema.specs.Shapes.{Lacks}
 use Rattle.store_schema.specs.Founding.{Adds}
@@ -24,7 +24,7 @@ use Rattle.store_schema.proofs.RecognizedLemmas.{made_is, tree_is}
 
 -- ---- what all six tables have in common
 
-pub same_itself : (part : Part) (n : ℕ) → same_name (table_at part n).name (name_of part) ≡ true
+pub same_itself : (part : DeskPart) (n : ℕ) → same_name (table_at part n).name (name_of part) ≡ true
 unfolding same_name
 same_itself Desk n = refl
 same_itself Messages n = refl
@@ -33,7 +33,7 @@ same_itself Marks n = refl
 same_itself Verdicts n = refl
 same_itself Parked n = refl
 
-pub name_is : (part : Part) (n : ℕ) → (table_at part n).name ≡ name_of part
+pub name_is : (part : DeskPart) (n : ℕ) → (table_at part n).name ≡ name_of part
 name_is Desk n = refl
 name_is Messages n = refl
 name_is Names n = refl
@@ -41,7 +41,7 @@ name_is Marks n = refl
 name_is Verdicts n = refl
 name_is Parked n = refl
 
-pub refers_not : (part : Part) (n : ℕ) → (table_at part n).references ≡ []
+pub refers_not : (part : DeskPart) (n : ℕ) → (table_at part n).references ≡ []
 refers_not Desk n = refl
 refers_not Messages n = refl
 refers_not Names n = refl
@@ -49,7 +49,7 @@ refers_not Marks n = refl
 refers_not Verdicts n = refl
 refers_not Parked n = refl
 
-pub counts_not : (part : Part) (n : ℕ) → (table_at part n).is_counted ≡ false
+pub counts_not : (part : DeskPart) (n : ℕ) → (table_at part n).is_counted ≡ false
 counts_not Desk n = refl
 counts_not Messages n = refl
 counts_not Names n = refl
@@ -57,7 +57,7 @@ counts_not Marks n = refl
 counts_not Verdicts n = refl
 counts_not Parked n = refl
 
-pub moved : (part : Part) (m n : ℕ) → record (table_at part m) { tree = n } ≡ table_at part n
+pub moved : (part : DeskPart) (m n : ℕ) → record (table_at part m) { tree = n } ≡ table_at part n
 moved Desk m n = refl
 moved Messages m n = refl
 moved Names m n = refl
@@ -80,7 +80,7 @@ any_less p q each (x ∷ xs) h = let both = none_here (p x) (list_any p xs) h in
 
 -- ---- foreign keys
 
-module _ (s : Schema) (part : Part) where
+module _ (s : Schema) (part : DeskPart) where
   abbrev new : Table
   new = record (table_at part 0) { tree = next_tree s }
 
@@ -141,7 +141,7 @@ module _ (s : Schema) (part : Part) where
 
   -- ---- names
 
-  pub lacks_still : (other : Part) → Differs part other → Lacks s other → Lacks (created s (table_at part 0)) other
+  pub lacks_still : (other : DeskPart) → Differs part other → Lacks s other → Lacks (created s (table_at part 0)) other
   lacks_still other differs free = record {
     table = unused_still s (table_at part 0) (name_of other) free.table (ap (λ n. same_name n (name_of other)) (name_is part 0) ∙ differs.table);
     view = free.view;
@@ -154,22 +154,22 @@ module _ (s : Schema) (part : Part) where
 
 -- ---- the step
 
-open_still : (s : Schema) (part other : Part) → Differs part other → IsOpen s other → IsOpen (created s (table_at part 0)) other
+open_still : (s : Schema) (part other : DeskPart) → Differs part other → IsOpen s other → IsOpen (created s (table_at part 0)) other
 open_still s part other differs free = record {
   lacks = lacks_still s part other differs free.lacks;
   unnamed = unnamed_still s part (name_of other) free.unnamed;
 }
 
-all_open : (s : Schema) (part : Part) (rest : List Part) → AllByRecursion (Differs part) rest
+all_open : (s : Schema) (part : DeskPart) (rest : List DeskPart) → AllByRecursion (Differs part) rest
     → AllByRecursion (IsOpen s) rest → AllByRecursion (IsOpen (created s (table_at part 0))) rest
 all_open s part [] differ all = tt
 all_open s part (other ∷ rest) differ all = (open_still s part other differ.0 all.0, all_open s part rest differ.1 all.1)
 
-module _ (part : Part) (b c : Database) (adds : Adds (table_at part 0) b c) where
+module _ (part : DeskPart) (b c : Database) (adds : Adds (table_at part 0) b c) where
   kept_at : (t : Table) (at : ℕ) (name : List ℕ) → Finds b.schema name at t → c.trees t.tree ≡ b.trees t.tree
   kept_at t at name it = all_at (λ (x : Table). c.trees x.tree ≡ b.trees x.tree) b.schema.tables at t it.has adds.others
 
-  has_still : (other : Part) → HasEmpty b other → HasEmpty c other
+  has_still : (other : DeskPart) → HasEmpty b other → HasEmpty c other
   has_still other it =
       let t = it.found.table in
       record {
@@ -185,7 +185,7 @@ module _ (part : Part) (b c : Database) (adds : Adds (table_at part 0) b c) wher
             (unreferred_still b.schema part t.tree (below b.schema _ t it.found.finds.by_tree) it.alone);
       }
 
-  all_has : (made : List Part) → AllByRecursion (HasEmpty b) made → AllByRecursion (HasEmpty c) made
+  all_has : (made : List DeskPart) → AllByRecursion (HasEmpty b) made → AllByRecursion (HasEmpty c) made
   all_has [] all = tt
   all_has (other ∷ made) all = (has_still other all.0, all_has made all.1)
 
@@ -217,7 +217,7 @@ append-assoc [] ys zs = refl
 append-assoc (x ∷ xs) ys zs = ap (λ l. x ∷ l) (append-assoc xs ys zs)
 
 -- a part that was open is made
-pub grows_more : (part : Part) (made rest : List Part) (a b c : Database) → AllByRecursion (Differs part) rest
+pub grows_more : (part : DeskPart) (made rest : List DeskPart) (a b c : Database) → AllByRecursion (Differs part) rest
     → Grows made (part ∷ rest) a b → Adds (table_at part 0) b c → Grows (part ∷ made) rest a c
 grows_more part made rest a b c differ g adds = record {
   has = (has_new part b c adds g.open'.0, all_has part b c adds made g.has);

@@ -5,8 +5,8 @@ use Rattle.sqlite.specs.Schema.{Schema}
 use Rattle.sqlite.specs.Table.{Table}
 use Rattle.sqlite_schema.specs.Names.{same_name, table_named}
 use Rattle.store_tables.specs.Stored.{Finds, IsListedAs, IsUnused, tree_of}
-use Rattle.store_schema.specs.declared.part.Part.{Part}
-use Rattle.store_schema.specs.declared.part.Part.TheVariants.{Desk, Messages, Names, Marks, Verdicts, Parked}
+use Rattle.store_schema.specs.declared.part.DeskPart.{DeskPart}
+use Rattle.store_schema.specs.declared.part.DeskPart.TheVariants.{Desk, Messages, Names, Marks, Verdicts, Parked}
 use Rattle.store_schema.specs.Parts.{name_of}
 use Rattle.store_schema.specs.Shapes.{FindsPart, HasCommon, IsOld, IsVacant, Lacks}
 
@@ -28,10 +28,10 @@ module _ (s u : Schema) (listed : IsListedAs s u) where
     by_tree = ap (λ (ts : List Table). find (λ (x : Table). x.tree == t.tree) ts) listed.tables ∙ found.by_tree;
   }
 
-  part_as : (p : Part) → FindsPart s p → FindsPart u p
+  part_as : (p : DeskPart) → FindsPart s p → FindsPart u p
   part_as p it = record { at = it.at; table = it.table; finds = finds_as (name_of p) it.at it.table it.finds; is = it.is }
 
-  lacks_as : (p : Part) → Lacks s p → Lacks u p
+  lacks_as : (p : DeskPart) → Lacks s p → Lacks u p
   lacks_as p lacks = unused_as (name_of p) lacks
 
   pub vacant_as : IsVacant s → IsVacant u

@@ -19,8 +19,8 @@ use Rattle.store_tables.proofs.OneSchema.{again, unused_again}
 use Rattle.store_tables.proofs.RefillLemmas.{no_rows}
 use Rattle.store_tables.proofs.RosterLemmas.{same_messages, same_names, same_parked, same_verdicts}
 use Rattle.store_tables.proofs.StepLemmas.{keyed_none, neat_none}
-use Rattle.store_schema.specs.declared.part.Part.{Part}
-use Rattle.store_schema.specs.declared.part.Part.TheVariants as part
+use Rattle.store_schema.specs.declared.part.DeskPart.{DeskPart}
+use Rattle.store_schema.specs.declared.part.DeskPart.TheVariants as part
 use Rattle.store_schema.specs.Parts.{name_of}
 use Rattle.store_schema.specs.Beside.{IsOther, KeepsBeside, found_as}
 use Rattle.store_schema.specs.Shapes.{FindsPart, Lacks}
@@ -83,7 +83,7 @@ begins a ready = record {
   tables = append_none a.schema.tables;
 }
 
-one : (p : Part) (made rest : List Part) (a : Database) (b c : State) → AllByRecursion (Differs p) rest
+one : (p : DeskPart) (made rest : List DeskPart) (a : Database) (b c : State) → AllByRecursion (Differs p) rest
     → AddsPart p b c → Grows made (p ∷ rest) a b.now → Grows (p ∷ made) rest a c.now
 one p made rest a b c differ adds g = grows_more p made rest a b.now c.now differ g (adds.adds g.open'.0.lacks g.counted)
 
@@ -99,7 +99,7 @@ grown a b c d e f p q r s t = record {
 
 -- ---- what they are
 
-module _ (db : Database) (p : Part) (it : HasEmpty db p) where
+module _ (db : Database) (p : DeskPart) (it : HasEmpty db p) where
   pub bare : table_in db (name_of p) ≡ []
   bare = ap db.trees (tree_in db.schema p it.found) ∙ it.empty
 
@@ -208,7 +208,7 @@ module _ (roster : List ℕ) (a b c : Database) (ready : IsReady a.schema) (g : 
   abbrev grown_tables : c.schema.tables ≡ a.schema.tables ++ g.more
   grown_tables = ap (λ (s : Schema). s.tables) put.schema ∙ g.tables
 
-  came : (p : Part) (t : Table) → table_named a.schema (name_of p) ≡ None → HasEmpty b p
+  came : (p : DeskPart) (t : Table) → table_named a.schema (name_of p) ≡ None → HasEmpty b p
       → Has a.schema.tables t → is_in (found_as c.schema (name_of p)) t.tree ≡ false
   came p t free it there =
       other_new a.schema c.schema g.more grown_tables p t free (subst (λ (s : Schema). FindsPart s p) (sym put.schema) it.found) there

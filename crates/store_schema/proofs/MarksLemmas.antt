@@ -8,7 +8,7 @@ use Rattle.sqlite_rules.specs.Lists.{Has}
 use Rattle.store_tables.specs.DeskTables.{desk_at, messages_at, names_at, verdicts_at, parked_at}
 use Rattle.store_tables.specs.Stored.{Finds, HasDesk, IsListedAs, tree_of}
 use Rattle.store_tables.specs.Kept.{IsForeign, KeepsForeign, Spares}
-use Rattle.store_schema.specs.declared.part.Part.TheVariants as part
+use Rattle.store_schema.specs.declared.part.DeskPart.TheVariants as part
 use Rattle.store_schema.specs.Shapes.{FindsPart, HasEmptyMarks, IsUnmarked, Lacks}
 use Rattle.store_schema.proofs.ListedLemmas.{finds_as, unused_as}
 

@@ -12,8 +12,8 @@ use Rattle.sqlite.specs.Table.{Table}
 use Rattle.sqlite_schema.specs.declared.schema.Column.{Column}
 use Rattle.sqlite_schema.specs.Names.{same_name, table_named}
 use Rattle.store_tables.specs.Stored.{Finds}
-use Rattle.store_schema.specs.declared.part.Part.{Part}
-use Rattle.store_schema.specs.declared.part.Part.TheVariants.{Desk, Messages, Names, Marks, Verdicts, Parked}
+use Rattle.store_schema.specs.declared.part.DeskPart.{DeskPart}
+use Rattle.store_schema.specs.declared.part.DeskPart.TheVariants.{Desk, Messages, Names, Marks, Verdicts, Parked}
 use Rattle.store_schema.specs.Parts.{IsPart, name_of, table_at}
 use Rattle.store_schema.specs.Shapes.{FindsPart}
 
@@ -72,7 +72,7 @@ placed_at p q i (suc k) at (y ∷ ys) x sum is h has fits found = go (q y) refl 
 pub same_number : (m : ℕ) → (m == m) ≡ true
 same_number m = elim (eqb_tells m m) [ inl is ↦ is.0 | inr apart ↦ absurd (apart.1 refl) ]
 
-pub tree_is : (part : Part) (n : ℕ) → (table_at part n).tree ≡ n
+pub tree_is : (part : DeskPart) (n : ℕ) → (table_at part n).tree ≡ n
 tree_is Desk n = refl
 tree_is Messages n = refl
 tree_is Names n = refl
@@ -81,7 +81,7 @@ tree_is Verdicts n = refl
 tree_is Parked n = refl
 
 -- the table that is made of a part is the part's
-pub made_is : (part : Part) (n : ℕ) → IsPart part (table_at part n)
+pub made_is : (part : DeskPart) (n : ℕ) → IsPart part (table_at part n)
 made_is Desk n = refl
 made_is Messages n = refl
 made_is Names n = refl
@@ -89,7 +89,7 @@ made_is Marks n = (refl, refl)
 made_is Verdicts n = refl
 made_is Parked n = refl
 
-pub name_in : (part : Part) (t : Table) → IsPart part t → t.name ≡ name_of part
+pub name_in : (part : DeskPart) (t : Table) → IsPart part t → t.name ≡ name_of part
 name_in Desk t is = ap (λ (u : Table). u.name) is
 name_in Messages t is = ap (λ (u : Table). u.name) is
 name_in Names t is = ap (λ (u : Table). u.name) is
@@ -97,7 +97,7 @@ name_in Marks t is = is.0
 name_in Verdicts t is = ap (λ (u : Table). u.name) is
 name_in Parked t is = ap (λ (u : Table). u.name) is
 
-itself : (part : Part) → same_name (name_of part) (name_of part) ≡ true
+itself : (part : DeskPart) → same_name (name_of part) (name_of part) ≡ true
 unfolding same_name
 itself Desk = refl
 itself Messages = refl
@@ -106,7 +106,7 @@ itself Marks = refl
 itself Verdicts = refl
 itself Parked = refl
 
-pub named_so : (part : Part) (t : Table) → IsPart part t → same_name t.name (name_of part) ≡ true
+pub named_so : (part : DeskPart) (t : Table) → IsPart part t → same_name t.name (name_of part) ≡ true
 named_so part t is = ap (λ n. same_name n (name_of part)) (name_in part t is) ∙ itself part
 
 -- a table that is the first of its name and of its tree is found
@@ -120,14 +120,14 @@ finds_both s name at t named has stored first = record {
 }
 
 -- and one that is found is the first of both
-pub first_of_both : (s : Schema) (part : Part) (it : FindsPart s part)
+pub first_of_both : (s : Schema) (part : DeskPart) (it : FindsPart s part)
     → position_from (λ (u : Table). u.tree == it.table.tree) 0 s.tables ≡ Some it.at
 first_of_both s part it =
     placed_at (λ (u : Table). u.tree == it.table.tree) (λ (u : Table). same_name u.name (name_of part)) 0 it.at it.at s.tables it.table (omega arith)
     (named_so part it.table it.is) it.finds.named it.finds.has (same_number it.table.tree) it.finds.by_tree
 
 -- the table that was got by the part's name is the one that is found
-pub first_part : (part : Part) (s : Schema) (ts : List Table) (at : ℕ) (got : Option (Bor Table)) (t : Bor Table) → ts ≡ s.tables → FindsPart s part
+pub first_part : (part : DeskPart) (s : Schema) (ts : List Table) (at : ℕ) (got : Option (Bor Table)) (t : Bor Table) → ts ≡ s.tables → FindsPart s part
     → table_named s (name_of part) ≡ Some at → IsItemAt ts at got → got ≡ Some t
     → IsPart part t.now × (nat_le (2 ^ 31) t.now.tree ≡ false) × (position_from (λ (u : Table). u.tree == t.now.tree) 0 ts ≡ Some at)
 first_part part s ts at got t same it named item is =
@@ -143,7 +143,7 @@ first_part part s ts at got t same it named item is =
     )
 
 -- and one that is the first of its tree is found
-pub found_first : (part : Part) (s : Schema) (ts : List Table) (at : ℕ) (got : Option (Bor Table)) (t : Bor Table) (first : ℕ) → ts ≡ s.tables
+pub found_first : (part : DeskPart) (s : Schema) (ts : List Table) (at : ℕ) (got : Option (Bor Table)) (t : Bor Table) (first : ℕ) → ts ≡ s.tables
     → table_named s (name_of part) ≡ Some at → IsItemAt ts at got → got ≡ Some t → IsPart part t.now → nat_le (2 ^ 31) t.now.tree ≡ false
     → position_from (λ (u : Table). u.tree == t.now.tree) 0 ts ≡ Some first → (first == at) ≡ true → FindsPart s part
 found_first part s ts at got t first same named item is part_is stored placed test =

@@ -10,8 +10,8 @@ use Rattle.sqlite.specs.State.{State}
 use Rattle.store_tables.specs.Stored.{Content, content_of}
 use Rattle.store_tables.specs.Kept.{IsDeskDatabase}
 use Rattle.store_tables.specs.Steps.{IsInside}
-use Rattle.store_schema.specs.declared.part.Part.{Part}
-use Rattle.store_schema.specs.declared.part.Part.TheVariants.{Marks}
+use Rattle.store_schema.specs.declared.part.DeskPart.{DeskPart}
+use Rattle.store_schema.specs.declared.part.DeskPart.TheVariants.{Marks}
 use Rattle.store_schema.specs.Parts.{table_at}
 use Rattle.store_schema.specs.Shapes.{Lacks}
 
@@ -23,7 +23,7 @@ pub record Adds (table : Table) (old new : Database) : Type 0 where
   pub empty : new.trees (next_tree old.schema) ≡ []
   pub others : KeepsRows old.schema.tables old.trees new.trees
 
-pub record AddsPart (part : Part) (old new : State) : Type 0 where
+pub record AddsPart (part : DeskPart) (old new : State) : Type 0 where
   pub inside : IsInside old new
   pub adds : Lacks old.now.schema part → lacks_sequence old.now.schema ≡ false
       → Adds (table_at part 0) old.now new.now

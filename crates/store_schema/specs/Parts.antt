@@ -4,9 +4,9 @@ use Rattle.sqlite.specs.Table.{Table}
 use Rattle.sqlite_schema.specs.declared.schema.Column.{Column}
 use Rattle.store_tables.specs.DeskTables.{desk, verdicts, keyed}
 use Rattle.store_tables.specs.DeskTables.{desk_at, messages_at, names_at, verdicts_at, parked_at}
-use Rattle.store_schema.specs.declared.part.Part.{Part}
-use Rattle.store_schema.specs.declared.part.Part.TheVariants.{Desk, Messages, Names}
-use Rattle.store_schema.specs.declared.part.Part.TheVariants.{Marks, Verdicts, Parked}
+use Rattle.store_schema.specs.declared.part.DeskPart.{DeskPart}
+use Rattle.store_schema.specs.declared.part.DeskPart.TheVariants.{Desk, Messages, Names}
+use Rattle.store_schema.specs.declared.part.DeskPart.TheVariants.{Marks, Verdicts, Parked}
 
 -- The table of an older desk, which kept one moment for each person and kind. CREATE TABLE marks
 -- (asker TEXT NOT NULL, no INTEGER NOT NULL, person TEXT NOT NULL, kind TEXT NOT NULL, at INTEGER
@@ -21,7 +21,7 @@ marks_at tree = record marks { tree = tree }
 abbrev pub framed : List ℕ → List Column → Table
 framed name columns = record desk { name = name; columns = columns }
 
-abbrev pub name_of : Part → List ℕ
+abbrev pub name_of : DeskPart → List ℕ
 name_of Desk = codes "desk"
 name_of Messages = codes "messages"
 name_of Names = codes "names"
@@ -30,7 +30,7 @@ name_of Verdicts = codes "verdicts"
 name_of Parked = codes "parked"
 
 -- the table of the part as a desk makes it, with its rows in this tree of the file
-abbrev pub table_at : Part → ℕ → Table
+abbrev pub table_at : DeskPart → ℕ → Table
 table_at Desk = desk_at
 table_at Messages = messages_at
 table_at Names = names_at
@@ -45,7 +45,7 @@ names_of columns = map (λ (column : Column). column.name) columns
 -- The table is the part's, whatever its tree. Each must be as a desk makes it, except `marks`: no
 -- row of `marks` is ever read, so its columns count by their names alone, and not by their types,
 -- and neither do its keys.
-abbrev pub IsPart : Part → Table → Type 0
+abbrev pub IsPart : DeskPart → Table → Type 0
 IsPart Desk t = t ≡ desk_at t.tree
 IsPart Messages t = t ≡ messages_at t.tree
 IsPart Names t = t ≡ names_at t.tree

@@ -5,9 +5,9 @@ use Rattle.sqlite.specs.Schema.{Schema}
 use Rattle.sqlite.specs.Table.{Table}
 use Rattle.sqlite.specs.Does.{lacks_sequence}
 use Rattle.sqlite_schema.specs.Names.{same_name}
-use Rattle.store_schema.specs.declared.part.Part.{Part}
-use Rattle.store_schema.specs.declared.part.Part.TheVariants.{Desk, Messages, Names}
-use Rattle.store_schema.specs.declared.part.Part.TheVariants.{Marks, Verdicts, Parked}
+use Rattle.store_schema.specs.declared.part.DeskPart.{DeskPart}
+use Rattle.store_schema.specs.declared.part.DeskPart.TheVariants.{Desk, Messages, Names}
+use Rattle.store_schema.specs.declared.part.DeskPart.TheVariants.{Marks, Verdicts, Parked}
 use Rattle.store_schema.specs.Parts.{name_of}
 use Rattle.store_schema.specs.Shapes.{Lacks}
 
@@ -17,7 +17,7 @@ is_parent s name =
     list_any (λ (t : Table). list_any (λ ref. same_name name ref.parent) t.references) s.tables
 
 -- the name of the part is unused, and no foreign key names it
-pub record IsOpen (s : Schema) (part : Part) : Type 0 where
+pub record IsOpen (s : Schema) (part : DeskPart) : Type 0 where
   pub lacks : Lacks s part
   pub unnamed : is_parent s (name_of part) ≡ false
 

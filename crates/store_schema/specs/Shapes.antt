@@ -4,22 +4,22 @@ use Rattle.sqlite.specs.Schema.{Schema}
 use Rattle.sqlite.specs.Table.{Table}
 use Rattle.sqlite.specs.Effect.{Database}
 use Rattle.store_tables.specs.Stored.{Finds, IsUnused}
-use Rattle.store_schema.specs.declared.part.Part.{Part}
-use Rattle.store_schema.specs.declared.part.Part.TheVariants.{Desk, Messages, Names}
-use Rattle.store_schema.specs.declared.part.Part.TheVariants.{Marks, Verdicts, Parked}
+use Rattle.store_schema.specs.declared.part.DeskPart.{DeskPart}
+use Rattle.store_schema.specs.declared.part.DeskPart.TheVariants.{Desk, Messages, Names}
+use Rattle.store_schema.specs.declared.part.DeskPart.TheVariants.{Marks, Verdicts, Parked}
 use Rattle.store_schema.specs.declared.shape.Shape.{Shape}
 use Rattle.store_schema.specs.declared.shape.Shape.TheVariants as shape
 use Rattle.store_schema.specs.Parts.{name_of, IsPart}
 
 -- the schema finds the table of this part, by its name and by its tree
-pub record FindsPart (s : Schema) (part : Part) : Type 0 where
+pub record FindsPart (s : Schema) (part : DeskPart) : Type 0 where
   pub at : ℕ
   pub table : Table
   pub finds : Finds s (name_of part) at table
   pub is : IsPart part table
 
 -- no table, view or index has the part's name
-abbrev pub Lacks : Schema → Part → Type 0
+abbrev pub Lacks : Schema → DeskPart → Type 0
 Lacks s part = IsUnused s (name_of part)
 
 -- the four tables are there that a desk of today and an older one have in common

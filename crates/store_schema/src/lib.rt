@@ -13,7 +13,7 @@ mod tables;
 
 pub use making::{add_table, make};
 pub use migratable::is_migratable;
-pub use part::Part;
+pub use part::DeskPart;
 pub use ready::is_ready;
 pub use recognize::shape_of;
 pub use references::are_unreferred;

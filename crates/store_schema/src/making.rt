@@ -13,36 +13,36 @@ ghost use Rattle.store_schema.specs.private.Making.{Filled};
 ghost use Rattle.store_schema.specs.Founding.{FoundsAt};
 ghost use Rattle.store_schema.specs.private.Making.{GrownWhole, text_of};
 
-use crate::part::Part;
+use crate::part::DeskPart;
 use sqlite::{Alter, Connection, Error, Transaction};
 use store_tables::put_roster;
 
 /// The statement that makes the table.
-fn text_of(part: Part) -> &'static str
+fn text_of(part: DeskPart) -> &'static str
     ensures { result.now ≡ text_of part }
 {
     match part {
-        Part::Desk => {
+        DeskPart::Desk => {
             "CREATE TABLE desk (id INTEGER PRIMARY KEY, schema INTEGER NOT NULL, roster TEXT NOT NULL) STRICT"
         }
-        Part::Messages => "CREATE TABLE messages (body TEXT PRIMARY KEY NOT NULL) STRICT",
-        Part::Names => {
+        DeskPart::Messages => "CREATE TABLE messages (body TEXT PRIMARY KEY NOT NULL) STRICT",
+        DeskPart::Names => {
             "CREATE TABLE names (asker TEXT NOT NULL, no INTEGER NOT NULL, body TEXT NOT NULL, disputed INTEGER NOT NULL, PRIMARY KEY (asker, no)) STRICT"
         }
-        Part::Marks => {
+        DeskPart::Marks => {
             "CREATE TABLE marks (asker TEXT NOT NULL, no INTEGER NOT NULL, person TEXT NOT NULL, kind TEXT NOT NULL, at INTEGER NOT NULL, PRIMARY KEY (asker, no, person, kind)) STRICT"
         }
-        Part::Verdicts => {
+        DeskPart::Verdicts => {
             "CREATE TABLE verdicts (asker TEXT NOT NULL, no INTEGER NOT NULL, person TEXT NOT NULL, kind TEXT NOT NULL, at INTEGER NOT NULL, PRIMARY KEY (asker, no, person, kind, at)) STRICT"
         }
-        Part::Parked => {
+        DeskPart::Parked => {
             "CREATE TABLE parked (body TEXT PRIMARY KEY NOT NULL, asker TEXT NOT NULL, no INTEGER NOT NULL) STRICT"
         }
     }
 }
 
 /// Adds the table, which is empty.
-pub fn add_table<S: Alter>(tx: &mut Transaction<'_, S>, part: Part) -> Result<usize, Error>
+pub fn add_table<S: Alter>(tx: &mut Transaction<'_, S>, part: DeskPart) -> Result<usize, Error>
     ensures same_reference { tx.new.conn.ghost_name ≡ tx.old.conn.ghost_name }
     ensures added { InStep (state S.Store tx.old.conn.now)
         (state S.Store tx.new.conn.now) (λ a b. OnOk result (AddsPart part a b)) }
@@ -58,11 +58,11 @@ fn add_tables<S: Alter>(tx: &mut Transaction<'_, S>) -> Result<(), Error>
         (state S.Store tx.new.conn.now) (λ a b. OnOk result (GrownWhole a b)) }
     ensures step { IsStep (state S.Store tx.old.conn.now) (state S.Store tx.new.conn.now) }
 {
-    add_table(tx, Part::Desk)?;
-    add_table(tx, Part::Messages)?;
-    add_table(tx, Part::Names)?;
-    add_table(tx, Part::Verdicts)?;
-    add_table(tx, Part::Parked)?;
+    add_table(tx, DeskPart::Desk)?;
+    add_table(tx, DeskPart::Messages)?;
+    add_table(tx, DeskPart::Names)?;
+    add_table(tx, DeskPart::Verdicts)?;
+    add_table(tx, DeskPart::Parked)?;
     Ok(())
 }
 

@@ -3,7 +3,7 @@
 ghost use Rattle.std.specs.Prelude.{◌↔◌, IsTrue};
 ghost use Rattle.store_schema.specs.Migratable.{IsMigratable};
 
-use crate::part::{Part, name_of};
+use crate::part::{DeskPart, name_of};
 use crate::ready::{is_parent, lacks_sequence};
 use crate::references::is_unreferred;
 use sqlite_schema::schema::Schema;
@@ -14,10 +14,10 @@ use sqlite_schema::schema::Schema;
 pub fn is_migratable(schema: &Schema) -> bool
     ensures { IsTrue result ↔ IsMigratable schema.now }
 {
-    is_unreferred(schema, Part::Desk)
-        && is_unreferred(schema, Part::Names)
-        && is_unreferred(schema, Part::Marks)
-        && is_unreferred(schema, Part::Parked)
-        && !is_parent(schema, name_of(Part::Verdicts))
+    is_unreferred(schema, DeskPart::Desk)
+        && is_unreferred(schema, DeskPart::Names)
+        && is_unreferred(schema, DeskPart::Marks)
+        && is_unreferred(schema, DeskPart::Parked)
+        && !is_parent(schema, name_of(DeskPart::Verdicts))
         && !lacks_sequence(schema)
 }

@@ -5,7 +5,7 @@ ghost use Rattle.store_schema.specs.Parts.{name_of};
 
 /// One of a desk's tables. An older desk has `Marks` where one of today has `Verdicts`.
 #[derive(Clone, Copy, Debug, PartialEq, Eq)]
-pub enum Part {
+pub enum DeskPart {
     Desk,
     Messages,
     Names,
@@ -15,15 +15,15 @@ pub enum Part {
 }
 
 /// The table's name.
-pub(crate) fn name_of(part: Part) -> &'static [u8]
+pub(crate) fn name_of(part: DeskPart) -> &'static [u8]
     ensures { result.now ≡ name_of part }
 {
     match part {
-        Part::Desk => b"desk",
-        Part::Messages => b"messages",
-        Part::Names => b"names",
-        Part::Marks => b"marks",
-        Part::Verdicts => b"verdicts",
-        Part::Parked => b"parked",
+        DeskPart::Desk => b"desk",
+        DeskPart::Messages => b"messages",
+        DeskPart::Names => b"names",
+        DeskPart::Marks => b"marks",
+        DeskPart::Verdicts => b"verdicts",
+        DeskPart::Parked => b"parked",
     }
 }

@@ -7,7 +7,7 @@ ghost use Rattle.sqlite.specs.Rows.{sequence};
 ghost use Rattle.sqlite_schema.specs.Names.{same_name};
 ghost use Rattle.store_schema.specs.Ready.{IsOpen, IsReady, is_parent};
 
-use crate::part::{Part, name_of};
+use crate::part::{DeskPart, name_of};
 use crate::recognize::lacks;
 use sqlite_schema::names::same_name;
 use sqlite_schema::schema::{Reference, Schema, Table};
@@ -32,7 +32,7 @@ pub(crate) fn is_parent(schema: &Schema, name: &[u8]) -> bool
         .any(|table| names_parent(table, name))
 }
 
-fn is_open(schema: &Schema, part: Part) -> bool
+fn is_open(schema: &Schema, part: DeskPart) -> bool
     ensures { IsTrue result ↔ IsOpen schema.now part }
 {
     lacks(schema, part) && !is_parent(schema, name_of(part))
@@ -65,11 +65,11 @@ pub(crate) fn lacks_sequence(schema: &Schema) -> bool
 pub fn is_ready(schema: &Schema) -> bool
     ensures { IsTrue result ↔ IsReady schema.now }
 {
-    is_open(schema, Part::Desk)
-        && is_open(schema, Part::Messages)
-        && is_open(schema, Part::Names)
-        && is_open(schema, Part::Verdicts)
-        && is_open(schema, Part::Parked)
-        && is_open(schema, Part::Marks)
+    is_open(schema, DeskPart::Desk)
+        && is_open(schema, DeskPart::Messages)
+        && is_open(schema, DeskPart::Names)
+        && is_open(schema, DeskPart::Verdicts)
+        && is_open(schema, DeskPart::Parked)
+        && is_open(schema, DeskPart::Marks)
         && !lacks_sequence(schema)
 }

@@ -4,7 +4,7 @@ ghost use Rattle.std.specs.Prelude.{◌≡◌, ◌↔◌, ◌==◌, IsTrue};
 ghost use Rattle.std.specs.List.{position_from};
 ghost use Rattle.store_schema.specs.Shapes.{FindsPart, HasCommon, IsShape, IsVacant, Lacks};
 
-use crate::part::{Part, name_of};
+use crate::part::{DeskPart, name_of};
 use crate::shape::Shape;
 use crate::tables::is_part;
 use sqlite_schema::schema::{Schema, Table};
@@ -20,7 +20,7 @@ fn first_at(tables: &[Table], tree: u32) -> Option<usize>
 }
 
 /// Whether the schema finds the table by its name, and by its tree.
-fn has(schema: &Schema, part: Part) -> bool
+fn has(schema: &Schema, part: DeskPart) -> bool
     ensures found { IsTrue result → FindsPart schema.now part }
     ensures only { FindsPart schema.now part → IsTrue result }
 {
@@ -41,7 +41,7 @@ fn has(schema: &Schema, part: Part) -> bool
 }
 
 /// Whether the table's name is unused.
-pub(crate) fn lacks(schema: &Schema, part: Part) -> bool
+pub(crate) fn lacks(schema: &Schema, part: DeskPart) -> bool
     ensures { IsTrue result ↔ Lacks schema.now part }
 {
     let name = name_of(part);
@@ -53,22 +53,22 @@ pub(crate) fn lacks(schema: &Schema, part: Part) -> bool
 fn is_vacant(schema: &Schema) -> bool
     ensures { IsTrue result ↔ IsVacant schema.now }
 {
-    lacks(schema, Part::Desk)
-        && lacks(schema, Part::Messages)
-        && lacks(schema, Part::Names)
-        && lacks(schema, Part::Marks)
-        && lacks(schema, Part::Verdicts)
-        && lacks(schema, Part::Parked)
+    lacks(schema, DeskPart::Desk)
+        && lacks(schema, DeskPart::Messages)
+        && lacks(schema, DeskPart::Names)
+        && lacks(schema, DeskPart::Marks)
+        && lacks(schema, DeskPart::Verdicts)
+        && lacks(schema, DeskPart::Parked)
 }
 
 fn has_common(schema: &Schema) -> bool
     ensures found { IsTrue result → HasCommon schema.now }
     ensures only { HasCommon schema.now → IsTrue result }
 {
-    has(schema, Part::Desk)
-        && has(schema, Part::Messages)
-        && has(schema, Part::Names)
-        && has(schema, Part::Parked)
+    has(schema, DeskPart::Desk)
+        && has(schema, DeskPart::Messages)
+        && has(schema, DeskPart::Names)
+        && has(schema, DeskPart::Parked)
 }
 
 /// Tells what the schema has of a desk's tables, beside any others.
@@ -81,16 +81,16 @@ pub fn shape_of(schema: &Schema) -> Shape
     if !has_common(schema) {
         return Shape::Other;
     }
-    if has(schema, Part::Verdicts) {
-        if lacks(schema, Part::Marks) {
+    if has(schema, DeskPart::Verdicts) {
+        if lacks(schema, DeskPart::Marks) {
             return Shape::Desk;
         }
-        if has(schema, Part::Marks) {
+        if has(schema, DeskPart::Marks) {
             return Shape::Migrated;
         }
         return Shape::Other;
     }
-    if lacks(schema, Part::Verdicts) && has(schema, Part::Marks) {
+    if lacks(schema, DeskPart::Verdicts) && has(schema, DeskPart::Marks) {
         return Shape::Old;
     }
     Shape::Other

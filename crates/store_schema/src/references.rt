@@ -6,7 +6,7 @@ ghost use Rattle.store_tables.specs.Stored.{is_in, is_referred, parent_of, tree_
 ghost use Rattle.store_schema.specs.Parts.{name_of};
 ghost use Rattle.store_schema.specs.References.{AreUnreferred};
 
-use crate::part::{Part, name_of};
+use crate::part::{DeskPart, name_of};
 use sqlite_schema::names::same_name;
 use sqlite_schema::schema::{Reference, Schema, Table};
 
@@ -48,7 +48,7 @@ fn is_referred(schema: &Schema, tree: u32) -> bool
 }
 
 /// The tree of the part's table, where it is there.
-fn tree_of(schema: &Schema, part: Part) -> u32
+fn tree_of(schema: &Schema, part: DeskPart) -> u32
     ensures { result ≡ tree_of schema.now (name_of part) }
 {
     let Some(at) = schema.table_named(name_of(part)) else {
@@ -60,7 +60,7 @@ fn tree_of(schema: &Schema, part: Part) -> u32
     }
 }
 
-pub(crate) fn is_unreferred(schema: &Schema, part: Part) -> bool
+pub(crate) fn is_unreferred(schema: &Schema, part: DeskPart) -> bool
     ensures { IsTrue result ↔ IsUnreferred schema.now (tree_of schema.now (name_of part)) }
 {
     !is_referred(schema, tree_of(schema, part))
@@ -70,8 +70,8 @@ pub(crate) fn is_unreferred(schema: &Schema, part: Part) -> bool
 pub fn are_unreferred(schema: &Schema) -> bool
     ensures { IsTrue result ↔ AreUnreferred schema.now }
 {
-    is_unreferred(schema, Part::Desk)
-        && is_unreferred(schema, Part::Names)
-        && is_unreferred(schema, Part::Verdicts)
-        && is_unreferred(schema, Part::Parked)
+    is_unreferred(schema, DeskPart::Desk)
+        && is_unreferred(schema, DeskPart::Names)
+        && is_unreferred(schema, DeskPart::Verdicts)
+        && is_unreferred(schema, DeskPart::Parked)
 }

@@ -8,7 +8,7 @@ ghost use Rattle.store_schema.specs.private.Bare.{IsBare};
 use crate::columns::{
     are_named_as_marks, are_of_desk, are_of_messages, are_of_names, are_of_parked, are_of_verdicts,
 };
-use crate::part::Part;
+use crate::part::DeskPart;
 use sqlite_items::Items;
 use sqlite_schema::schema::Table;
 use sqlite_value::keys::Order;
@@ -83,18 +83,18 @@ fn has_name(table: &Table, name: &[u8]) -> bool
 }
 
 /// Whether the table is a desk's table of this part, in any tree.
-pub(crate) fn is_part(table: &Table, part: Part) -> bool
+pub(crate) fn is_part(table: &Table, part: DeskPart) -> bool
     ensures { IsTrue result ↔ IsPart part table.now }
 {
     let columns = table.columns.as_slice();
     match part {
-        Part::Desk => is_by_rowid(table, b"desk") && are_of_desk(columns),
-        Part::Messages => is_keyed(table, b"messages", &[1]) && are_of_messages(columns),
-        Part::Names => is_keyed(table, b"names", &[1, 2]) && are_of_names(columns),
-        Part::Marks => has_name(table, b"marks") && are_named_as_marks(columns),
-        Part::Verdicts => {
+        DeskPart::Desk => is_by_rowid(table, b"desk") && are_of_desk(columns),
+        DeskPart::Messages => is_keyed(table, b"messages", &[1]) && are_of_messages(columns),
+        DeskPart::Names => is_keyed(table, b"names", &[1, 2]) && are_of_names(columns),
+        DeskPart::Marks => has_name(table, b"marks") && are_named_as_marks(columns),
+        DeskPart::Verdicts => {
             is_keyed(table, b"verdicts", &[1, 2, 3, 4, 5]) && are_of_verdicts(columns)
         }
-        Part::Parked => is_keyed(table, b"parked", &[1]) && are_of_parked(columns),
+        DeskPart::Parked => is_keyed(table, b"parked", &[1]) && are_of_parked(columns),
     }
 }

@@ -28,37 +28,37 @@ pub enum Call {
 
 /// How a call ended.
 #[derive(Clone, Copy, PartialEq, Eq)]
-pub enum Answer {
+pub enum Ended {
     Done,
     Refused(Refusal),
     /// The database was not opened.
     NotOpened,
 }
 
-impl fmt::Display for Answer {
+impl fmt::Display for Ended {
     fn fmt<W: fmt::Write>(&self, f: &mut fmt::Formatter<W>) -> fmt::Result {
         match self {
-            Answer::Done => f.write_str("ack"),
-            Answer::Refused(refusal) => refusal.fmt(f),
-            Answer::NotOpened => f.write_str("not opened"),
+            Ended::Done => f.write_str("ack"),
+            Ended::Refused(refusal) => refusal.fmt(f),
+            Ended::NotOpened => f.write_str("not opened"),
         }
     }
 }
 
 /// Delivers the body through the relay of the roster.
-pub fn deliver<K: Keeper>(desk: &mut Desk<K>, body: &str) -> Answer {
+pub fn deliver<K: Keeper>(desk: &mut Desk<K>, body: &str) -> Ended {
     match desk.deliver("web", body.as_bytes()) {
-        Ok(_) => Answer::Done,
-        Err(refusal) => Answer::Refused(refusal),
+        Ok(_) => Ended::Done,
+        Err(refusal) => Ended::Refused(refusal),
     }
 }
 
 /// Delivers the bodies in order, each once the one before it was acknowledged, and gives the keeper
 /// up.
-fn delivered<K: Keeper>(mut desk: Desk<K>, bodies: &[&str]) -> (Answer, K) {
-    let mut answer = Answer::Done;
+fn delivered<K: Keeper>(mut desk: Desk<K>, bodies: &[&str]) -> (Ended, K) {
+    let mut answer = Ended::Done;
     for body in bodies {
-        if answer == Answer::Done {
+        if answer == Ended::Done {
             answer = deliver(&mut desk, body);
         }
     }
@@ -71,18 +71,18 @@ fn opened<K: Keeper>(
     parts: (Roster, Policy),
     bodies: &[&str],
     keeper: K,
-) -> (Answer, K) {
+) -> (Ended, K) {
     match Desk::open(alloc, parts.0, parts.1, keeper) {
         Ok(desk) => delivered(desk, bodies),
-        Err((refusal, keeper)) => (Answer::Refused(refusal), keeper),
+        Err((refusal, keeper)) => (Ended::Refused(refusal), keeper),
     }
 }
 
 /// Rebuilds the desk that the keeper keeps.
-fn rebuilt<K: Keeper>(alloc: Global, parts: (Roster, Policy), keeper: K) -> (Answer, K) {
+fn rebuilt<K: Keeper>(alloc: Global, parts: (Roster, Policy), keeper: K) -> (Ended, K) {
     match Desk::rebuild(alloc, parts.0, parts.1, keeper) {
-        Ok(desk) => (Answer::Done, desk.into_keeper()),
-        Err((refusal, keeper)) => (Answer::Refused(refusal), keeper),
+        Ok(desk) => (Ended::Done, desk.into_keeper()),
+        Err((refusal, keeper)) => (Ended::Refused(refusal), keeper),
     }
 }
 
@@ -92,7 +92,7 @@ fn made<K: Keeper>(
     call: Call,
     parts: (Roster, Policy),
     keeper: K,
-) -> (Result<Answer, Trouble>, K) {
+) -> (Result<Ended, Trouble>, K) {
     let (answer, keeper) = match call {
         Call::Open => opened(alloc, parts, &[], keeper),
         Call::Request => opened(alloc, parts, &[REQUEST], keeper),
@@ -104,7 +104,7 @@ fn made<K: Keeper>(
 }
 
 /// Makes the call over what the keeper keeps, and hands the keeper on.
-pub fn make_call<K: Keeper>(alloc: Global, call: Call, keeper: K) -> (Result<Answer, Trouble>, K) {
+pub fn make_call<K: Keeper>(alloc: Global, call: Call, keeper: K) -> (Result<Ended, Trouble>, K) {
     let rules = match call {
         Call::Open | Call::Request | Call::Approval | Call::Both => Rules::Full,
         Call::Rebuild(rules) => rules,

@@ -1,7 +1,7 @@
 //! Two deliveries to one desk, one after the other: the approval, and then the request.
 
 use crate::asking::state_at;
-use crate::calls::{Answer, deliver};
+use crate::calls::{Ended, deliver};
 use crate::states::State;
 use crate::texts::{APPROVAL, REQUEST, Rules, parts};
 use crate::trouble::Trouble;
@@ -14,7 +14,7 @@ use sudo_syntax::Policy;
 /// How a delivery ended, and what the desk answers then.
 #[derive(Clone, Copy, PartialEq, Eq)]
 pub struct Delivered {
-    pub answer: Answer,
+    pub answer: Ended,
     pub then: State,
 }
 
@@ -92,9 +92,9 @@ pub fn make_both<K: Keeper>(
 /// state, or are refused over the storage.
 fn is_delivered(delivered: Delivered, before: State, after: State) -> bool {
     let (is_known, state) = match delivered.answer {
-        Answer::Done => (true, after),
-        Answer::Refused(Refusal::Storage) => (true, before),
-        Answer::Refused(_) | Answer::NotOpened => (false, before),
+        Ended::Done => (true, after),
+        Ended::Refused(Refusal::Storage) => (true, before),
+        Ended::Refused(_) | Ended::NotOpened => (false, before),
     };
     is_known && (delivered.then == state || delivered.then == State::Silent)
 }
@@ -102,7 +102,7 @@ fn is_delivered(delivered: Delivered, before: State, after: State) -> bool {
 /// Whether both deliveries ended as they may.
 pub fn are_delivered(both: Both) -> bool {
     let Both { approval, request } = both;
-    let is_second_right = if approval.answer == Answer::Done {
+    let is_second_right = if approval.answer == Ended::Done {
         is_delivered(request, State::Parked, State::Granted)
     } else {
         is_delivered(request, State::Fresh, State::Waiting)
@@ -113,9 +113,9 @@ pub fn are_delivered(both: Both) -> bool {
 /// Whether both were acknowledged, and each question after each was answered.
 pub fn are_well(both: Both) -> bool {
     let Both { approval, request } = both;
-    approval.answer == Answer::Done
+    approval.answer == Ended::Done
         && approval.then == State::Parked
-        && request.answer == Answer::Done
+        && request.answer == Ended::Done
         && request.then == State::Granted
 }
 
@@ -123,7 +123,7 @@ pub fn are_well(both: Both) -> bool {
 /// acknowledged is there. What was refused is missing where the desk went on to answer; otherwise
 /// it may be there.
 fn may_be(delivered: Delivered, is_there: bool) -> bool {
-    if delivered.answer == Answer::Done {
+    if delivered.answer == Ended::Done {
         is_there
     } else {
         !is_there || delivered.then == State::Silent

@@ -1,6 +1,6 @@
 //! What is found in a keeper, and what the same call comes to there.
 
-use crate::calls::{Answer, Call, kept_at, make_call};
+use crate::calls::{Call, Ended, kept_at, make_call};
 use crate::states::State;
 use crate::trouble::Trouble;
 use desk::Keeper;
@@ -10,7 +10,7 @@ use std::alloc::Global;
 #[derive(Clone, Copy, PartialEq, Eq)]
 pub struct Seen {
     pub found: State,
-    pub again: Answer,
+    pub again: Ended,
     pub then: State,
 }
 

@@ -5,7 +5,7 @@ use desk_store::{FailingKeeper, SqliteKeeper};
 use sqlite::Alter;
 use std::alloc::Global;
 use std::fmt::Write as _;
-use trial::calls::{Answer, Call};
+use trial::calls::{Call, Ended};
 use trial::deliveries::{Both, are_delivered, are_well, make_both};
 use trial::files::{empty, opened_whole};
 use trial::seeing::{Seen, seen_over};
@@ -46,9 +46,9 @@ fn is_kept(made: Result<Both, Refusal>, kept: State) -> bool {
         Ok(both) => {
             are_delivered(both)
                 && kept
-                    == if both.request.answer == Answer::Done {
+                    == if both.request.answer == Ended::Done {
                         State::Granted
-                    } else if both.approval.answer == Answer::Done {
+                    } else if both.approval.answer == Ended::Done {
                         State::Parked
                     } else {
                         State::Fresh
@@ -71,7 +71,7 @@ fn is_right(outcome: Outcome) -> bool {
     let kept = outcome.kept;
     is_kept(outcome.made, kept.found)
         && is_well(outcome)
-        && kept.again == Answer::Done
+        && kept.again == Ended::Done
         && kept.then == State::Granted
 }
 

@@ -10,7 +10,7 @@ use sudo_syntax::Policy;
 use trial::asking::{
     ask_file_after, ask_holdings, ask_live, ask_status, ask_summaries, ask_texts, say_all,
 };
-use trial::calls::{Answer, Call, make_call};
+use trial::calls::{Call, Ended, make_call};
 use trial::files::{empty, opened_whole};
 use trial::seeing::seen_over;
 use trial::states::State;
@@ -298,9 +298,9 @@ pub(crate) fn say_restarts(alloc: Global, said: &mut String) -> Result<(), Troub
 pub(crate) fn say_rebuilding(alloc: Global, said: &mut String) -> Result<(), Trouble> {
     let (filled, keeper) = make_call(alloc, Call::Both, MemoryKeeper::new(alloc));
     let seen = seen_over(alloc, keeper, Call::Rebuild(Rules::Short))?;
-    let is_right = filled? == Answer::Done
+    let is_right = filled? == Ended::Done
         && seen.found == State::Granted
-        && seen.again == Answer::Done
+        && seen.again == Ended::Done
         && seen.then == State::Lapsed;
     let mark = if is_right { "" } else { "; OTHERWISE" };
     write!(

@@ -4,7 +4,7 @@ use desk::{Desk, MemoryKeeper};
 use std::alloc::Global;
 use std::fmt::Write as _;
 use trial::asking::{ask_rules, ask_status};
-use trial::calls::{Answer, deliver};
+use trial::calls::{Ended, deliver};
 use trial::texts::{REQUEST, Rules, parts};
 use trial::trouble::Trouble;
 
@@ -39,8 +39,8 @@ fn verdict(alloc: Global, row: &str) -> Result<String, Trouble> {
 /// Delivers a message that is to be acknowledged.
 fn deliver_well(desk: &mut Desk<MemoryKeeper>, body: &str) -> Result<(), Trouble> {
     match deliver(desk, body) {
-        Answer::Done => Ok(()),
-        Answer::Refused(_) | Answer::NotOpened => Err(Trouble::Refused),
+        Ended::Done => Ok(()),
+        Ended::Refused(_) | Ended::NotOpened => Err(Trouble::Refused),
     }
 }
 

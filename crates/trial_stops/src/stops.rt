@@ -8,7 +8,7 @@ use sqlite_disk::{Disk, Files};
 use sqlite_store::FileStore;
 use std::alloc::Global;
 use std::fmt::Write as _;
-use trial::calls::{Answer, Call, make_call};
+use trial::calls::{Call, Ended, make_call};
 use trial::deliveries::{Both, are_delivered, are_well, make_both, may_be_found};
 use trial::files::{Fused, Fuses, Pair, Stopping, WHOLE, are_same, opened, opened_whole};
 use trial::seeing::{Seen, seen_over};
@@ -41,7 +41,7 @@ enum Side {
 #[derive(Clone, Copy, PartialEq, Eq)]
 enum Made {
     /// One call, or the opening before it.
-    Called(Answer),
+    Called(Ended),
     /// Two deliveries to one desk.
     Delivered(Both),
 }
@@ -128,7 +128,7 @@ fn both_over<S: Alter>(
     let (both, keeper) = make_both(alloc, keeper);
     let made = match both {
         Ok(Ok(both)) => Ok(Made::Delivered(both)),
-        Ok(Err(refusal)) => Ok(Made::Called(Answer::Refused(refusal))),
+        Ok(Err(refusal)) => Ok(Made::Called(Ended::Refused(refusal))),
         Err(trouble) => Err(trouble),
     };
     (made, keeper)
@@ -177,7 +177,7 @@ fn call_over(alloc: Global, keeper: Stopping, call: Call) -> Result<Stop, Troubl
 fn stopped(alloc: Global, start: &Pair, call: Call, fuses: Fuses) -> Result<Stop, Trouble> {
     match opened(alloc, start, fuses)? {
         Ok(keeper) => call_over(alloc, keeper, call),
-        Err(files) => stop_of(alloc, Made::Called(Answer::NotOpened), files),
+        Err(files) => stop_of(alloc, Made::Called(Ended::NotOpened), files),
     }
 }
 
@@ -198,7 +198,7 @@ fn seen_in(alloc: Global, left: &Pair, call: Call) -> Result<Seen, Trouble> {
             drop(files);
             Ok(Seen {
                 found: State::Other,
-                again: Answer::NotOpened,
+                again: Ended::NotOpened,
                 then: State::Other,
             })
         }
@@ -281,12 +281,12 @@ fn add_stops(
 /// before it or after its first commit; after two deliveries one that goes with their answers.
 fn may_find(made: Made, found: State, case: Case) -> bool {
     match made {
-        Made::Called(Answer::Done) => found == case.second,
-        Made::Called(Answer::NotOpened) => found == case.first,
-        Made::Called(Answer::Refused(Refusal::Storage)) => {
+        Made::Called(Ended::Done) => found == case.second,
+        Made::Called(Ended::NotOpened) => found == case.first,
+        Made::Called(Ended::Refused(Refusal::Storage)) => {
             found == case.first || found == case.committed
         }
-        Made::Called(Answer::Refused(_)) => false,
+        Made::Called(Ended::Refused(_)) => false,
         Made::Delivered(both) => may_be_found(both, found),
     }
 }
@@ -294,13 +294,13 @@ fn may_find(made: Made, found: State, case: Case) -> bool {
 /// Whether what was found may be found, and the same call once more is acknowledged and leads to
 /// the second state.
 fn is_seen_right(made: Made, seen: Seen, case: Case) -> bool {
-    may_find(made, seen.found, case) && seen.again == Answer::Done && seen.then == case.second
+    may_find(made, seen.found, case) && seen.again == Ended::Done && seen.then == case.second
 }
 
 /// Whether the call ended as it may. Where it ended untouched, it must end as without a fuse.
 fn is_made_right(made: Made, is_whole: bool) -> bool {
     match made {
-        Made::Called(answer) => !is_whole || answer == Answer::Done,
+        Made::Called(answer) => !is_whole || answer == Ended::Done,
         Made::Delivered(both) => are_delivered(both) && (!is_whole || are_well(both)),
     }
 }
@@ -412,7 +412,7 @@ pub(crate) fn say_stops(
 ) -> Result<(), Trouble> {
     let seen = seen_in(alloc, start, case.call)?;
     let is_right = seen.found == case.first
-        && seen.again == Answer::Done
+        && seen.again == Ended::Done
         && seen.then == case.second;
     let mark = if is_right { "" } else { "; OTHERWISE" };
     write!(
@@ -429,7 +429,7 @@ pub(crate) fn after(alloc: Global, start: &Pair, call: Call) -> Result<Pair, Tro
     let (answer, keeper) = make_call(alloc, call, opened_whole(alloc, start)?);
     let left = closed_at(alloc, keeper);
     match (answer, left) {
-        (Ok(Answer::Done), left) => left,
+        (Ok(Ended::Done), left) => left,
         (_, left) => {
             drop(left);
             Err(Trouble::Refused)

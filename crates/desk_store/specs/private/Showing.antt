@@ -1,9 +1,9 @@
 -- What a keeper tells of what a database is found to keep.
 use Rattle.std.specs.Prelude.{◌≡◌, IfSome}
 use Rattle.outcomes.specs.Gathered.{AreGathered}
-use Rattle.store_opening.specs.declared.found.Contents.{Contents}
-use Rattle.store_opening.specs.declared.found.Found.{Found as InDatabase}
-use Rattle.store_opening.specs.declared.found.Found.TheVariants as database
+use Rattle.store_opening.specs.declared.in_database.Contents.{Contents}
+use Rattle.store_opening.specs.declared.in_database.InDatabase.{InDatabase}
+use Rattle.store_opening.specs.declared.in_database.InDatabase.TheVariants as database
 use Rattle.desk_store.specs.declared.found.Found.{Found}
 use Rattle.desk_store.specs.declared.found.Found.TheVariants as found
 use Rattle.desk_store.specs.declared.found.FoundDesk.{FoundDesk}

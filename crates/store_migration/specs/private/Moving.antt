@@ -9,8 +9,8 @@ use Rattle.messages.specs.declared.message.Message.{Message}
 use Rattle.store_tables.specs.Kept.{HoldsText, IsForeign, IsTidy, table_in}
 use Rattle.store_tables.specs.Sets.{Lists}
 use Rattle.store_tables.specs.Stored.{tree_of}
-use Rattle.store_schema.specs.declared.part.Part.{Part}
-use Rattle.store_schema.specs.declared.part.Part.TheVariants.{Desk, Names, Marks, Parked}
+use Rattle.store_schema.specs.declared.part.DeskPart.{DeskPart}
+use Rattle.store_schema.specs.declared.part.DeskPart.TheVariants.{Desk, Names, Marks, Parked}
 use Rattle.store_schema.specs.Migratable.{IsMigratable}
 use Rattle.store_schema.specs.Parts.{name_of}
 use Rattle.store_schema.specs.Shapes.{HasEmptyMarks, IsOld}
@@ -18,7 +18,7 @@ use Rattle.store_opening.specs.Opened.{IsOldDesk}
 use Rattle.store_migration.specs.Migrated.{GainsVerdicts, IsBeside, KeepsOthers, Migrates}
 
 -- These parts' tables have no row, and each other table keeps its own.
-pub record Empties (done : List Part) (old new : Database) : Type 0 where
+pub record Empties (done : List DeskPart) (old new : Database) : Type 0 where
   pub schema : new.schema ≡ old.schema
   pub empty : AllByRecursion (λ part. table_in new (name_of part) ≡ []) done
   pub others : (t : Table) → Has old.schema.tables t

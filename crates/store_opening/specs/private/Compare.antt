@@ -12,9 +12,9 @@ use Rattle.messages.specs.Fields.{VerdictFields}
 use Rattle.messages.specs.Wire.{wire, kind_text}
 use Rattle.messages.specs.declared.message.Message.{Message}
 use Rattle.messages.specs.declared.message.Message.TheVariants.{Request, Verdict}
-use Rattle.store_schema.specs.declared.part.Part.{Part}
-use Rattle.store_schema.specs.declared.part.Part.TheVariants.{Desk, Messages, Names}
-use Rattle.store_schema.specs.declared.part.Part.TheVariants.{Marks, Verdicts, Parked}
+use Rattle.store_schema.specs.declared.part.DeskPart.{DeskPart}
+use Rattle.store_schema.specs.declared.part.DeskPart.TheVariants.{Desk, Messages, Names}
+use Rattle.store_schema.specs.declared.part.DeskPart.TheVariants.{Marks, Verdicts, Parked}
 pub use Rattle.store_opening.specs.Opened.{is_number}
 
 -- ---- values
@@ -147,7 +147,7 @@ has_parked_row messages parked m = not (waits messages m) || list_any (λ r. sho
 -- ---- tables beside messages
 
 -- the rows of the table are those that follow from the messages
-abbrev pub are_rows_of : Part → List Message → List Row → Bool
+abbrev pub are_rows_of : DeskPart → List Message → List Row → Bool
 are_rows_of Desk messages rows = true
 are_rows_of Messages messages rows = true
 are_rows_of Names messages rows =
@@ -160,7 +160,7 @@ are_rows_of Parked messages rows =
     list_all (is_parked_row messages) rows && list_all (has_parked_row messages rows) messages
 
 -- the same, and each row has a rowid of its own
-abbrev pub is_kept : Part → List Message → List Row → Bool
+abbrev pub is_kept : DeskPart → List Message → List Row → Bool
 is_kept part messages rows = are_rows_of part messages rows && list_all (is_keyed rows) rows
 
 -- the same for the three tables that follow from the messages

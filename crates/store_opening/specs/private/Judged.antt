@@ -3,7 +3,7 @@ use Rattle.std.specs.Prelude.{◌≡◌, ◌⊎◌, true, Bool, ℕ, List, Optio
 use Rattle.std.specs.Prelude.{Some, None, Contains, IsUtf8, string_bytes}
 use Rattle.sqlite.specs.Order.{Row}
 use Rattle.messages.specs.declared.message.Message.{Message}
-use Rattle.store_opening.specs.declared.found.Contents.{Contents}
+use Rattle.store_opening.specs.declared.in_database.Contents.{Contents}
 use Rattle.store_opening.specs.private.Reading.{AreBodies, AreHeld, HasForeign, shown_mark}
 
 -- the rows of `desk` and of `messages` show the roster's text and the messages, and nothing else

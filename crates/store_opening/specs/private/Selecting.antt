@@ -4,13 +4,13 @@ use Rattle.std.specs.List.Sorted.{IsPermutation}
 use Rattle.sqlite.specs.Order.{Row, column}
 use Rattle.sqlite.specs.Effect.{Database}
 use Rattle.store_tables.specs.Kept.{table_in}
-use Rattle.store_schema.specs.declared.part.Part.{Part}
-use Rattle.store_schema.specs.declared.part.Part.TheVariants.{Desk, Messages, Names}
-use Rattle.store_schema.specs.declared.part.Part.TheVariants.{Marks, Verdicts, Parked}
+use Rattle.store_schema.specs.declared.part.DeskPart.{DeskPart}
+use Rattle.store_schema.specs.declared.part.DeskPart.TheVariants.{Desk, Messages, Names}
+use Rattle.store_schema.specs.declared.part.DeskPart.TheVariants.{Marks, Verdicts, Parked}
 use Rattle.store_schema.specs.Parts.{name_of}
 
 -- the columns of a row that the statement shows
-abbrev pub shown_of : Part → Row → Row
+abbrev pub shown_of : DeskPart → Row → Row
 shown_of Desk r = column r 0 ∷ column r 2 ∷ column r 3 ∷ []
 shown_of Messages r = column r 1 ∷ []
 shown_of Names r = column r 0 ∷ column r 1 ∷ column r 2 ∷ column r 3 ∷ column r 4 ∷ []
@@ -20,7 +20,7 @@ shown_of Verdicts r =
 shown_of Parked r = column r 0 ∷ column r 1 ∷ column r 2 ∷ column r 3 ∷ []
 
 -- the rows show those of the part's table, in some order
-abbrev pub ShowsPart : Part → Database → List Row → Type 0
+abbrev pub ShowsPart : DeskPart → Database → List Row → Type 0
 ShowsPart part db rows = IsPermutation (map (shown_of part) (table_in db (name_of part))) rows
 
 -- the same for the two tables that hold what was given

@@ -10,9 +10,9 @@ use Rattle.sqlite.specs.State.{State}
 use Rattle.sqlite.specs.Effect.{Database}
 use Rattle.sqlite_schema.specs.Names.{same_name}
 use Rattle.store_tables.specs.Stored.{IsUnreferred}
-use Rattle.store_schema.specs.declared.part.Part.{Part}
-use Rattle.store_schema.specs.declared.part.Part.TheVariants.{Desk, Messages, Names}
-use Rattle.store_schema.specs.declared.part.Part.TheVariants.{Marks, Verdicts, Parked}
+use Rattle.store_schema.specs.declared.part.DeskPart.{DeskPart}
+use Rattle.store_schema.specs.declared.part.DeskPart.TheVariants.{Desk, Messages, Names}
+use Rattle.store_schema.specs.declared.part.DeskPart.TheVariants.{Marks, Verdicts, Parked}
 use Rattle.store_schema.specs.Beside.{KeepsBeside}
 use Rattle.store_schema.specs.Founding.{Founds}
 use Rattle.store_schema.specs.Shapes.{FindsPart}
@@ -20,7 +20,7 @@ use Rattle.store_schema.specs.Parts.{name_of, table_at}
 use Rattle.store_schema.specs.Ready.{IsOpen, IsReady}
 
 -- the statement that makes the table
-abbrev pub text_of : Part → List ℕ
+abbrev pub text_of : DeskPart → List ℕ
 text_of Desk =
     codes "CREATE TABLE desk (id INTEGER PRIMARY KEY, schema INTEGER NOT NULL, roster TEXT NOT NULL) STRICT"
 text_of Messages = codes "CREATE TABLE messages (body TEXT PRIMARY KEY NOT NULL) STRICT"
@@ -34,13 +34,13 @@ text_of Parked =
     codes "CREATE TABLE parked (body TEXT PRIMARY KEY NOT NULL, asker TEXT NOT NULL, no INTEGER NOT NULL) STRICT"
 
 -- the part's table is there, and has no row, and no foreign key refers to it
-pub record HasEmpty (db : Database) (part : Part) : Type 0 where
+pub record HasEmpty (db : Database) (part : DeskPart) : Type 0 where
   pub found : FindsPart db.schema part
   pub empty : db.trees found.table.tree ≡ []
   pub alone : IsUnreferred db.schema found.table.tree
 
 -- the first parts were made, the rest is still open; the tables that were there keep their rows
-pub record Grows (made rest : List Part) (old new : Database) : Type 0 where
+pub record Grows (made rest : List DeskPart) (old new : Database) : Type 0 where
   pub has : AllByRecursion (HasEmpty new) made
   pub open' : AllByRecursion (IsOpen new.schema) rest
   pub counted : lacks_sequence new.schema ≡ false
@@ -64,7 +64,7 @@ pub record Filled (roster : List ℕ) (old new : State) : Type 0 where
   pub beside : IsReady old.now.schema → KeepsBeside old.now new.now
 
 -- the name of the other part is not that of this one, nor of an index that SQLite makes for it
-pub record Differs (part other : Part) : Type 0 where
+pub record Differs (part other : DeskPart) : Type 0 where
   pub table : same_name (name_of part) (name_of other) ≡ false
   pub index : (tree k : ℕ) → position_from (λ i. same_name i.name (name_of other)) k
       (automatics (table_at part tree) 0 (tree + 1) (table_at part tree).uniques) ≡ None

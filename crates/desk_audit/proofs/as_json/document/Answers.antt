@@ -3,7 +3,7 @@ use Rattle.std.specs.Prelude.{filter}
 use Rattle.roster.specs.Fields.{Reading}
 use Rattle.findings.specs.Document.{IsDocument}
 use Rattle.findings.specs.Picks.{is_told}
-use Rattle.findings.specs.declared.entry.Entry.{Entry}
+use Rattle.findings.specs.declared.entry.AuditEntry.{AuditEntry}
 use Rattle.desk_audit.proofs.as_json.document.Goals as goal
 
 pub returns-clause-document : goal.returns-clause-document
@@ -18,5 +18,5 @@ returns-clause-document g c = λ set up lists.
       entries = entries;
       audit = answer.audit set up lists;
       document = subst (λ (r : Reading). IsDocument r.says pick (filter (is_told pick) entries) text) roster
-          (subst (λ (es : List Entry). IsDocument c.roster.result.now.says pick es text) told c.in_ok-json.ensures);
+          (subst (λ (es : List AuditEntry). IsDocument c.roster.result.now.says pick es text) told c.in_ok-json.ensures);
     }

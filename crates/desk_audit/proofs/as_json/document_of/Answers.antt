@@ -2,7 +2,7 @@ use Rattle.std.proofs.Common.{◌∙◌, List, subst, string_bytes}
 use Rattle.roster.specs.Fields.{Reading}
 use Rattle.findings.specs.Document.{IsDocument}
 use Rattle.findings.specs.Picks.{all}
-use Rattle.findings.specs.declared.entry.Entry.{Entry}
+use Rattle.findings.specs.declared.entry.AuditEntry.{AuditEntry}
 use Rattle.findings.specs.declared.pick.Pick.{Pick}
 use Rattle.desk_audit.proofs.as_json.document_of.Goals as goal
 
@@ -17,5 +17,5 @@ returns-clause-document g c = λ set up lists.
       of_name = answer.of_name set up lists;
       document = subst (λ (r : Reading). IsDocument r.says all entries text) roster
           (subst (λ (p : Pick). IsDocument c.roster.result.now.says p entries text) c.all.ensures
-          (subst (λ (es : List Entry). IsDocument c.roster.result.now.says c.all.result es text) c.deref.ensures.value c.in_ok-json.ensures));
+          (subst (λ (es : List AuditEntry). IsDocument c.roster.result.now.says c.all.result es text) c.deref.ensures.value c.in_ok-json.ensures));
     }

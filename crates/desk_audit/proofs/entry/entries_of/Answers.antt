@@ -5,7 +5,7 @@ use Rattle.roster.specs.Fields.{Reading}
 use Rattle.desk_store.proofs.OutcomeLemmas.{ok_no_err}
 use Rattle.desk_store.proofs.ServingLemmas.{served_as, served_at_ok, served_by_none, served_then}
 use Rattle.outcomes.specs.Outcomes.{ComesTo}
-use Rattle.findings.specs.declared.entry.Entry.{Entry}
+use Rattle.findings.specs.declared.entry.AuditEntry.{AuditEntry}
 use Rattle.desk.proofs.LeftLemmas.{asks_want}
 use Rattle.desk_audit.proofs.AuditLemmas.{adds_both, are_entries, keyed, keyed_is, lists_same, one_status_more, split_ends, split_once_more}
 use Rattle.desk_audit.proofs.entry.entries_of.Goals as goal
@@ -13,11 +13,11 @@ use Rattle.desk_audit.proofs.entry.entries_of.Goals as goal
 pub loop-name-init : goal.loop-name-init
 loop-name-init g c =
     let old = c.args.desk.now in
-    let P : List Entry → Type 0 = λ es. map keyed es ++ c.into_iter-name-iterator.result ≡ c.args.all.entries in
+    let P : List AuditEntry → Type 0 = λ es. map keyed es ++ c.into_iter-name-iterator.result ≡ c.args.all.entries in
     record {
       split = subst P (sym c.new-entries.ensures.items) c.into_iter-name-iterator.ensures.into_iter_gives.0;
       told = λ set up is_desk lists.
-          let Q : List Entry → Type 0 = λ es. AllByRecursion (λ e. ComesTo old.roster.says set e.name e.status) es in
+          let Q : List AuditEntry → Type 0 = λ es. AllByRecursion (λ e. ComesTo old.roster.says set e.name e.status) es in
           subst Q (sym c.new-entries.ensures.items) tt;
       same = λ up. g.met.K.Keeper.same_itself old.keeper;
       live = λ live. live;
@@ -45,7 +45,7 @@ loop-name-preserved g c =
           let was_up = done.served.was_up up in
           let same = kept.same was_up in
           let still = lists_same (K.holds old.keeper) (K.holds mid.keeper) set (law.stays_set old.keeper mid.keeper same first_desk) lists in
-          let P : Entry → Type 0 = λ e. ComesTo old.roster.says set e.name e.status in
+          let P : AuditEntry → Type 0 = λ e. ComesTo old.roster.says set e.name e.status in
           let F : Reading → Type 0 = λ r. ComesTo r.says set entry.name entry.status in
           one_status_more P entries c.push.new.self.items entry c.in_ok-push.ensures.items (kept.told set was_up first_desk lists)
           (subst F kept.roster (subst (λ (n : RequestName). ComesTo mid.roster.says set n entry.status) (sym done.same.0) (done.status set up still)));

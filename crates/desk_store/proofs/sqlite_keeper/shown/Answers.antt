@@ -1,5 +1,5 @@
 use Rattle.std.proofs.Common.{refl, subst, sym}
-use Rattle.store_opening.specs.declared.found.Found.{Found as InDatabase}
+use Rattle.store_opening.specs.declared.in_database.InDatabase.{InDatabase}
 use Rattle.desk_store.specs.declared.found.Found.TheVariants as found
 use Rattle.desk_store.specs.private.Showing.{IsShown}
 use Rattle.desk_store.proofs.sqlite_keeper.shown.Goals as goal

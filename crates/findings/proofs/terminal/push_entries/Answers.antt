@@ -1,7 +1,7 @@
 use Rattle.std.proofs.Common.{◌≡◌, ◌+◌, List, ℕ, true, false, drop, string_bytes, subst, sym, ap, ◌∙◌}
 use Rattle.std.proofs.lemmas.List.{drop_all}
 use Rattle.findings.specs.Terminal.{AreEntryLines, is_under, those_under}
-use Rattle.findings.specs.declared.entry.Entry.{Entry}
+use Rattle.findings.specs.declared.entry.AuditEntry.{AuditEntry}
 use Rattle.findings.proofs.LineLemmas.{AddsMore, adds_all, adds_more, adds_same, filter_has, filter_lacks}
 use Rattle.findings.proofs.terminal.push_entries.Goals as goal
 use Rattle.findings.proofs.terminal.push_entries.Goals.{then-is_under+in_ok-push_entry, else-is_under}
@@ -9,7 +9,7 @@ use Rattle.findings.proofs.terminal.push_entries.Goals.{then-is_under+in_ok-push
 pub loop-entry-preserved : goal.loop-entry-preserved
 loop-entry-preserved c =
     let l = c.loop-entry in
-    let IsText : Entry → List ℕ → Type 0 = AreEntryLines c.args.roster.now.says c.args.until.now in
+    let IsText : AuditEntry → List ℕ → Type 0 = AreEntryLines c.args.roster.now.says c.args.until.now in
     let es = c.args.entries.now in
     let b = c.args.is_asked in
     let x = c.entry-item.result in
@@ -34,8 +34,8 @@ loop-entry-preserved c =
 pub returns : goal.returns
 returns c =
     let l = c.loop-entry in
-    let IsText : Entry → List ℕ → Type 0 = AreEntryLines c.args.roster.now.says c.args.until.now in
+    let IsText : AuditEntry → List ℕ → Type 0 = AreEntryLines c.args.roster.now.says c.args.until.now in
     let es = c.args.entries.now in
     adds_all IsText (those_under c.args.is_asked es) (those_under c.args.is_asked (drop l.entry-index es))
     (string_bytes c.args.out.now) (string_bytes l.out) l.invariant
-    (ap (λ (ys : List Entry). those_under c.args.is_asked ys) (drop_all l.entry-index es c.loop-entry-test.false))
+    (ap (λ (ys : List AuditEntry). those_under c.args.is_asked ys) (drop_all l.entry-index es c.loop-entry-test.false))

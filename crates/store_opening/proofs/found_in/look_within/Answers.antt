@@ -4,7 +4,7 @@ use Rattle.store_opening.specs.private.Compare.{are_kept}
 use Rattle.store_opening.specs.private.Judged.{ShowsContents}
 use Rattle.sqlite.specs.Held.{state}
 use Rattle.sqlite.specs.Effect.{Database}
-use Rattle.store_schema.specs.declared.part.Part.TheVariants as part
+use Rattle.store_schema.specs.declared.part.DeskPart.TheVariants as part
 use Rattle.store_schema.specs.Shapes.{FindsPart, HasCommon}
 use Rattle.store_opening.specs.private.Selecting.{ShowsRows}
 use Rattle.store_opening.proofs.OpenedLemmas.{damaged_in, desk_in, other_in}

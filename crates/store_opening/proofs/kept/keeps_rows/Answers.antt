@@ -1,6 +1,6 @@
 use Rattle.std.proofs.Common.{◌&&◌, ◌∙◌, List, ap}
 use Rattle.sqlite.specs.Effect.{Database}
-use Rattle.store_schema.specs.declared.part.Part.TheVariants as part
+use Rattle.store_schema.specs.declared.part.DeskPart.TheVariants as part
 use Rattle.store_schema.specs.Shapes.{FindsPart}
 use Rattle.messages.specs.declared.message.Message.{Message}
 use Rattle.store_opening.specs.private.Compare as compare

@@ -1,5 +1,5 @@
 use Rattle.sqlite.specs.Effect.{Database}
-use Rattle.store_schema.specs.declared.part.Part.TheVariants as part
+use Rattle.store_schema.specs.declared.part.DeskPart.TheVariants as part
 use Rattle.store_schema.specs.Shapes.{FindsPart}
 use Rattle.store_opening.specs.private.Selecting.{ShowsPart}
 use Rattle.store_opening.proofs.ReadLemmas.{before, still, then_reads}

@@ -13,7 +13,7 @@ pub struct Contents {
 
 /// What a database keeps.
 #[derive(Debug, Drop)]
-pub enum Found {
+pub enum InDatabase {
     /// No part of a desk.
     Empty,
     /// A desk.
