@@ -17,7 +17,9 @@ use Rattle.messages.specs.Wire.{wire}
 use Rattle.messages.specs.declared.message.Message.{Message}
 use Rattle.messages.specs.declared.message.Message.TheVariants.{Request, Verdict}
 use Rattle.store_opening.specs.private.Compare.{asks, is_disputed, is_named, is_other}
-use Rattle.store_opening.specs.private.Names.{AreAsked, Asked, IsFrom, IsIndex, IsTold, Name, asked_cmp, differs, has_name, is_at}
+use Rattle.store_opening.specs.declared.names.Asked.{Asked}
+use Rattle.store_opening.specs.declared.names.NameKey.{NameKey}
+use Rattle.store_opening.specs.private.Names.{AreAsked, IsFrom, IsIndex, IsTold, asked_cmp, differs, has_name, is_at, name_of}
 use Rattle.store_opening.proofs.NameLemmas.{asked_rising, is_the_name, one_text, same_name, two_texts}
 
 -- ---- one message more
@@ -99,32 +101,32 @@ both_or_none false false to from = refl
 module _ (ms : List Message) (xs : List Asked) (are : AreAsked ms xs) where
   -- ---- a name with a request
 
-  told_by : (asker : List ℕ) (number : ℕ) → list_any (is_at asker (pos number)) (map (λ (a : Asked). a.0) xs) ≡ true → asks ms asker number ≡ true
+  told_by : (asker : List ℕ) (number : ℕ) → list_any (is_at asker (pos number)) (map name_of xs) ≡ true → asks ms asker number ≡ true
   told_by asker number some =
-      let n = some_has (is_at asker (pos number)) (map (λ (a : Asked). a.0) xs) some in
-      let a = has_mapped (λ (b : Asked). b.0) xs n.0 n.1 in
+      let n = some_has (is_at asker (pos number)) (map name_of xs) some in
+      let a = has_mapped name_of xs n.0 n.1 in
       let q = are.each a.0 (contains_had xs a.0 a.1) in
       let name = same_name asker (pos number) n.0 n.2 in
-      let by : q.0.by ≡ asker = sym q.2.by ∙ ap (λ (m : Name). m.0.now) (sym a.2) ∙ name.0 in
-      let number_is : q.0.no ≡ number = one_number _ _ (sym q.2.number ∙ ap (λ (m : Name). m.1) (sym a.2) ∙ name.1) in
+      let by : q.0.by ≡ asker = sym q.2.by ∙ ap (λ (m : NameKey). m.by.now) (sym a.2) ∙ name.0 in
+      let number_is : q.0.no ≡ number = one_number _ _ (sym q.2.number ∙ ap (λ (m : NameKey). m.number) (sym a.2) ∙ name.1) in
       some_from (is_named asker number) ms (Request q.0) (has_contained ms (Request q.0) q.1)
       (and_from _ _ ((bytes_eq-Decides q.0.by asker).1 by) ((Decides-eqb q.0.no number).1 number_is))
 
   named_there : (asker : List ℕ) (number : ℕ) (m : Message) → Has ms m → is_named asker number m ≡ true
-      → list_any (is_at asker (pos number)) (map (λ (a : Asked). a.0) xs) ≡ true
+      → list_any (is_at asker (pos number)) (map name_of xs) ≡ true
   named_there asker number (Verdict v) there is = absurd (true≢false (sym is))
   named_there asker number (Request q) there is =
       let both = and_parts _ _ is in
       let a = are.all q (contains_had ms (Request q) there) in
-      some_from (is_at asker (pos number)) (map (λ (b : Asked). b.0) xs) a.0.0 (mapped_has (λ (b : Asked). b.0) xs a.0 (has_contained xs a.0 a.1))
-      (is_the_name asker (pos number) a.0.0 (a.2.by ∙ (bytes_eq-Decides q.by asker).0 both.0) (a.2.number ∙ ap pos ((Decides-eqb q.no number).0 both.1)))
+      some_from (is_at asker (pos number)) (map name_of xs) a.0.name (mapped_has name_of xs a.0 (has_contained xs a.0 a.1))
+      (is_the_name asker (pos number) a.0.name (a.2.by ∙ (bytes_eq-Decides q.by asker).0 both.0) (a.2.number ∙ ap pos ((Decides-eqb q.no number).0 both.1)))
 
-  asked_there : (asker : List ℕ) (number : ℕ) → list_any (is_at asker (pos number)) (map (λ (a : Asked). a.0) xs) ≡ asks ms asker number
+  asked_there : (asker : List ℕ) (number : ℕ) → list_any (is_at asker (pos number)) (map name_of xs) ≡ asks ms asker number
   asked_there asker number =
-      both_or_none (list_any (is_at asker (pos number)) (map (λ (a : Asked). a.0) xs)) (asks ms asker number) (told_by asker number)
+      both_or_none (list_any (is_at asker (pos number)) (map name_of xs)) (asks ms asker number) (told_by asker number)
       (λ some. let it = some_has (is_named asker number) ms some in named_there asker number it.0 it.1 it.2)
 
-  pub asks_by : (names : List Name) → IsPermutation (map (λ (a : Asked). a.0) xs) names
+  pub asks_by : (names : List NameKey) → IsPermutation (map name_of xs) names
       → (asker : List ℕ) (number : ℕ) → list_any (is_at asker (pos number)) names ≡ asks ms asker number
   asks_by names same asker number = sym (list_any-IsPermutation (is_at asker (pos number)) _ names same) ∙ asked_there asker number
 
@@ -132,7 +134,7 @@ module _ (ms : List Message) (xs : List Asked) (are : AreAsked ms xs) where
 
   module _ (sorted : IsSorted asked_cmp xs) (q : RequestFields) (here : Contains ms (Request q)) where
     of_name : (p : RequestFields) (a : Asked) → IsFrom p a → p.by ≡ q.by → p.no ≡ q.no → has_name q.by (pos q.no) a ≡ true
-    of_name p a from by number = is_the_name q.by (pos q.no) a.0 (from.by ∙ by) (from.number ∙ ap pos number)
+    of_name p a from by number = is_the_name q.by (pos q.no) a.name (from.by ∙ by) (from.number ∙ ap pos number)
 
     own : (a : Asked) × Contains xs a × IsFrom q a
     own = are.all q here
@@ -149,8 +151,8 @@ module _ (ms : List Message) (xs : List Asked) (are : AreAsked ms xs) where
         let two = two_texts q.by (pos q.no) xs some in
         let a = are.each two.p (contains_had xs two.p two.here) in
         let b = are.each two.q (contains_had xs two.q two.there) in
-        let a_name = same_name q.by (pos q.no) two.p.0 two.of in
-        let b_name = same_name q.by (pos q.no) two.q.0 two.too in
+        let a_name = same_name q.by (pos q.no) two.p.name two.of in
+        let b_name = same_name q.by (pos q.no) two.q.name two.too in
         let a_no : a.0.no ≡ q.no = one_number _ _ (sym a.2.number ∙ a_name.1) in
         let b_no : b.0.no ≡ q.no = one_number _ _ (sym b.2.number ∙ b_name.1) in
         let a_text = bytes_eq-Decides (wire (Request a.0)) (wire (Request q)) in
@@ -160,8 +162,8 @@ module _ (ms : List Message) (xs : List Asked) (are : AreAsked ms xs) where
           | inl same ↦ elim (cases_Bool (bytes_eq (wire (Request b.0)) (wire (Request q)))) [
             | inr apart ↦ other_is b.0 b.1 (sym b.2.by ∙ b_name.0) b_no apart
             | inl too ↦
-                let texts : two.p.1.now ≡ two.q.1.now = a.2.text ∙ a_text.0 same ∙ sym (b_text.0 too) ∙ sym b.2.text in
-                absurd (true≢false (sym ((bytes_eq-Decides two.p.1.now two.q.1.now).1 texts) ∙ two.apart))
+                let texts : two.p.text.now ≡ two.q.text.now = a.2.text ∙ a_text.0 same ∙ sym (b_text.0 too) ∙ sym b.2.text in
+                absurd (true≢false (sym ((bytes_eq-Decides two.p.text.now two.q.text.now).1 texts) ∙ two.apart))
           ]
         ]
 
@@ -185,7 +187,7 @@ module _ (ms : List Message) (xs : List Asked) (are : AreAsked ms xs) where
         both_or_none (differs q.by (pos q.no) xs) (is_disputed ms (Request q)) two_requests
         (λ some. let it = some_has (is_other (Request q)) ms some in other_there it.0 it.1 it.2)
 
-  pub disputes_by : IsSorted asked_cmp xs → (found disputed : List Name)
+  pub disputes_by : IsSorted asked_cmp xs → (found disputed : List NameKey)
       → ((asker : List ℕ) (number : ℤ) → list_any (is_at asker number) found ≡ differs asker number xs) → IsPermutation found disputed
       → (q : RequestFields) → Contains ms (Request q) → list_any (is_at q.by (pos q.no)) disputed ≡ is_disputed ms (Request q)
   disputes_by sorted found disputed each same q here =
@@ -193,8 +195,8 @@ module _ (ms : List Message) (xs : List Asked) (are : AreAsked ms xs) where
 
 -- ---- what is looked up
 
-module _ (ms : List Message) (names disputed : List Name) (index : IsIndex ms names disputed) where
-  pub disputed_of : (m : Message) → Contains ms m → (a : Asked) → IsTold m (Some a) → list_any (is_at a.0.0.now a.0.1) disputed ≡ is_disputed ms m
+module _ (ms : List Message) (names disputed : List NameKey) (index : IsIndex ms names disputed) where
+  pub disputed_of : (m : Message) → Contains ms m → (a : Asked) → IsTold m (Some a) → list_any (is_at a.name.by.now a.name.number) disputed ≡ is_disputed ms m
   disputed_of (Verdict v) there a from = absurd from
   disputed_of (Request q) there a from = (λ i. list_any (is_at (from.by i) (from.number i)) disputed) ∙ index.disputes q there
 

@@ -18,7 +18,9 @@ use Rattle.std.proofs.lemmas.List.Sorted.{ranks_by, searchable_from_sorted, sort
 use Rattle.std.proofs.lemmas.List.Sums.{sum_by-cons}
 use Rattle.std.proofs.lemmas.Slice.Eq.{bytes_eq-Decides}
 use Rattle.sqlite_rules.specs.Lists.{Has}
-use Rattle.store_opening.specs.private.Names.{Asked, Name, asked_cmp, differ, differs, has_name, is_at, name_cmp, repeats}
+use Rattle.store_opening.specs.declared.names.Asked.{Asked}
+use Rattle.store_opening.specs.declared.names.NameKey.{NameKey}
+use Rattle.store_opening.specs.private.Names.{asked_cmp, differ, differs, has_name, is_at, name_cmp, name_of, repeats}
 
 -- ---- binary search
 
@@ -40,14 +42,15 @@ then_eq Equal p = refl
 then_eq Greater p = refl
 
 name_total : IsTotalOrder name_cmp
-name_total = then_total (on_total (λ (n : Name). n.0.now) nat_list_cmp_total) (on_total (λ (n : Name). n.1) int_cmp_total)
+name_total = then_total (on_total (λ (n : NameKey). n.by.now) nat_list_cmp_total) (on_total (λ (n : NameKey). n.number) int_cmp_total)
 
-names_tie : (x y : Name) → is_at x.0.now x.1 y ≡ is_eq (name_cmp y x)
-names_tie x y = ap (λ a. a && int_eq y.1 x.1) (texts_ties y.0.now x.0.now) ∙ sym (then_eq (slice_cmp nat_cmp y.0.now x.0.now) (int_cmp y.1 x.1))
+names_tie : (x y : NameKey) → is_at x.by.now x.number y ≡ is_eq (name_cmp y x)
+names_tie x y =
+    ap (λ a. a && int_eq y.number x.number) (texts_ties y.by.now x.by.now) ∙ sym (then_eq (slice_cmp nat_cmp y.by.now x.by.now) (int_cmp y.number x.number))
 
-pub name_found : (names : List Name) → IsSorted name_cmp names → (x : Name) (r : Result ℕ ℕ) → IsSearchInRange r (length names)
-    → IsBinarySearchResult (λ y. name_cmp y x) names r → is_ok r ≡ list_any (is_at x.0.now x.1) names
-name_found names rising x r inside at = found name_total (is_at x.0.now x.1) x (names_tie x) names rising r inside at
+pub name_found : (names : List NameKey) → IsSorted name_cmp names → (x : NameKey) (r : Result ℕ ℕ) → IsSearchInRange r (length names)
+    → IsBinarySearchResult (λ y. name_cmp y x) names r → is_ok r ≡ list_any (is_at x.by.now x.number) names
+name_found names rising x r inside at = found name_total (is_at x.by.now x.number) x (names_tie x) names rising r inside at
 
 -- ---- what is in order
 
@@ -61,13 +64,13 @@ neither Less h k = absurd (true≢false h)
 neither Equal h k = refl
 neither Greater h k = absurd (true≢false k)
 
-pub same_name : (asker : List ℕ) (number : ℤ) (x : Name) → is_at asker number x ≡ true → (x.0.now ≡ asker) × (x.1 ≡ number)
-same_name asker number x is = let both = and_parts _ _ is in ((bytes_eq-Decides x.0.now asker).0 both.0, (Decides-int_eq x.1 number).0 both.1)
+pub same_name : (asker : List ℕ) (number : ℤ) (x : NameKey) → is_at asker number x ≡ true → (x.by.now ≡ asker) × (x.number ≡ number)
+same_name asker number x is = let both = and_parts _ _ is in ((bytes_eq-Decides x.by.now asker).0 both.0, (Decides-int_eq x.number number).0 both.1)
 
-pub is_the_name : (asker : List ℕ) (number : ℤ) (x : Name) → x.0.now ≡ asker → x.1 ≡ number → is_at asker number x ≡ true
-is_the_name asker number x by same = and_from _ _ ((bytes_eq-Decides x.0.now asker).1 by) ((Decides-int_eq x.1 number).1 same)
+pub is_the_name : (asker : List ℕ) (number : ℤ) (x : NameKey) → x.by.now ≡ asker → x.number ≡ number → is_at asker number x ≡ true
+is_the_name asker number x by same = and_from _ _ ((bytes_eq-Decides x.by.now asker).1 by) ((Decides-int_eq x.number number).1 same)
 
-module _ {X : Type 0} (name : X → Name) where
+module _ {X : Type 0} (name : X → NameKey) where
   abbrev pub comes_before : X → X → Bool
   comes_before a b = is_lt (name_cmp (name a) (name b))
 
@@ -100,18 +103,15 @@ module _ {X : Type 0} (name : X → Name) where
     squeezed x z y here there above below =
         let a = same_name asker number (name x) here in
         let b = same_name asker number (name y) there in
-        let by : (name y).0.now ≡ (name x).0.now = b.0 ∙ sym a.0 in
-        let no : (name y).1 ≡ (name x).1 = b.1 ∙ sym a.1 in
+        let by : (name y).by.now ≡ (name x).by.now = b.0 ∙ sym a.0 in
+        let no : (name y).number ≡ (name x).number = b.1 ∙ sym a.1 in
         let back : is_lt (ordering_reverse (name_cmp (name z) (name x))) ≡ false =
         ap is_lt (sym (name_total.antisymm (name x) (name z)))
-        ∙ (λ i. is_lt (ordering_then (slice_cmp nat_cmp (sym by i) (name z).0.now) (int_cmp (sym no i) (name z).1))) ∙ below in
-        let same : is_at (name x).0.now (name x).1 (name z) ≡ true = names_tie (name x) (name z) ∙ neither (name_cmp (name z) (name x)) above back in
-        (λ i. bytes_eq (name z).0.now (sym a.0 i) && int_eq (name z).1 (sym a.1 i)) ∙ same
+        ∙ (λ i. is_lt (ordering_then (slice_cmp nat_cmp (sym by i) (name z).by.now) (int_cmp (sym no i) (name z).number))) ∙ below in
+        let same : is_at (name x).by.now (name x).number (name z) ≡ true = names_tie (name x) (name z) ∙ neither (name_cmp (name z) (name x)) above back in
+        (λ i. bytes_eq (name z).by.now (sym a.0 i) && int_eq (name z).number (sym a.1 i)) ∙ same
 
 -- ---- texts of one name
-
-abbrev name_of : Asked → Name
-name_of a = a.0
 
 not_less : (a b : Ordering) → is_lt (ordering_then a b) ≡ false → is_lt a ≡ false
 not_less Less b h = h
@@ -122,7 +122,7 @@ by_name : (xs : List Asked) → IsSorted asked_cmp xs → IsSortedBy (comes_befo
 by_name xs sorted k d low high =
     let a = get_or xs (k + 1) d in
     let b = get_or xs k d in
-    not_less (name_cmp a.0 b.0) (slice_cmp nat_cmp a.1.now b.1.now) (sorted k d low high)
+    not_less (name_cmp a.name b.name) (slice_cmp nat_cmp a.text.now b.text.now) (sorted k d low high)
 
 pub asked_rising : (xs : List Asked) → IsSorted asked_cmp xs → Rising name_of xs
 asked_rising xs sorted = rising name_of xs (by_name xs sorted)
@@ -141,17 +141,19 @@ not_false false h = absurd (true≢false h)
 
 module _ (asker : List ℕ) (number : ℤ) where
   -- two of the name that do not differ have one text
-  agree : (x y : Asked) → has_name asker number x ≡ true → has_name asker number y ≡ true → (has_name asker number x && differ x y) ≡ false → x.1.now ≡ y.1.now
+  agree : (x y : Asked) → has_name asker number x ≡ true → has_name asker number y ≡ true
+      → (has_name asker number x && differ x y) ≡ false → x.text.now ≡ y.text.now
   agree x y here there alike =
-      let a = same_name asker number x.0 here in
-      let b = same_name asker number y.0 there in
-      let of = is_the_name x.0.0.now x.0.1 y.0 (b.0 ∙ sym a.0) (b.1 ∙ sym a.1) in
-      let all : (has_name asker number x && differ x y) ≡ not (bytes_eq x.1.now y.1.now) = λ i. here i && (of i && not (bytes_eq x.1.now y.1.now)) in
-      (bytes_eq-Decides x.1.now y.1.now).0 (not_false _ (sym all ∙ alike))
+      let a = same_name asker number x.name here in
+      let b = same_name asker number y.name there in
+      let of = is_the_name x.name.by.now x.name.number y.name (b.0 ∙ sym a.0) (b.1 ∙ sym a.1) in
+      let all : (has_name asker number x && differ x y) ≡ not (bytes_eq x.text.now y.text.now) =
+      λ i. here i && (of i && not (bytes_eq x.text.now y.text.now)) in
+      (bytes_eq-Decides x.text.now y.text.now).0 (not_false _ (sym all ∙ alike))
 
   -- where no two neighbours of the name differ, all have the text of the first
   as_first : (x : Asked) (xs : List Asked) → Rising name_of (x ∷ xs) → differs asker number (x ∷ xs) ≡ false
-      → has_name asker number x ≡ true → (y : Asked) → Has xs y → has_name asker number y ≡ true → x.1.now ≡ y.1.now
+      → has_name asker number x ≡ true → (y : Asked) → Has xs y → has_name asker number y ≡ true → x.text.now ≡ y.text.now
   as_first x [] up none here y there of = absurd there
   as_first x (z ∷ zs) up none here y (inl e) of =
       let parts = or_false (has_name asker number x && differ x z) (differs asker number (z ∷ zs)) none in
@@ -167,13 +169,13 @@ module _ (asker : List ℕ) (number : ℤ) where
 
   -- two texts of the name are the same
   pub one_text : (xs : List Asked) → Rising name_of xs → differs asker number xs ≡ false → (p q : Asked)
-      → Has xs p → Has xs q → has_name asker number p ≡ true → has_name asker number q ≡ true → p.1.now ≡ q.1.now
+      → Has xs p → Has xs q → has_name asker number p ≡ true → has_name asker number q ≡ true → p.text.now ≡ q.text.now
   one_text [] up none p q here there of too = absurd here
-  one_text (x ∷ xs) up none p q (inl e) (inl f) of too = ap (λ (w : Asked). w.1.now) (e ∙ sym f)
+  one_text (x ∷ xs) up none p q (inl e) (inl f) of too = ap (λ (w : Asked). w.text.now) (e ∙ sym f)
   one_text (x ∷ xs) up none p q (inl e) (inr there) of too =
-      ap (λ (w : Asked). w.1.now) e ∙ as_first x xs up none (subst (λ w. has_name asker number w ≡ true) e of) q there too
+      ap (λ (w : Asked). w.text.now) e ∙ as_first x xs up none (subst (λ w. has_name asker number w ≡ true) e of) q there too
   one_text (x ∷ xs) up none p q (inr here) (inl f) of too =
-      sym (as_first x xs up none (subst (λ w. has_name asker number w ≡ true) f too) p here of) ∙ ap (λ (w : Asked). w.1.now) (sym f)
+      sym (as_first x xs up none (subst (λ w. has_name asker number w ≡ true) f too) p here of) ∙ ap (λ (w : Asked). w.text.now) (sym f)
   one_text (x ∷ xs) up none p q (inr here) (inr there) of too = one_text xs up.1 (fewer x xs none) p q here there of too
 
   pub record Differ (xs : List Asked) : Type 0 where
@@ -183,7 +185,7 @@ module _ (asker : List ℕ) (number : ℤ) where
     pub there : Has xs q
     pub of : has_name asker number p ≡ true
     pub too : has_name asker number q ≡ true
-    pub apart : bytes_eq p.1.now q.1.now ≡ false
+    pub apart : bytes_eq p.text.now q.text.now ≡ false
 
   -- where two neighbours differ, there are two texts
   pub two_texts : (xs : List Asked) → differs asker number xs ≡ true → Differ xs
@@ -193,15 +195,15 @@ module _ (asker : List ℕ) (number : ℤ) where
     | inl first ↦
         let both = and_parts _ _ first in
         let beside = and_parts _ _ both.1 in
-        let own = same_name asker number x.0 both.0 in
-        let next = same_name x.0.0.now x.0.1 z.0 beside.0 in
+        let own = same_name asker number x.name both.0 in
+        let next = same_name x.name.by.now x.name.number z.name beside.0 in
         record {
           p = x;
           q = z;
           here = inl refl;
           there = inr (inl refl);
           of = both.0;
-          too = is_the_name asker number z.0 (next.0 ∙ own.0) (next.1 ∙ own.1);
+          too = is_the_name asker number z.name (next.0 ∙ own.0) (next.1 ∙ own.1);
           apart = not_true _ beside.1;
         }
     | inr later ↦ let it = two_texts (z ∷ zs) later in
@@ -220,18 +222,18 @@ module _ (asker : List ℕ) (number : ℤ) where
 -- ---- a name that occurs once
 
 module _ (asker : List ℕ) (number : ℤ) where
-  counted : (x : Name) (xs : List Name) (b : Bool) → is_at asker number x ≡ b
+  counted : (x : NameKey) (xs : List NameKey) (b : Bool) → is_at asker number x ≡ b
       → count_by (is_at asker number) (x ∷ xs) ≡ cond b 1 0 + count_by (is_at asker number) xs
-  counted x xs b is = sum_by-cons (λ (y : Name). cond (is_at asker number y) 1 0) x xs ∙ ap (λ (t : Bool). cond t 1 0 + count_by (is_at asker number) xs) is
+  counted x xs b is = sum_by-cons (λ (y : NameKey). cond (is_at asker number y) 1 0) x xs ∙ ap (λ (t : Bool). cond t 1 0 + count_by (is_at asker number) xs) is
 
-  counted_none : (xs : List Name) → ((y : Name) → Has xs y → is_at asker number y ≡ false) → count_by (is_at asker number) xs ≡ 0
+  counted_none : (xs : List NameKey) → ((y : NameKey) → Has xs y → is_at asker number y ≡ false) → count_by (is_at asker number) xs ≡ 0
   counted_none [] none = refl
   counted_none (x ∷ xs) none =
       let here : count_by (is_at asker number) (x ∷ xs) ≡ 0 + count_by (is_at asker number) xs = counted x xs false (none x (inl refl)) in
       let rest : count_by (is_at asker number) xs ≡ 0 = counted_none xs (λ y there. none y (inr there)) in
       omega (arith, here, rest)
 
-  counted_one : (xs : List Name) → Rising (λ n. n) xs → repeats xs ≡ false → count_by (is_at asker number) xs ≤ 1
+  counted_one : (xs : List NameKey) → Rising (λ n. n) xs → repeats xs ≡ false → count_by (is_at asker number) xs ≤ 1
   counted_one [] up none = omega arith
   counted_one (x ∷ xs) up none = elim (cases_Bool (is_at asker number x)) [
     | inl is ↦
@@ -244,17 +246,17 @@ module _ (asker : List ℕ) (number : ℤ) where
         omega (arith, here, rest)
   ]
     where
-      rest_once : (x : Name) (xs : List Name) → repeats (x ∷ xs) ≡ false → repeats xs ≡ false
+      rest_once : (x : NameKey) (xs : List NameKey) → repeats (x ∷ xs) ≡ false → repeats xs ≡ false
       rest_once x [] none = refl
-      rest_once x (z ∷ zs) none = (or_false (is_at x.0.now x.1 z) _ none).1
+      rest_once x (z ∷ zs) none = (or_false (is_at x.by.now x.number z) _ none).1
 
-      between : (x z : Name) (zs : List Name) → Rising (λ n. n) (x ∷ z ∷ zs) → is_at asker number x ≡ true
-          → (y : Name) → Has (z ∷ zs) y → is_at asker number y ≡ true → is_at asker number z ≡ true
+      between : (x z : NameKey) (zs : List NameKey) → Rising (λ n. n) (x ∷ z ∷ zs) → is_at asker number x ≡ true
+          → (y : NameKey) → Has (z ∷ zs) y → is_at asker number y ≡ true → is_at asker number z ≡ true
       between x z zs up is y (inl e) same = subst (λ w. is_at asker number w ≡ true) e same
       between x z zs up is y (inr later) same = squeezed (λ n. n) asker number x z y is same (up.0 z (inl refl)) (up.1.0 y later)
 
-      alone : (x : Name) (xs : List Name) → Rising (λ n. n) (x ∷ xs) → repeats (x ∷ xs) ≡ false
-          → is_at asker number x ≡ true → (y : Name) → Has xs y → is_at asker number y ≡ false
+      alone : (x : NameKey) (xs : List NameKey) → Rising (λ n. n) (x ∷ xs) → repeats (x ∷ xs) ≡ false
+          → is_at asker number x ≡ true → (y : NameKey) → Has xs y → is_at asker number y ≡ false
       alone x [] up none is y there = absurd there
       alone x (z ∷ zs) up none is y there = elim (cases_Bool (is_at asker number y)) [
         | inr other ↦ other
@@ -262,11 +264,11 @@ module _ (asker : List ℕ) (number : ℤ) where
             let own = same_name asker number x is in
             let mid = between x z zs up is y there same in
             let of = same_name asker number z mid in
-            absurd (true≢false (sym (is_the_name x.0.now x.1 z (of.0 ∙ sym own.0) (of.1 ∙ sym own.1)) ∙ (or_false (is_at x.0.now x.1 z) _ none).0))
+            absurd (true≢false (sym (is_the_name x.by.now x.number z (of.0 ∙ sym own.0) (of.1 ∙ sym own.1)) ∙ (or_false (is_at x.by.now x.number z) _ none).0))
       ]
 
 -- sorted, and no two neighbours the same: no name occurs twice
-pub each_once : (names sorted : List Name) → IsPermutation names sorted → IsSorted name_cmp sorted
+pub each_once : (names sorted : List NameKey) → IsPermutation names sorted → IsSorted name_cmp sorted
     → repeats sorted ≡ false → (asker : List ℕ) (number : ℤ) → count_by (is_at asker number) names ≤ 1
 each_once names sorted same up none asker number =
     let counts : count_by (is_at asker number) sorted ≡ count_by (is_at asker number) names = sum_by-IsPermutation _ names sorted same in
@@ -284,11 +286,11 @@ drop_short (x ∷ xs) (suc j) short = drop_short xs j (omega (arith, short))
 pub none_left : (asker : List ℕ) (number : ℤ) (xs : List Asked) (j : ℕ) → length xs ≤ suc j → differs asker number (drop j xs) ≡ false
 none_left asker number xs j short = elim (drop_short xs j short) [ inl e ↦ ap (differs asker number) e | inr it ↦ ap (differs asker number) it.1 ]
 
-pub no_more : (xs : List Name) (j : ℕ) → length xs ≤ suc j → repeats (drop j xs) ≡ false
+pub no_more : (xs : List NameKey) (j : ℕ) → length xs ≤ suc j → repeats (drop j xs) ≡ false
 no_more xs j short = elim (drop_short xs j short) [ inl e ↦ ap repeats e | inr it ↦ ap repeats it.1 ]
 
-pub repeats_at : (xs : List Name) (j : ℕ) (d : Name) → suc j < length xs
-    → repeats (drop j xs) ≡ (is_at (get_or xs j d).0.now (get_or xs j d).1 (get_or xs (suc j) d) || repeats (drop (suc j) xs))
+pub repeats_at : (xs : List NameKey) (j : ℕ) (d : NameKey) → suc j < length xs
+    → repeats (drop j xs) ≡ (is_at (get_or xs j d).by.now (get_or xs j d).number (get_or xs (suc j) d) || repeats (drop (suc j) xs))
 repeats_at [] j d within = absurd (omega (arith, within))
 repeats_at (x ∷ []) j d within = absurd (omega (arith, within))
 repeats_at (x ∷ y ∷ ys) zero d within = refl
@@ -311,7 +313,7 @@ or_more true b d = refl
 or_more false true d = refl
 or_more false false d = refl
 
-module _ (asker : List ℕ) (number : ℤ) (names : List Name) (xs : List Asked) (j : ℕ) (d : Asked) (within : suc j < length xs)
+module _ (asker : List ℕ) (number : ℤ) (names : List NameKey) (xs : List Asked) (j : ℕ) (d : Asked) (within : suc j < length xs)
     (before : (list_any (is_at asker number) names || differs asker number (drop j xs)) ≡ differs asker number xs) where
   after_step : (list_any (is_at asker number) names || ((has_name asker number (get_or xs j d) && differ (get_or xs j d) (get_or xs (suc j) d))
       || differs asker number (drop (suc j) xs))) ≡ differs asker number xs
@@ -333,7 +335,7 @@ module _ (asker : List ℕ) (number : ℤ) (names : List Name) (xs : List Asked)
       h rest ∙ ap (λ (b : Bool). list_any (is_at asker number) names || (b || rest)) (sym (and_true h) ∙ ap (λ (e : Bool). h && e) (sym other)) ∙ after_step
 
 -- the same at a place that is counted from 1
-module _ (asker : List ℕ) (number : ℤ) (names : List Name) (xs : List Asked) (i : ℕ) (d : Asked) (first : 1 ≤ i) (within : i < length xs)
+module _ (asker : List ℕ) (number : ℤ) (names : List NameKey) (xs : List Asked) (i : ℕ) (d : Asked) (first : 1 ≤ i) (within : i < length xs)
     (before : (list_any (is_at asker number) names || differs asker number (drop (i - 1) xs)) ≡ differs asker number xs) where
   here_is : suc (i - 1) ≡ i
   here_is = omega arith
@@ -347,7 +349,7 @@ module _ (asker : List ℕ) (number : ℤ) (names : List Name) (xs : List Asked)
       subst (λ k. (list_any (is_at asker number) names || differs asker number (drop k xs)) ≡ differs asker number xs) next_is (kept_on asker number names xs
       (i - 1) d (subst (λ k. k < length xs) (sym here_is) within) before (subst (λ k. differ (get_or xs (i - 1) d) (get_or xs k d) ≡ false) (sym here_is) same))
 
-  pub added_at : differ (get_or xs (i - 1) d) (get_or xs i d) ≡ true → (m : Name) → m ≡ name_of (get_or xs (i - 1) d)
+  pub added_at : differ (get_or xs (i - 1) d) (get_or xs i d) ≡ true → (m : NameKey) → m ≡ name_of (get_or xs (i - 1) d)
       → (list_any (is_at asker number) (names ++ m ∷ []) || differs asker number (drop (i + 1 - 1) xs)) ≡ differs asker number xs
   added_at other m is =
       subst (λ k. (list_any (is_at asker number) (names ++ m ∷ []) || differs asker number (drop k xs)) ≡ differs asker number xs) next_is

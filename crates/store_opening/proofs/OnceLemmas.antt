@@ -11,7 +11,8 @@ use Rattle.sqlite.specs.Order.{Row, column}
 use Rattle.sqlite_rules.specs.Lists.{Has}
 use Rattle.sqlite_rules.proofs.ListLemmas.{test_from, test_has}
 use Rattle.store_opening.specs.private.Compare.{agree, has_rowid, is_apart, is_keyed, is_once, is_same}
-use Rattle.store_opening.specs.private.Names.{Name, id_is, name_is, number_in, text_in}
+use Rattle.store_opening.specs.declared.names.NameKey.{NameKey}
+use Rattle.store_opening.specs.private.Names.{id_is, name_is, number_in, text_in}
 use Rattle.store_opening.proofs.Compared.{agree_is}
 
 -- ---- counts
@@ -30,7 +31,7 @@ counted_some p (y ∷ ys) x (inr there) is =
     omega (arith, here, rest)
 
 -- a pushed name counts as the next row
-pub counts_more : (p : Name → Bool) (q : Row → Bool) (names : List Name) (m : Name) (rows : List Row) (i : ℕ) (r : Row) → i < length rows
+pub counts_more : (p : NameKey → Bool) (q : Row → Bool) (names : List NameKey) (m : NameKey) (rows : List Row) (i : ℕ) (r : Row) → i < length rows
     → r ≡ get_or rows i r → p m ≡ q r → count_by p names ≡ count_by q (take i rows) → count_by p (names ++ m ∷ []) ≡ count_by q (take (i + 1) rows)
 counts_more p q names m rows i r within is same before =
     let one : cond (p m) 1 0 ≡ cond (q (get_or rows i r)) 1 0 = ap (λ (b : Bool). cond b 1 0) (same ∙ ap q is) in

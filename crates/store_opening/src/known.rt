@@ -1,14 +1,14 @@
 //! The messages, and the orders in which a binary search finds them.
 
-ghost use Rattle.std.specs.Prelude.{◌≡◌, List, ℕ, map, pos, Contains, IfOk, IfSome};
+ghost use Rattle.std.specs.Prelude.{◌≡◌, List, ℕ, map, Contains, IfOk, IfSome};
 ghost use Rattle.std.specs.List.{list_any};
 ghost use Rattle.std.specs.List.Sorted.{IsSorted};
 ghost use Rattle.store_opening.specs.private.Compare as compare;
 ghost use Rattle.store_opening.specs.private.Names.{AreAsked, IsIndex, IsTold};
 ghost use Rattle.store_opening.specs.private.Names.{is_at, name_cmp, name_of};
 
-use crate::names::{disputed, in_order, is_among, texts_in_order};
-use crate::places::{VerdictKey, count_up, key_in, key_of, nowhere};
+use crate::names::{Asked, NameKey, disputed, in_order, is_among, texts_in_order};
+use crate::places::{VerdictKey, count_up, key_in, key_of, name_key, nowhere};
 use crate::stored::Stored;
 use messages::Message;
 use sqlite::Row;
@@ -20,38 +20,31 @@ use sudo_words::NoMemory;
 pub(crate) struct Known<'a> {
     pub(crate) all: &'a [Stored],
     /// The names that have a request, in order.
-    names: Vec<(&'a [u8], i64)>,
+    names: Vec<NameKey<'a>>,
     /// The names that have more than one request, in order.
-    disputed: Vec<(&'a [u8], i64)>,
+    disputed: Vec<NameKey<'a>>,
     /// The places of the messages, in the order of their texts.
     texts: Vec<usize>,
     /// The places of the messages, in the order of the rows of `verdicts`.
     verdicts: Vec<usize>,
 }
 
-fn name<'a>(asker: &'a str, number: u32) -> (&'a [u8], i64)
-    ensures by { result.0.now ≡ asker.now }
-    ensures number { result.1 ≡ pos number }
-{
-    (asker.as_bytes(), i64::from(number))
-}
-
 /// The name and the text of the message, if it is a request.
-fn told(stored: &Stored) -> Option<((&[u8], i64), &[u8])>
+fn told(stored: &Stored) -> Option<Asked<'_>>
     ensures { IsTold stored.now result }
 {
     match stored.message() {
         Message::Request(request) => {
-            let asker = request.by().as_str().as_bytes();
-            let name = (asker, i64::from(request.no()));
-            Some((name, stored.body().as_bytes()))
+            let name = name_key(request.by().as_str(), request.no());
+            let text = stored.body().as_bytes();
+            Some(Asked { name, text })
         }
         Message::Verdict(_) => None,
     }
 }
 
 /// The names and the texts of the requests.
-fn all_told(alloc: Global, all: &[Stored]) -> Result<Vec<((&[u8], i64), &[u8])>, NoMemory>
+fn all_told(alloc: Global, all: &[Stored]) -> Result<Vec<Asked<'_>>, NoMemory>
     ensures { IfOk result (λ asked. AreAsked all.now asked.items) }
 {
     let mut asked = Vec::new(alloc);
@@ -64,15 +57,12 @@ fn all_told(alloc: Global, all: &[Stored]) -> Result<Vec<((&[u8], i64), &[u8])>,
 }
 
 /// The names alone.
-fn names_of<'a>(
-    alloc: Global,
-    told: &[((&'a [u8], i64), &'a [u8])],
-) -> Result<Vec<(&'a [u8], i64)>, NoMemory>
+fn names_of<'a>(alloc: Global, told: &[Asked<'a>]) -> Result<Vec<NameKey<'a>>, NoMemory>
     ensures { IfOk result (λ names. names.items ≡ map name_of told.now) }
 {
     let mut names = Vec::with_capacity(alloc, told.len())?;
     for one in told {
-        names.push(one.0)?;
+        names.push(one.name)?;
     }
     Ok(names)
 }
@@ -128,7 +118,7 @@ impl<'a> Known<'a> {
         requires { IsIndex self.now.all.now self.now.names.items self.now.disputed.items }
         ensures { result ≡ compare.asks self.now.all.now asker.now number }
     {
-        let name = name(asker, number);
+        let name = name_key(asker, number);
         is_among(self.names.as_slice(), &name)
     }
 
@@ -161,7 +151,7 @@ impl<'a> Known<'a> {
         ensures { result ≡ compare.is_disputed self.now.all.now stored.now }
     {
         match told(stored) {
-            Some(one) => is_among(self.disputed.as_slice(), &one.0),
+            Some(one) => is_among(self.disputed.as_slice(), &one.name),
             None => false,
         }
     }

@@ -1,6 +1,4 @@
 //! Names of requests, each found by binary search.
-//!
-//! A name is who asked, as bytes, and a number. A rowid is a name with no bytes.
 
 ghost use Rattle.std.specs.Prelude.{◌≡◌, ◌≤◌, ℕ, ℤ, List, true, IfOk, count_by};
 ghost use Rattle.std.specs.List.{list_any};
@@ -11,16 +9,31 @@ ghost use Rattle.store_opening.specs.private.Names.{name_cmp, asked_cmp, repeats
 use std::alloc::Global;
 use sudo_words::NoMemory;
 
+/// A name as a row shows it, in the order of names: who asked, as bytes, and the number. A rowid is
+/// a name with no bytes.
+#[derive(Clone, Copy, Debug, PartialEq, Eq, PartialOrd, Ord)]
+pub(crate) struct NameKey<'a> {
+    pub(crate) by: &'a [u8],
+    pub(crate) number: i64,
+}
+
+/// A name, and the text of a request under it.
+#[derive(Clone, Copy, Debug, PartialEq, Eq, PartialOrd, Ord)]
+pub(crate) struct Asked<'a> {
+    pub(crate) name: NameKey<'a>,
+    pub(crate) text: &'a [u8],
+}
+
 /// Whether the name is one of these, which are in order.
-pub(crate) fn is_among(names: &[(&[u8], i64)], name: &(&[u8], i64)) -> bool
+pub(crate) fn is_among(names: &[NameKey<'_>], name: &NameKey<'_>) -> bool
     requires { IsSorted name_cmp names.now }
-    ensures { result ≡ list_any (is_at name.now.0.now name.now.1) names.now }
+    ensures { result ≡ list_any (is_at name.now.by.now name.now.number) names.now }
 {
     names.binary_search(name).is_ok()
 }
 
 /// The names, in order.
-pub(crate) fn in_order<'a>(mut names: Vec<(&'a [u8], i64)>) -> Vec<(&'a [u8], i64)>
+pub(crate) fn in_order<'a>(mut names: Vec<NameKey<'a>>) -> Vec<NameKey<'a>>
     ensures sorted { IsSorted name_cmp result.items }
     ensures same { IsPermutation names.entry.items result.items }
 {
@@ -29,9 +42,7 @@ pub(crate) fn in_order<'a>(mut names: Vec<(&'a [u8], i64)>) -> Vec<(&'a [u8], i6
 }
 
 /// Names with texts, in the order of the names.
-pub(crate) fn texts_in_order<'a>(
-    mut asked: Vec<((&'a [u8], i64), &'a [u8])>,
-) -> Vec<((&'a [u8], i64), &'a [u8])>
+pub(crate) fn texts_in_order<'a>(mut asked: Vec<Asked<'a>>) -> Vec<Asked<'a>>
     ensures sorted { IsSorted asked_cmp result.items }
     ensures same { IsPermutation asked.entry.items result.items }
 {
@@ -39,24 +50,21 @@ pub(crate) fn texts_in_order<'a>(
     asked
 }
 
-fn is_same(a: &(&[u8], i64), b: &(&[u8], i64)) -> bool
-    ensures { result ≡ is_at a.now.0.now a.now.1 b.now }
+fn is_same(a: &NameKey<'_>, b: &NameKey<'_>) -> bool
+    ensures { result ≡ is_at a.now.by.now a.now.number b.now }
 {
-    b.0 == a.0 && b.1 == a.1
+    b.by == a.by && b.number == a.number
 }
 
 /// They have the same name and different texts.
-fn differ(a: &((&[u8], i64), &[u8]), b: &((&[u8], i64), &[u8])) -> bool
+fn differ(a: &Asked<'_>, b: &Asked<'_>) -> bool
     ensures { result ≡ differ a.now b.now }
 {
-    is_same(&a.0, &b.0) && a.1 != b.1
+    is_same(&a.name, &b.name) && a.text != b.text
 }
 
 /// The names that have two texts among these, which are in order.
-pub(crate) fn disputed<'a>(
-    alloc: Global,
-    asked: &[((&'a [u8], i64), &'a [u8])],
-) -> Result<Vec<(&'a [u8], i64)>, NoMemory>
+pub(crate) fn disputed<'a>(alloc: Global, asked: &[Asked<'a>]) -> Result<Vec<NameKey<'a>>, NoMemory>
     ensures { IfOk result (λ names. (asker : List ℕ) (number : ℤ)
         → list_any (is_at asker number) names.items ≡ differs asker number asked.now) }
 {
@@ -65,14 +73,14 @@ pub(crate) fn disputed<'a>(
         let a = &asked[i - 1];
         let b = &asked[i];
         if differ(a, b) {
-            names.push(a.0)?;
+            names.push(a.name)?;
         }
     }
     Ok(names)
 }
 
 /// Two neighbours are the same.
-fn repeats(names: &[(&[u8], i64)]) -> bool
+fn repeats(names: &[NameKey<'_>]) -> bool
     ensures { result ≡ repeats names.now }
 {
     for i in 1..names.len() {
@@ -84,7 +92,7 @@ fn repeats(names: &[(&[u8], i64)]) -> bool
 }
 
 /// Whether none of these names comes twice.
-pub(crate) fn are_apart(mut names: Vec<(&[u8], i64)>) -> bool
+pub(crate) fn are_apart(mut names: Vec<NameKey<'_>>) -> bool
     ensures { result ≡ true → (asker : List ℕ) (number : ℤ)
         → count_by (is_at asker number) names.entry.items ≤ 1 }
 {

@@ -6,31 +6,27 @@ ghost use Rattle.std.specs.Ordering.{int_eq};
 ghost use Rattle.std.specs.Str.{bytes_eq};
 ghost use Rattle.sqlite.specs.Order.{column};
 ghost use Rattle.store_opening.specs.private.Compare as compare;
-ghost use Rattle.store_opening.specs.private.Names.{id_is, is_at, name_is, number_in, text_in};
+ghost use Rattle.store_opening.specs.private.Names.{id_is, is_at, name_is, number_in};
 
 use crate::compare::{has_rowid, is_once, is_same};
-use crate::names::are_apart;
-use crate::places::{number_in, text_in};
+use crate::names::{NameKey, are_apart};
+use crate::places::{name_in, number_in};
 use crate::walk;
 use sqlite::Row;
 use std::alloc::Global;
 use sudo_words::NoMemory;
 
-fn name_in(row: &Row) -> (&[u8], i64)
-    ensures text { result.0.now ≡ text_in (column row.now 1) }
-    ensures number { result.1 ≡ number_in (column row.now 2) }
+fn id_in(row: &Row) -> NameKey<'_>
+    ensures by { result.by.now ≡ [] }
+    ensures number { result.number ≡ number_in (column row.now 0) }
 {
-    (text_in(row, 1), number_in(row, 2))
+    NameKey {
+        by: b"",
+        number: number_in(row, 0),
+    }
 }
 
-fn id_in(row: &Row) -> (&[u8], i64)
-    ensures text { result.0.now ≡ [] }
-    ensures number { result.1 ≡ number_in (column row.now 0) }
-{
-    (b"", number_in(row, 0))
-}
-
-fn names_in(alloc: Global, rows: &[Row]) -> Result<Vec<(&[u8], i64)>, NoMemory>
+fn names_in(alloc: Global, rows: &[Row]) -> Result<Vec<NameKey<'_>>, NoMemory>
     ensures { IfOk result (λ names. (asker : List ℕ) (number : ℤ)
         → count_by (is_at asker number) names.items ≡ count_by (name_is asker number) rows.now) }
 {
@@ -41,7 +37,7 @@ fn names_in(alloc: Global, rows: &[Row]) -> Result<Vec<(&[u8], i64)>, NoMemory>
     Ok(names)
 }
 
-fn ids_in(alloc: Global, rows: &[Row]) -> Result<Vec<(&[u8], i64)>, NoMemory>
+fn ids_in(alloc: Global, rows: &[Row]) -> Result<Vec<NameKey<'_>>, NoMemory>
     ensures { IfOk result (λ names. (asker : List ℕ) (number : ℤ)
         → count_by (is_at asker number) names.items ≡ count_by (id_is asker number) rows.now) }
 {

@@ -1,10 +1,11 @@
 //! What rows say, in a form that can be put in order.
 
-ghost use Rattle.std.specs.Prelude.{◌≡◌};
+ghost use Rattle.std.specs.Prelude.{◌≡◌, pos};
 ghost use Rattle.sqlite.specs.Order.{column};
 ghost use Rattle.store_opening.specs.private.Names.{number_in, text_in};
 
 use crate::compare::word_of;
+use crate::names::NameKey;
 use crate::stored::Stored;
 use messages::{Message, Verdict};
 use sqlite::Row;
@@ -12,8 +13,14 @@ use sqlite_value::value::ValueRef;
 use std::alloc::Global;
 use sudo_words::NoMemory;
 
-/// A name, and what else a verdict's row says.
-pub(crate) type VerdictKey<'a> = ((&'a [u8], i64), ((&'a [u8], &'a [u8]), i64));
+/// What a verdict's row says, in the order of `verdicts`.
+#[derive(Clone, Copy, Debug, PartialEq, Eq, PartialOrd, Ord)]
+pub(crate) struct VerdictKey<'a> {
+    name: NameKey<'a>,
+    by: &'a [u8],
+    kind: &'a [u8],
+    at: i64,
+}
 
 /// The text in the column, or an empty one if it has none.
 pub(crate) fn text_in(row: &Row, at: usize) -> &[u8]
@@ -35,19 +42,50 @@ pub(crate) fn number_in(row: &Row, at: usize) -> i64
     }
 }
 
+/// The name, as rows show it.
+pub(crate) fn name_key(by: &str, number: u32) -> NameKey<'_>
+    ensures by { result.by.now ≡ by.now }
+    ensures number { result.number ≡ pos number }
+{
+    NameKey {
+        by: by.as_bytes(),
+        number: i64::from(number),
+    }
+}
+
+/// The name that a row of `names` or `verdicts` shows.
+pub(crate) fn name_in(row: &Row) -> NameKey<'_>
+    ensures by { result.by.now ≡ text_in (column row.now 1) }
+    ensures number { result.number ≡ number_in (column row.now 2) }
+{
+    NameKey {
+        by: text_in(row, 1),
+        number: number_in(row, 2),
+    }
+}
+
+/// What stands for a row that is not there.
+pub(crate) fn nameless() -> NameKey<'static> {
+    NameKey { by: b"", number: 0 }
+}
+
 /// What stands for a message that has no row in `verdicts`.
 pub(crate) fn nowhere() -> VerdictKey<'static> {
-    ((b"", 0), ((b"", b""), 0))
+    VerdictKey {
+        name: nameless(),
+        by: b"",
+        kind: b"",
+        at: 0,
+    }
 }
 
 fn key_of_verdict(verdict: &Verdict) -> VerdictKey<'_> {
-    let name = (verdict.of().as_str().as_bytes(), i64::from(verdict.no()));
-    let person = verdict.by().as_str().as_bytes();
-    let kind = word_of(verdict.kind()).as_bytes();
-    (
-        name,
-        ((person, kind), i64::from(verdict.at().secs() as u32)),
-    )
+    VerdictKey {
+        name: name_key(verdict.of().as_str(), verdict.no()),
+        by: verdict.by().as_str().as_bytes(),
+        kind: word_of(verdict.kind()).as_bytes(),
+        at: i64::from(verdict.at().secs() as u32),
+    }
 }
 
 /// What the message's row in `verdicts` says.
@@ -60,11 +98,12 @@ pub(crate) fn key_of(stored: &Stored) -> VerdictKey<'_> {
 
 /// What a row of `verdicts` says.
 pub(crate) fn key_in(row: &Row) -> VerdictKey<'_> {
-    let name = (text_in(row, 1), number_in(row, 2));
-    (
-        name,
-        ((text_in(row, 3), text_in(row, 4)), number_in(row, 5)),
-    )
+    VerdictKey {
+        name: name_in(row),
+        by: text_in(row, 3),
+        kind: text_in(row, 4),
+        at: number_in(row, 5),
+    }
 }
 
 /// The places in a list of this length, in order.

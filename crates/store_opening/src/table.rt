@@ -2,7 +2,10 @@
 
 ghost use Rattle.std.specs.Prelude.{◌≡◌, Contains, IfOk, IfSome};
 
-use crate::places::{VerdictKey, count_up, key_in, key_of, nowhere, number_in, text_in};
+use crate::names::NameKey;
+use crate::places::{
+    VerdictKey, count_up, key_in, key_of, name_in, name_key, nameless, nowhere, text_in,
+};
 use crate::stored::Stored;
 use sqlite::Row;
 use std::alloc::Global;
@@ -15,10 +18,10 @@ pub(crate) struct Table<'a> {
     places: Vec<usize>,
 }
 
-fn name_at(rows: &[Row], at: usize) -> (&[u8], i64) {
+fn name_at(rows: &[Row], at: usize) -> NameKey<'_> {
     match rows.get(at) {
-        Some(row) => (text_in(row, 1), number_in(row, 2)),
-        None => (b"", 0),
+        Some(row) => name_in(row),
+        None => nameless(),
     }
 }
 
@@ -69,7 +72,7 @@ impl<'a> Table<'a> {
         ensures { IfSome result (λ r. Contains self.now.rows.now r.now) }
     {
         let rows = self.rows;
-        let name = (asker.as_bytes(), i64::from(number));
+        let name = name_key(asker, number);
         let found = self
             .places
             .binary_search_by(|at| name_at(rows, *at).cmp(&name))

@@ -7,7 +7,6 @@ use Rattle.std.specs.Str.{bytes_eq}
 use Rattle.std.specs.Cmp.Lexicographic.{slice_cmp}
 use Rattle.std.specs.Ordering.{int_cmp, int_eq, nat_cmp, ordering_then}
 use Rattle.std.specs.declared.cmp.Ordering.{Ordering}
-use denote.Ref.{Bor}
 use Rattle.sqlite.specs.declared.types.Value.{Value}
 use Rattle.sqlite.specs.declared.types.Value.TheVariants.{Null, Int, Real, Text, Blob}
 use Rattle.sqlite.specs.Order.{Row, column}
@@ -15,32 +14,29 @@ use Rattle.messages.specs.Fields.{RequestFields}
 use Rattle.messages.specs.Wire.{wire}
 use Rattle.messages.specs.declared.message.Message.{Message}
 use Rattle.messages.specs.declared.message.Message.TheVariants.{Request, Verdict}
+use Rattle.store_opening.specs.declared.names.Asked.{Asked}
+use Rattle.store_opening.specs.declared.names.NameKey.{NameKey}
 use Rattle.store_opening.specs.private.Compare.{asks, is_disputed}
 
 -- ---- names, and texts beside them
 
--- who asked, and the number
-abbrev pub Name : Type 0
-Name = Bor (List ℕ) × ℤ
+-- by who asked, then by the number
+abbrev pub name_cmp : NameKey → NameKey → Ordering
+name_cmp x y = ordering_then (slice_cmp nat_cmp x.by.now y.by.now) (int_cmp x.number y.number)
 
-abbrev pub Asked : Type 0
-Asked = Name × Bor (List ℕ)
-
-abbrev pub name_cmp : Name → Name → Ordering
-name_cmp x y = ordering_then (slice_cmp nat_cmp x.0.now y.0.now) (int_cmp x.1 y.1)
-
+-- by the name, then by the text
 abbrev pub asked_cmp : Asked → Asked → Ordering
-asked_cmp x y = ordering_then (name_cmp x.0 y.0) (slice_cmp nat_cmp x.1.now y.1.now)
+asked_cmp x y = ordering_then (name_cmp x.name y.name) (slice_cmp nat_cmp x.text.now y.text.now)
 
 -- it is the name
-abbrev pub is_at : List ℕ → ℤ → Name → Bool
-is_at asker number n = bytes_eq n.0.now asker && int_eq n.1 number
+abbrev pub is_at : List ℕ → ℤ → NameKey → Bool
+is_at asker number n = bytes_eq n.by.now asker && int_eq n.number number
 
 abbrev pub has_name : List ℕ → ℤ → Asked → Bool
-has_name asker number a = is_at asker number a.0
+has_name asker number a = is_at asker number a.name
 
 abbrev pub differ : Asked → Asked → Bool
-differ a b = is_at a.0.0.now a.0.1 b.0 && not (bytes_eq a.1.now b.1.now)
+differ a b = is_at a.name.by.now a.name.number b.name && not (bytes_eq a.text.now b.text.now)
 
 -- two neighbours have the name, and different texts
 abbrev pub differs : List ℕ → ℤ → List Asked → Bool
@@ -50,18 +46,18 @@ differs asker number (a ∷ b ∷ rest) =
     (has_name asker number a && differ a b) || differs asker number (b ∷ rest)
 
 -- two neighbours are the same name
-abbrev pub repeats : List Name → Bool
+abbrev pub repeats : List NameKey → Bool
 repeats [] = false
 repeats (a ∷ []) = false
-repeats (a ∷ b ∷ rest) = is_at a.0.now a.1 b || repeats (b ∷ rest)
+repeats (a ∷ b ∷ rest) = is_at a.by.now a.number b || repeats (b ∷ rest)
 
 -- ---- what messages and rows say
 
 -- the name and the text of the request
 pub record IsFrom (q : RequestFields) (a : Asked) : Type 0 where
-  pub by : a.0.0.now ≡ q.by
-  pub number : a.0.1 ≡ pos q.no
-  pub text : a.1.now ≡ wire (Request q)
+  pub by : a.name.by.now ≡ q.by
+  pub number : a.name.number ≡ pos q.no
+  pub text : a.text.now ≡ wire (Request q)
 
 -- what a message tells: its name and its text, where it is a request
 abbrev pub IsTold : Message → Option Asked → Type 0
@@ -78,7 +74,7 @@ pub record AreAsked (messages : List Message) (asked : List Asked) : Type 0 wher
       → (a : Asked) × Contains asked a × IsFrom q a
 
 -- the names that have a request, and those that have two, each list in order for a binary search
-pub record IsIndex (messages : List Message) (names disputed : List Name) : Type 0 where
+pub record IsIndex (messages : List Message) (names disputed : List NameKey) : Type 0 where
   pub names_rise : IsSorted name_cmp names
   pub disputed_rise : IsSorted name_cmp disputed
   pub asks : (asker : List ℕ) (number : ℕ)
@@ -112,5 +108,5 @@ abbrev pub id_is : List ℕ → ℤ → Row → Bool
 id_is asker number r = bytes_eq [] asker && int_eq (number_in (column r 0)) number
 
 -- a name alone
-abbrev pub name_of : Asked → Name
-name_of a = a.0
+abbrev pub name_of : Asked → NameKey
+name_of a = a.name

@@ -1,5 +1,6 @@
 use Rattle.std.proofs.Common.{rules, ◌≡◌, Option, Some, None, subst}
-use Rattle.store_opening.specs.private.Names.{Asked, IsTold}
+use Rattle.store_opening.specs.declared.names.Asked.{Asked}
+use Rattle.store_opening.specs.private.Names.{IsTold}
 use Rattle.store_opening.proofs.IndexLemmas.{told_more, told_none}
 use Rattle.store_opening.proofs.known.all_told.Goals as goal
 use Rattle.store_opening.proofs.known.all_told.Goals.{in-Some+in_ok-push, in_default}

@@ -9,5 +9,5 @@ is_among-requires c = subst (IsSorted name_cmp) (sym c.as_slice.ensures.value) c
 
 pub returns : goal.returns
 returns c =
-    c.is_among.ensures ∙ (λ i. list_any (is_at (c.name-name.ensures.by i) (c.name-name.ensures.number i)) (c.as_slice.ensures.value i))
+    c.is_among.ensures ∙ (λ i. list_any (is_at (c.name_key-name.ensures.by i) (c.name_key-name.ensures.number i)) (c.as_slice.ensures.value i))
     ∙ c.requires.asks c.args.asker.now c.args.number
