@@ -5,7 +5,7 @@ use Rattle.std.proofs.Common.{◌∙◌, ap, inl, subst, sym}
 use Rattle.clap.proofs.OnLiterals.{clap_on_literals}
 use Rattle.clap.specs.Simple.{Shape, built}
 use Rattle.clap.specs.Walk.{Row, Text, finished, first_of}
-use Rattle.desk_args.specs.CommandLine.{ArePlaces, HasSync, HasValue, IsCommandLine, Says, check, desk}
+use Rattle.desk_args.specs.CommandLine.{ArePlaces, HasSync, HasValue, IsCommandLine, SaysJob, check, desk}
 use Rattle.desk_args.specs.Operands.{SaysByPlace, SaysPlace, is_operand}
 use Rattle.desk_args.specs.declared.task.Job.{Job}
 use Rattle.desk_args.specs.declared.task.Job.TheVariants.{Beyond, Check, Decide, Deliver, Print, Rebuild, Review, Serve}
@@ -25,11 +25,11 @@ record Takes (name : Text) (leaf : Shape) (rest : List Text) (rows : List Row) :
   pub faultless : placed_level leaf rest ≡ []
   pub finds : finished leaf.rules (placed leaf.rules rest).held ≡ rows
 
-line : (program name : Text) (leaf : Shape) (rest : List Text) (rows : List Row) (job : Job) → Takes name leaf rest rows → Says (Some (leaf.name, rows)) job
+line : (program name : Text) (leaf : Shape) (rest : List Text) (rows : List Row) (job : Job) → Takes name leaf rest rows → SaysJob (Some (leaf.name, rows)) job
     → IsCommandLine (program ∷ name ∷ rest) job
 line program name leaf rest rows job takes says = record {
   faultless = faultless_named (built desk) name leaf rest takes.enters (level_place leaf rest takes.operands takes.leads ∙ takes.faultless);
-  says = subst (λ found. Says found job)
+  says = subst (λ found. SaysJob found job)
       (sym (entered_named (built desk) name leaf rest takes.enters
       ∙ ap (λ (found : List Row). Some (leaf.name, found)) (rows_place leaf.rules rest takes.operands takes.leads ∙ takes.finds))) says;
 }

@@ -2,7 +2,7 @@
 use Rattle.std.specs.Prelude.{◌≡◌, List, Option, Result, IfErr, IfOk, MatchResult, Some}
 use Rattle.std.proofs.Common.{subst}
 use Rattle.clap.specs.Words.{Row, Text}
-use Rattle.desk_args.specs.CommandLine.{Says, SaysBadly}
+use Rattle.desk_args.specs.CommandLine.{SaysJob, SaysBadly}
 use Rattle.desk_args.specs.Faults.{IsUsage}
 use Rattle.desk_args.specs.declared.fault.JobFault.{JobFault}
 use Rattle.desk_args.specs.declared.fault.JobFault.TheVariants.{BadWord, NoMemory}
@@ -11,8 +11,8 @@ use Rattle.desk_args.specs.private.Readings.{IsReading}
 
 -- what is read from a command is read from the line that has its name
 pub read_by_name : (command name : Text) (rows : List Row) (read : Result Job JobFault) → command ≡ name
-    → IfOk read (λ j. Says (Some (command, rows)) j)
-    → ((j : Job) → Says (Some (command, rows)) j → MatchResult read (λ k. k ≡ j) (λ e. e ≡ NoMemory))
+    → IfOk read (λ j. SaysJob (Some (command, rows)) j)
+    → ((j : Job) → SaysJob (Some (command, rows)) j → MatchResult read (λ k. k ≡ j) (λ e. e ≡ NoMemory))
     → IfErr read (λ e. e ≡ BadWord → SaysBadly (Some (command, rows)))
     → IfErr read (λ e. IsUsage e → ⊥)
     → IsReading (Some (name, rows)) read

@@ -3,7 +3,7 @@ use Rattle.std.specs.Prelude.{◌≡◌, ℕ, List, Some, true, false, codes, re
 use Rattle.std.specs.Str.{bytes_eq}
 use Rattle.std.proofs.Common.{subst, sym}
 use Rattle.clap.specs.Words.{Row, Text}
-use Rattle.desk_args.specs.CommandLine.{HasMoment, Says}
+use Rattle.desk_args.specs.CommandLine.{HasMoment, SaysJob}
 use Rattle.desk_args.specs.declared.task.Job.{Job}
 use Rattle.desk_args.specs.declared.task.Job.TheVariants.{Beyond, Check, Decide, Deliver, Print, Rebuild, Review, Serve}
 
@@ -12,7 +12,7 @@ apart name other same =
     let both : true ≡ false = subst (λ (word : Text). bytes_eq word (codes "review") ≡ false) (sym same) other in
     cc
 
-pub no_review : (rows : List Row) → ((m : ℕ) → HasMoment (codes "AT") rows m → ⊥) → (j : Job) → Says (Some (codes "review", rows)) j → ⊥
+pub no_review : (rows : List Row) → ((m : ℕ) → HasMoment (codes "AT") rows m → ⊥) → (j : Job) → SaysJob (Some (codes "review", rows)) j → ⊥
 no_review rows none (Check file) says = apart (codes "check") refl says.0
 no_review rows none (Decide file run) says = apart (codes "decide") refl says.0
 no_review rows none (Beyond a b scope) says = apart (codes "beyond") refl says.0

@@ -3,7 +3,7 @@ use Rattle.std.specs.Prelude.{◌≡◌, ℕ, List, Option, Some, true, false, c
 use Rattle.std.specs.Str.{bytes_eq}
 use Rattle.std.proofs.Common.{subst, sym}
 use Rattle.clap.specs.Words.{Row, Text}
-use Rattle.desk_args.specs.CommandLine.{ArePlaces, HasAddress, HasCount, Says}
+use Rattle.desk_args.specs.CommandLine.{ArePlaces, HasAddress, HasCount, SaysJob}
 use Rattle.desk_args.specs.declared.task.Address.{Address}
 use Rattle.desk_args.specs.declared.task.Job.{Job}
 use Rattle.desk_args.specs.declared.task.Job.TheVariants.{Beyond, Check, Decide, Deliver, Print, Rebuild, Review, Serve}
@@ -16,7 +16,7 @@ apart name other same =
 
 pub one_service : (rows : List Row) (p : Places) (a : Address) (n : Option ℕ) → ((q : Places) → ArePlaces rows q → p ≡ q)
     → ((b : Address) → HasAddress (codes "ADDR") rows b → a ≡ b) → ((m : Option ℕ) → HasCount (codes "REQUESTS") rows m → n ≡ m)
-    → (j : Job) → Says (Some (codes "serve", rows)) j → Serve p a n ≡ j
+    → (j : Job) → SaysJob (Some (codes "serve", rows)) j → Serve p a n ≡ j
 one_service rows p a n places address count (Check file) says = absurd (apart (codes "check") refl says.0)
 one_service rows p a n places address count (Decide file run) says = absurd (apart (codes "decide") refl says.0)
 one_service rows p a n places address count (Beyond x y scope) says = absurd (apart (codes "beyond") refl says.0)

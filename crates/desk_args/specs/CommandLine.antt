@@ -158,7 +158,7 @@ HasWords form most id rows texts =
     (values id rows ≡ texts) × (list_all form texts ≡ true) × (length texts ≤ most)
 
 -- the run that the values of `decide` describe
-pub record IsInvocation (rows : List Row) (run : Invocation) : Type 0 where
+pub record SaysRun (rows : List Row) (run : Invocation) : Type 0 where
   pub user : HasWord is_name (codes "USER") rows run.user
   pub host : HasWord is_host_name (codes "HOST") rows run.host
   pub runas : HasWord is_name (codes "RUNAS") rows run.runas
@@ -172,13 +172,13 @@ HasOption form id rows None = first_of id rows ≡ None
 HasOption form id rows (Some text) = HasWord form id rows text
 
 -- 1 to 7 digits
-abbrev pub is_number : Text → Bool
-is_number text = nat_lt 0 (length text) && (nat_le (length text) 7 && list_all is_ascii_digit text)
+abbrev pub is_digits : Text → Bool
+is_digits text = nat_lt 0 (length text) && (nat_le (length text) 7 && list_all is_ascii_digit text)
 
 -- such a number, from 1 to 1,000,000
 abbrev pub is_count : Text → Bool
 is_count text =
-    is_number text && (nat_lt 0 (digits_value 10 text) && nat_le (digits_value 10 text) 1_000_000)
+    is_digits text && (nat_lt 0 (digits_value 10 text) && nat_le (digits_value 10 text) 1_000_000)
 
 -- the option has this number as its value, or it is left out
 abbrev pub HasCount : Text → List Row → Option ℕ → Type 0
@@ -266,24 +266,24 @@ HasAddress id rows addr = (text : Text) × HasValue id rows text × SaysAddress 
 -- ---- what the line says
 
 -- the command of this name, with its values, says the job
-abbrev pub Says : Option (Text × List Row) → Job → Type 0
-Says None job = ⊥
-Says (Some line) (Check file) = (line.0 ≡ codes "check") × HasValue (codes "FILE") line.1 file
-Says (Some line) (Decide file run) =
-    (line.0 ≡ codes "decide") × HasValue (codes "FILE") line.1 file × IsInvocation line.1 run
-Says (Some line) (Beyond a b scope) =
+abbrev pub SaysJob : Option (Text × List Row) → Job → Type 0
+SaysJob None job = ⊥
+SaysJob (Some line) (Check file) = (line.0 ≡ codes "check") × HasValue (codes "FILE") line.1 file
+SaysJob (Some line) (Decide file run) =
+    (line.0 ≡ codes "decide") × HasValue (codes "FILE") line.1 file × SaysRun line.1 run
+SaysJob (Some line) (Beyond a b scope) =
     (line.0 ≡ codes "beyond") × HasValue (codes "A") line.1 a
     × HasValue (codes "B") line.1 b × IsScopeOf line.1 scope
-Says (Some line) (Deliver places relay) =
+SaysJob (Some line) (Deliver places relay) =
     (line.0 ≡ codes "deliver") × ArePlaces line.1 places × HasValue (codes "RELAY") line.1 relay
-Says (Some line) (Print places host after) =
+SaysJob (Some line) (Print places host after) =
     (line.0 ≡ codes "print") × ArePlaces line.1 places
     × HasWord is_host_name (codes "HOST") line.1 host
     × HasMomentIfGiven (codes "AFTER") line.1 after
-Says (Some line) (Review places at) =
+SaysJob (Some line) (Review places at) =
     (line.0 ≡ codes "review") × ArePlaces line.1 places × HasMoment (codes "AT") line.1 at
-Says (Some line) (Rebuild places) = (line.0 ≡ codes "rebuild") × ArePlaces line.1 places
-Says (Some line) (Serve places addr requests) =
+SaysJob (Some line) (Rebuild places) = (line.0 ≡ codes "rebuild") × ArePlaces line.1 places
+SaysJob (Some line) (Serve places addr requests) =
     (line.0 ≡ codes "serve") × ArePlaces line.1 places
     × HasAddress (codes "ADDR") line.1 addr × HasCount (codes "REQUESTS") line.1 requests
 
@@ -291,7 +291,7 @@ Says (Some line) (Serve places addr requests) =
 -- job.
 pub record IsCommandLine (words : List Text) (job : Job) : Type 0 where
   pub faultless : fault_of desk words ≡ []
-  pub says : Says (subcommand_of desk words) job
+  pub says : SaysJob (subcommand_of desk words) job
 
 -- ---- a value that is not of its form
 
@@ -350,8 +350,8 @@ pub data HasBadServing (rows : List Row) : Type 0 where
   bad_requests : HasBadWord is_count (codes "REQUESTS") rows → HasBadServing rows
 
 -- the command is one on a desk
-abbrev pub IsOnDesk : Text → Type 0
-IsOnDesk name =
+abbrev pub IsDeskCommand : Text → Type 0
+IsDeskCommand name =
     (name ≡ codes "deliver") ⊎ (name ≡ codes "print") ⊎ (name ≡ codes "review")
     ⊎ (name ≡ codes "rebuild") ⊎ (name ≡ codes "serve")
 
@@ -364,7 +364,7 @@ SaysBadly (Some line) =
     ⊎ ((line.0 ≡ codes "print") × HasBadPlace line.1)
     ⊎ ((line.0 ≡ codes "review") × HasBadMoment (codes "AT") line.1)
     ⊎ ((line.0 ≡ codes "serve") × HasBadServing line.1)
-    ⊎ (IsOnDesk line.0 × HasBadSync (codes "SYNC") line.1)
+    ⊎ (IsDeskCommand line.0 × HasBadSync (codes "SYNC") line.1)
 
 -- By clap's rules the words are a command of the program, without a fault, but a value is not of
 -- its form.

@@ -8,7 +8,7 @@ ghost use Rattle.sudo_decide.specs.declared.scope.Scope.{Scope as Fixed};
 ghost use Rattle.desk_args.specs.CommandLine as line;
 ghost use Rattle.desk_args.specs.CommandLine.{ArePlaces, HasBadScope, HasBadSync, HasBadValue};
 ghost use Rattle.desk_args.specs.CommandLine.{HasAllValues, HaveSome, IsBadLine, IsCommandLine};
-ghost use Rattle.desk_args.specs.CommandLine.{IsInvocation, IsScopeOf, Says, SaysBadly, desk};
+ghost use Rattle.desk_args.specs.CommandLine.{IsScopeOf, SaysBadly, SaysJob, SaysRun, desk};
 ghost use Rattle.desk_args.specs.Faults.{IsUsage};
 ghost use Rattle.desk_args.specs.private.Readings.{IsReading};
 ghost use Rattle.desk_args.specs.declared.fault.JobFault.TheVariants.{BadWord, NoMemory};
@@ -28,8 +28,8 @@ use sudo_decide::{Invocation, Scope};
 
 fn invocation(alloc: Global, matches: &ArgMatches<'_>) -> Result<Invocation, JobFault>
     requires { HaveSome line.decide_args (rows_of (found_of matches.now)) }
-    ensures found { IfOk result (λ run. IsInvocation (rows_of (found_of matches.now)) run) }
-    ensures only { (run : Run) → IsInvocation (rows_of (found_of matches.now)) run
+    ensures found { IfOk result (λ run. SaysRun (rows_of (found_of matches.now)) run) }
+    ensures only { (run : Run) → SaysRun (rows_of (found_of matches.now)) run
         → MatchResult result (λ r. r ≡ run) (λ e. e ≡ NoMemory) }
     ensures word { IfErr result (λ e. e ≡ BadWord → HasBadValue (rows_of (found_of matches.now))) }
     ensures usage { IfErr result (λ e. IsUsage e → ⊥) }
@@ -53,8 +53,8 @@ fn invocation(alloc: Global, matches: &ArgMatches<'_>) -> Result<Invocation, Job
 fn check(alloc: Global, matches: &ArgMatches<'_>) -> Result<Job, JobFault>
     requires { HaveSome line.check_args (rows_of (found_of matches.now)) }
     ensures found { IfOk result
-        (λ j. Says (Some (codes "check", rows_of (found_of matches.now))) j) }
-    ensures only { (j : Task) → Says (Some (codes "check", rows_of (found_of matches.now))) j
+        (λ j. SaysJob (Some (codes "check", rows_of (found_of matches.now))) j) }
+    ensures only { (j : Task) → SaysJob (Some (codes "check", rows_of (found_of matches.now))) j
         → MatchResult result (λ k. k ≡ j) (λ e. e ≡ NoMemory) }
     ensures word { IfErr result
         (λ e. e ≡ BadWord → SaysBadly (Some (codes "check", rows_of (found_of matches.now)))) }
@@ -68,8 +68,8 @@ fn check(alloc: Global, matches: &ArgMatches<'_>) -> Result<Job, JobFault>
 fn decide(alloc: Global, matches: &ArgMatches<'_>) -> Result<Job, JobFault>
     requires { HaveSome line.decide_args (rows_of (found_of matches.now)) }
     ensures found { IfOk result
-        (λ j. Says (Some (codes "decide", rows_of (found_of matches.now))) j) }
-    ensures only { (j : Task) → Says (Some (codes "decide", rows_of (found_of matches.now))) j
+        (λ j. SaysJob (Some (codes "decide", rows_of (found_of matches.now))) j) }
+    ensures only { (j : Task) → SaysJob (Some (codes "decide", rows_of (found_of matches.now))) j
         → MatchResult result (λ k. k ≡ j) (λ e. e ≡ NoMemory) }
     ensures word { IfErr result
         (λ e. e ≡ BadWord → SaysBadly (Some (codes "decide", rows_of (found_of matches.now)))) }
@@ -97,8 +97,8 @@ fn scope_of(alloc: Global, matches: &ArgMatches<'_>) -> Result<Scope, JobFault>
 fn beyond(alloc: Global, matches: &ArgMatches<'_>) -> Result<Job, JobFault>
     requires { HaveSome line.beyond_args (rows_of (found_of matches.now)) }
     ensures found { IfOk result
-        (λ j. Says (Some (codes "beyond", rows_of (found_of matches.now))) j) }
-    ensures only { (j : Task) → Says (Some (codes "beyond", rows_of (found_of matches.now))) j
+        (λ j. SaysJob (Some (codes "beyond", rows_of (found_of matches.now))) j) }
+    ensures only { (j : Task) → SaysJob (Some (codes "beyond", rows_of (found_of matches.now))) j
         → MatchResult result (λ k. k ≡ j) (λ e. e ≡ NoMemory) }
     ensures word { IfErr result
         (λ e. e ≡ BadWord → SaysBadly (Some (codes "beyond", rows_of (found_of matches.now)))) }
@@ -135,8 +135,8 @@ fn places(alloc: Global, matches: &ArgMatches<'_>) -> Result<Places, JobFault>
 fn deliver(alloc: Global, matches: &ArgMatches<'_>) -> Result<Job, JobFault>
     requires { HaveSome (line.desk_args (codes "RELAY")) (rows_of (found_of matches.now)) }
     ensures found { IfOk result
-        (λ j. Says (Some (codes "deliver", rows_of (found_of matches.now))) j) }
-    ensures only { (j : Task) → Says (Some (codes "deliver", rows_of (found_of matches.now))) j
+        (λ j. SaysJob (Some (codes "deliver", rows_of (found_of matches.now))) j) }
+    ensures only { (j : Task) → SaysJob (Some (codes "deliver", rows_of (found_of matches.now))) j
         → MatchResult result (λ k. k ≡ j) (λ e. e ≡ NoMemory) }
     ensures word { IfErr result
         (λ e. e ≡ BadWord → SaysBadly (Some (codes "deliver", rows_of (found_of matches.now)))) }
@@ -150,8 +150,8 @@ fn deliver(alloc: Global, matches: &ArgMatches<'_>) -> Result<Job, JobFault>
 fn print(alloc: Global, matches: &ArgMatches<'_>) -> Result<Job, JobFault>
     requires { HaveSome (line.desk_args (codes "HOST")) (rows_of (found_of matches.now)) }
     ensures found { IfOk result
-        (λ j. Says (Some (codes "print", rows_of (found_of matches.now))) j) }
-    ensures only { (j : Task) → Says (Some (codes "print", rows_of (found_of matches.now))) j
+        (λ j. SaysJob (Some (codes "print", rows_of (found_of matches.now))) j) }
+    ensures only { (j : Task) → SaysJob (Some (codes "print", rows_of (found_of matches.now))) j
         → MatchResult result (λ k. k ≡ j) (λ e. e ≡ NoMemory) }
     ensures word { IfErr result
         (λ e. e ≡ BadWord → SaysBadly (Some (codes "print", rows_of (found_of matches.now)))) }
@@ -170,8 +170,8 @@ fn print(alloc: Global, matches: &ArgMatches<'_>) -> Result<Job, JobFault>
 fn review(alloc: Global, matches: &ArgMatches<'_>) -> Result<Job, JobFault>
     requires { HaveSome (line.desk_args (codes "AT")) (rows_of (found_of matches.now)) }
     ensures found { IfOk result
-        (λ j. Says (Some (codes "review", rows_of (found_of matches.now))) j) }
-    ensures only { (j : Task) → Says (Some (codes "review", rows_of (found_of matches.now))) j
+        (λ j. SaysJob (Some (codes "review", rows_of (found_of matches.now))) j) }
+    ensures only { (j : Task) → SaysJob (Some (codes "review", rows_of (found_of matches.now))) j
         → MatchResult result (λ k. k ≡ j) (λ e. e ≡ NoMemory) }
     ensures word { IfErr result
         (λ e. e ≡ BadWord → SaysBadly (Some (codes "review", rows_of (found_of matches.now)))) }
@@ -185,8 +185,8 @@ fn review(alloc: Global, matches: &ArgMatches<'_>) -> Result<Job, JobFault>
 fn rebuild(alloc: Global, matches: &ArgMatches<'_>) -> Result<Job, JobFault>
     requires { HaveSome line.place_args (rows_of (found_of matches.now)) }
     ensures found { IfOk result
-        (λ j. Says (Some (codes "rebuild", rows_of (found_of matches.now))) j) }
-    ensures only { (j : Task) → Says (Some (codes "rebuild", rows_of (found_of matches.now))) j
+        (λ j. SaysJob (Some (codes "rebuild", rows_of (found_of matches.now))) j) }
+    ensures only { (j : Task) → SaysJob (Some (codes "rebuild", rows_of (found_of matches.now))) j
         → MatchResult result (λ k. k ≡ j) (λ e. e ≡ NoMemory) }
     ensures word { IfErr result
         (λ e. e ≡ BadWord → SaysBadly (Some (codes "rebuild", rows_of (found_of matches.now)))) }
@@ -200,8 +200,8 @@ fn rebuild(alloc: Global, matches: &ArgMatches<'_>) -> Result<Job, JobFault>
 fn serve(alloc: Global, matches: &ArgMatches<'_>) -> Result<Job, JobFault>
     requires { HaveSome (line.desk_args (codes "ADDR")) (rows_of (found_of matches.now)) }
     ensures found { IfOk result
-        (λ j. Says (Some (codes "serve", rows_of (found_of matches.now))) j) }
-    ensures only { (j : Task) → Says (Some (codes "serve", rows_of (found_of matches.now))) j
+        (λ j. SaysJob (Some (codes "serve", rows_of (found_of matches.now))) j) }
+    ensures only { (j : Task) → SaysJob (Some (codes "serve", rows_of (found_of matches.now))) j
         → MatchResult result (λ k. k ≡ j) (λ e. e ≡ NoMemory) }
     ensures word { IfErr result
         (λ e. e ≡ BadWord → SaysBadly (Some (codes "serve", rows_of (found_of matches.now)))) }

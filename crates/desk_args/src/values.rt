@@ -10,7 +10,7 @@ ghost use Rattle.desk_args.specs.CommandLine.{HasAddress, HasBadAddress, HasBadM
 ghost use Rattle.desk_args.specs.CommandLine.{HasBadWord, HasBadWords, HasCount, HasMoment};
 ghost use Rattle.desk_args.specs.CommandLine.{HasMomentIfGiven, HasOption, HasSome, HasStore};
 ghost use Rattle.desk_args.specs.CommandLine.{HasSync, HasValue, HasWord, HasWords, SaysSync};
-ghost use Rattle.desk_args.specs.CommandLine.{is_count, is_number, values};
+ghost use Rattle.desk_args.specs.CommandLine.{is_count, is_digits, values};
 ghost use Rattle.desk_args.specs.Faults.{IsUsage};
 ghost use Rattle.desk_args.specs.declared.fault.JobFault.TheVariants.{BadWord, NoMemory};
 ghost use Rattle.desk_args.specs.declared.task.Address.{Address as Listened};
@@ -88,7 +88,7 @@ pub fn word_if_given<F: Form>(
 
 /// The number that 1 to 7 digits write.
 fn number_of(value: &[u8]) -> Option<u64>
-    ensures { result ≡ (if is_number value.now then Some (digits_value 10 value.now) else None) }
+    ensures { result ≡ (if is_digits value.now then Some (digits_value 10 value.now) else None) }
 {
     if value.len() > MOST_DIGITS {
         return None;

@@ -17,7 +17,7 @@ use Rattle.grants.specs.Verdicts.{IsComplete, IsGiven}
 use Rattle.grants.proofs.MemberCases.{nothing_there, cases_behind}
 use Rattle.grants.proofs.Members.{Contains-head, Contains-behind}
 use Rattle.grants.proofs.StatusLaws.{complete}
-use Rattle.findings.specs.Judging.{is_about, IsCompletionOf, messages_on}
+use Rattle.findings.specs.Judging.{IsCompletionOf, is_verdict_on, messages_on}
 
 -- ---- the members of a filter, and of a list of verdicts
 
@@ -67,16 +67,16 @@ module _ (f : RosterFields Cmnd) (set : List Message) (q : RequestFields) (vs : 
     (has : (v : VerdictFields) → IsAbout q v → (Contains vs v ↔ Contains set (Verdict v))) where
   to_set : (v : VerdictFields) → IsAbout q v → Contains (messages_on q vs) (Verdict v) → Contains set (Verdict v)
   to_set v about m =
-      elim (cases_behind (Request q) (map Verdict (filter (is_about q) vs)) (Verdict v) m) as (λ _. Contains set (Verdict v)) [
+      elim (cases_behind (Request q) (map Verdict (filter (is_verdict_on q) vs)) (Verdict v) m) as (λ _. Contains set (Verdict v)) [
         | inl same ↦ absurd cc
-        | inr there ↦ (has v about).0 (out_of_filter (is_about q) vs v (of_message (filter (is_about q) vs) v there))
+        | inr there ↦ (has v about).0 (out_of_filter (is_verdict_on q) vs v (of_message (filter (is_verdict_on q) vs) v there))
       ]
 
   of_set : (v : VerdictFields) → IsAbout q v → Contains set (Verdict v) → Contains (messages_on q vs) (Verdict v)
   of_set v about m =
       let test = and_from _ _ ((bytes_eq-Decides v.of q.by).1 about.0) ((Decides-eqb v.no q.no).1 about.1) in
-      Contains-behind (Request q) (map Verdict (filter (is_about q) vs)) (Verdict v)
-      (as_message (filter (is_about q) vs) v (in_filter (is_about q) vs v ((has v about).1 m) test))
+      Contains-behind (Request q) (map Verdict (filter (is_verdict_on q) vs)) (Verdict v)
+      (as_message (filter (is_verdict_on q) vs) v (in_filter (is_verdict_on q) vs v ((has v about).1 m) test))
 
   given_there : (kind : VerdictKind) (v : VerdictFields) → IsGiven f (messages_on q vs) q kind v → IsGiven f set q kind v
   given_there kind v g = record {

@@ -3,7 +3,7 @@ use Rattle.std.proofs.Common.{◌≡◌, ℕ, ◌+◌, ◌<◌, ◌≤◌, Bool,
 use Rattle.std.specs.List.{flat_map}
 use Rattle.std.proofs.Math.Seq.{drop-cons}
 use Rattle.std.proofs.lemmas.List.{append-nil, append_assoc, drop_all}
-use Rattle.findings.specs.Document.{AreTextsOf, comma, joined}
+use Rattle.findings.specs.Document.{AreTextsOf, comma_before, joined}
 use Rattle.findings.specs.private.Writing.{Adds, AddsJoined}
 
 -- the rest of a list begins with the element at its place
@@ -14,12 +14,12 @@ drop_next {X} xs i x below is = rw add-one (drop-cons xs i x below ∙ ap (λ (y
 
 module _ {X : Type 0} (f : X → List ℕ) (xs : List X) (i : ℕ) (first : Bool) (out total : List ℕ)
     (before : out ++ joined first (map f (drop i xs)) ≡ total) where
-  pub joined_more : (x : X) (mid new : List ℕ) → i < length xs → x ≡ get_or xs i x → mid ≡ out ++ comma first → new ≡ mid ++ f x
+  pub joined_more : (x : X) (mid new : List ℕ) → i < length xs → x ≡ get_or xs i x → mid ≡ out ++ comma_before first → new ≡ mid ++ f x
       → new ++ joined false (map f (drop (i + 1) xs)) ≡ total
   joined_more x mid new below is added text =
       let rest : List ℕ = joined false (map f (drop (i + 1) xs)) in
-      ap (λ (t : List ℕ). t ++ rest) (text ∙ ap (λ (t : List ℕ). t ++ f x) added ∙ append_assoc out (comma first) (f x))
-      ∙ append_assoc out (comma first ++ f x) rest
+      ap (λ (t : List ℕ). t ++ rest) (text ∙ ap (λ (t : List ℕ). t ++ f x) added ∙ append_assoc out (comma_before first) (f x))
+      ∙ append_assoc out (comma_before first ++ f x) rest
       ∙ ap (λ (ys : List X). out ++ joined first (map f ys)) (sym (drop_next xs i x below is))
       ∙ before
 
@@ -51,7 +51,7 @@ AddsRest IsText xs rest first old out =
 
 module _ {X : Type 0} (IsText : X → List ℕ → Type 0) (xs : List X) (i : ℕ) (first : Bool) (old out : List ℕ)
     (before : AddsRest IsText xs (drop i xs) first old out) where
-  pub rest_more : (x : X) (mid new : List ℕ) → i < length xs → x ≡ get_or xs i x → mid ≡ out ++ comma first → Adds (IsText x) mid new
+  pub rest_more : (x : X) (mid new : List ℕ) → i < length xs → x ≡ get_or xs i x → mid ≡ out ++ comma_before first → Adds (IsText x) mid new
       → AddsRest IsText xs (drop (i + 1) xs) false old new
   rest_more x mid new below is added adds more are =
       let rest : List ℕ = joined false more in
@@ -59,8 +59,8 @@ module _ {X : Type 0} (IsText : X → List ℕ → Type 0) (xs : List X) (i : �
       let whole = before texts (subst (λ (ys : List X). AreTextsOf IsText ys texts) (sym (drop_next xs i x below is)) (adds.0, more, refl, adds.2, are)) in (
         whole.0,
         whole.1,
-        ap (λ (t : List ℕ). t ++ rest) (adds.1 ∙ ap (λ (t : List ℕ). t ++ adds.0) added ∙ append_assoc out (comma first) adds.0)
-            ∙ append_assoc out (comma first ++ adds.0) rest
+        ap (λ (t : List ℕ). t ++ rest) (adds.1 ∙ ap (λ (t : List ℕ). t ++ adds.0) added ∙ append_assoc out (comma_before first) adds.0)
+            ∙ append_assoc out (comma_before first ++ adds.0) rest
             ∙ whole.2,
       )
 

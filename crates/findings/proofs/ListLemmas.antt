@@ -12,7 +12,7 @@ use Rattle.messages.specs.Names.{IsAbout}
 use Rattle.messages.specs.declared.message.Message.{Message}
 use Rattle.messages.specs.declared.message.Message.TheVariants.{Request, Verdict}
 use Rattle.grants.proofs.MemberCases.{nothing_there, cases_behind}
-use Rattle.findings.specs.Judging.{is_about, messages_on}
+use Rattle.findings.specs.Judging.{is_verdict_on, messages_on}
 
 -- ---- tests
 
@@ -41,21 +41,21 @@ take_next xs k x below is = take_more xs k x below ∙ ap (λ y. take k xs ++ y 
 
 -- ---- a request's verdicts
 
-pub is_about_it : (q : RequestFields) (v : VerdictFields) → is_about q v ≡ true → IsAbout q v
+pub is_about_it : (q : RequestFields) (v : VerdictFields) → is_verdict_on q v ≡ true → IsAbout q v
 is_about_it q v e =
     let p = and_parts _ _ e in
     ((bytes_eq-Decides v.of q.by).0 p.0, (Decides-eqb v.no q.no).0 p.1)
 
-one_more : (q : RequestFields) (vs : List VerdictFields) (v : VerdictFields) (b : Bool) → is_about q v ≡ b
+one_more : (q : RequestFields) (vs : List VerdictFields) (v : VerdictFields) (b : Bool) → is_verdict_on q v ≡ b
     → messages_on q (vs ++ v ∷ []) ≡ messages_on q vs ++ map Verdict (cond b (v ∷ []) [])
 one_more q vs v b e =
-    ap (λ (xs : List VerdictFields). Request q ∷ map Verdict xs) (filter-append (is_about q) vs (v ∷ []))
-    ∙ ap (λ (ms : List Message). Request q ∷ ms) (map-append Verdict (filter (is_about q) vs) (filter (is_about q) (v ∷ [])))
+    ap (λ (xs : List VerdictFields). Request q ∷ map Verdict xs) (filter-append (is_verdict_on q) vs (v ∷ []))
+    ∙ ap (λ (ms : List Message). Request q ∷ ms) (map-append Verdict (filter (is_verdict_on q) vs) (filter (is_verdict_on q) (v ∷ [])))
     ∙ ap (λ (c : Bool). messages_on q vs ++ map Verdict (cond c (v ∷ []) [])) e
 
-pub one_about : (q : RequestFields) (vs : List VerdictFields) (v : VerdictFields) → is_about q v ≡ true
+pub one_about : (q : RequestFields) (vs : List VerdictFields) (v : VerdictFields) → is_verdict_on q v ≡ true
     → messages_on q (vs ++ v ∷ []) ≡ messages_on q vs ++ Verdict v ∷ []
 one_about q vs v e = one_more q vs v true e
 
-pub none_about : (q : RequestFields) (vs : List VerdictFields) (v : VerdictFields) → is_about q v ≡ false → messages_on q (vs ++ v ∷ []) ≡ messages_on q vs
+pub none_about : (q : RequestFields) (vs : List VerdictFields) (v : VerdictFields) → is_verdict_on q v ≡ false → messages_on q (vs ++ v ∷ []) ≡ messages_on q vs
 none_about q vs v e = one_more q vs v false e ∙ append-nil (messages_on q vs)

@@ -23,7 +23,7 @@ use Rattle.grants.proofs.Answering.{no_denial, one_denial}
 use Rattle.findings.specs.Document.{AreTextsOf, IsDenialOf, IsDocument, IsEntryText, document, host_window_json, lacks_json, lapsed, requests_json}
 use Rattle.findings.specs.Document.{status_json, verdicts_json}
 use Rattle.findings.specs.Effects.{approvals_under, effect}
-use Rattle.findings.specs.Judging.{Asked, IsCompletionOf, approvers_of, ceiling_of, messages_on, only_one, only_request, or_own, waiting_as}
+use Rattle.findings.specs.Judging.{Asked, IsCompletionOf, approvers_of, ceiling_asked, messages_on, only_one, only_request, or_own, waiting_as}
 use Rattle.findings.specs.Windows.{AreWindows, window_cmp, windows_by, windows_of}
 use Rattle.findings.specs.declared.by_host.HostWindow.{HostWindow}
 use Rattle.findings.specs.declared.entry.AuditEntry.{AuditEntry}
@@ -44,15 +44,15 @@ parts_of e = record { name = e.name; requests = e.about.requests.items; verdicts
 module _ (f : RosterFields Cmnd) where
   -- the request that waits
   abbrev waiting_in : Parts → Option Asked
-  waiting_in p = waiting_as p.status (only_one (ceiling_of f p.requests) p.requests)
+  waiting_in p = waiting_as p.status (only_one (ceiling_asked f p.requests) p.requests)
 
   abbrev approvals_in : Parts → List VerdictFields
-  approvals_in p = approvals_under f (ceiling_of f p.requests) p.verdicts
+  approvals_in p = approvals_under f (ceiling_asked f p.requests) p.verdicts
 
   abbrev json_of : (until : Option ℕ) → Parts → (complete : Option ℕ) → Option Denial → List ℕ
   json_of until p complete denial =
       status_json p.name p.status denial ++ requests_json p.requests
-      ++ verdicts_json (λ v. effect f (ceiling_of f p.requests) complete p.status v) p.verdicts
+      ++ verdicts_json (λ v. effect f (ceiling_asked f p.requests) complete p.status v) p.verdicts
       ++ lacks_json (option_map (λ a. a.1.needs - length (approvals_in p)) (waiting_in p)) (option_map (λ a. or_own until a.0) (waiting_in p))
       (λ at. approvers_of f (approvals_in p) at (waiting_in p)) ++ codes "}"
 

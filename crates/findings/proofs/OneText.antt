@@ -5,7 +5,7 @@ use Rattle.roster.specs.Fields.{RosterFields}
 use Rattle.grants.specs.declared.denial.Denial.{Denial}
 use Rattle.findings.specs.Document.{AreTextsOf, lapsed}
 use Rattle.findings.specs.Judging.{only_request}
-use Rattle.findings.specs.Terminal.{AreEntryLines, IsText, entry_lines, text, those_under}
+use Rattle.findings.specs.Terminal.{AreEntryLines, IsTerminalText, entry_lines, text, those_under}
 use Rattle.findings.specs.declared.by_host.HostWindow.{HostWindow}
 use Rattle.findings.specs.declared.entry.AuditEntry.{AuditEntry}
 use Rattle.findings.specs.declared.pick.Pick.{Pick}
@@ -27,7 +27,7 @@ one_entry f until e s t x y =
     ∙ ap (λ (d : Option Denial). entry_lines f until e y.0 d) (one_denial_of f (lapsed e.status qs) x.1 y.1 x.3 y.3)
     ∙ sym y.4
 
-pub one_text : (f : RosterFields Cmnd) (pick : Pick) (es : List AuditEntry) (s t : List ℕ) → IsText f pick es s → IsText f pick es t → s ≡ t
+pub one_text : (f : RosterFields Cmnd) (pick : Pick) (es : List AuditEntry) (s t : List ℕ) → IsTerminalText f pick es s → IsTerminalText f pick es t → s ≡ t
 one_text f pick es s t a b =
     let IsOne : AuditEntry → List ℕ → Type 0 = AreEntryLines f pick.until in
     let one = one_entry f pick.until in

@@ -89,7 +89,7 @@ IsMomentOf (Some word) None = ⊥
 IsMomentOf (Some word) (Some t) = IsStamp word t
 
 -- Three words are the files, and each option has its own word.
-pub record Asks (h : Heard) (q : Question) : Type 0 where
+pub record WordsAsk (h : Heard) (q : Question) : Type 0 where
   pub places :
       h.places ≡ string_bytes q.roster ∷ string_bytes q.base ∷ string_bytes q.store ∷ []
   pub from : IsMomentOf h.from q.pick.from

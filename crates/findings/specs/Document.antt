@@ -19,7 +19,7 @@ use Rattle.grants.specs.declared.outcome.Window.{Window}
 use Rattle.grants.specs.declared.weighing.Weight.TheVariants.{Counts, Asker, Duty, Conflict}
 use Rattle.findings.specs.Effects.{effect_text}
 use Rattle.findings.specs.Judging.{approvers, asked_at, effect_on, IsCompletionOn, lacks}
-use Rattle.findings.specs.Judging.{status_text}
+use Rattle.findings.specs.Judging.{status_word}
 use Rattle.findings.specs.declared.by_host.HostWindow.{HostWindow}
 use Rattle.findings.specs.declared.effects.Effect.{Effect}
 use Rattle.findings.specs.declared.effects.Effect.TheVariants.{Weighs, Late}
@@ -30,14 +30,14 @@ use Rattle.findings.specs.Windows.{AreWindows}
 
 -- ---- lists
 
-abbrev pub comma : (is_first : Bool) → List ℕ
-comma true = []
-comma false = codes ","
+abbrev pub comma_before : (is_first : Bool) → List ℕ
+comma_before true = []
+comma_before false = codes ","
 
 -- the texts one after the other, with a comma before each but the first
 abbrev pub joined : (is_first : Bool) → List (List ℕ) → List ℕ
 joined is_first [] = []
-joined is_first (t ∷ ts) = comma is_first ++ t ++ joined false ts
+joined is_first (t ∷ ts) = comma_before is_first ++ t ++ joined false ts
 
 -- ---- a verdict
 
@@ -101,7 +101,7 @@ abbrev pub name_json : RequestName → List ℕ
 name_json name = codes "\"by\":\"" ++ name.by ++ codes "\",\"no\":" ++ decimal name.no
 
 abbrev pub word_json : Option Status → List ℕ
-word_json status = codes ",\"status\":\"" ++ status_text status ++ codes "\","
+word_json status = codes ",\"status\":\"" ++ status_word status ++ codes "\","
 
 abbrev pub status_json : RequestName → Option Status → Option Denial → List ℕ
 status_json name status denial =
@@ -109,8 +109,8 @@ status_json name status denial =
 
 -- ---- what it lacks
 
-abbrev pub quoted : List ℕ → List ℕ
-quoted word = codes "\"" ++ word ++ codes "\""
+abbrev pub in_quotes : List ℕ → List ℕ
+in_quotes word = codes "\"" ++ word ++ codes "\""
 
 abbrev pub asked_json : (count at : ℕ) → List ℕ
 asked_json count at =
@@ -123,7 +123,7 @@ waiting_json count at people = asked_json count at ++ joined true people ++ code
 abbrev pub lacks_json : Option ℕ → Option ℕ → (people : ℕ → List (List ℕ)) → List ℕ
 lacks_json None at people = []
 lacks_json (Some count) None people = []
-lacks_json (Some count) (Some at) people = waiting_json count at (map quoted (people at))
+lacks_json (Some count) (Some at) people = waiting_json count at (map in_quotes (people at))
 
 -- ---- an entry
 

@@ -39,8 +39,8 @@ is_refusal Refuse = true
 is_refusal Revoke = false
 
 -- it is an approval, and counts
-abbrev pub approves : RosterFields Cmnd → CeilingFields Cmnd → VerdictFields → Bool
-approves f c v = is_approval v.kind && counts f c v
+abbrev pub counts_as_approval : RosterFields Cmnd → CeilingFields Cmnd → VerdictFields → Bool
+counts_as_approval f c v = is_approval v.kind && counts f c v
 
 -- one of the verdicts is the person's
 abbrev pub is_of_one : List VerdictFields → (person : List ℕ) → Bool
@@ -49,7 +49,7 @@ is_of_one vs person = list_any (λ v. bytes_eq v.by person) vs
 -- it is an approval that counts, and the first of its author's
 abbrev pub is_first : RosterFields Cmnd → CeilingFields Cmnd
     → (so_far : List VerdictFields) → VerdictFields → Bool
-is_first f c so_far v = approves f c v && not (is_of_one so_far v.by)
+is_first f c so_far v = counts_as_approval f c v && not (is_of_one so_far v.by)
 
 abbrev pub with_first : RosterFields Cmnd → CeilingFields Cmnd
     → (so_far : List VerdictFields) → VerdictFields → List VerdictFields

@@ -19,22 +19,22 @@ use Rattle.findings.specs.declared.effects.Effect.{Effect}
 use Rattle.findings.specs.declared.entry.AuditEntry.{AuditEntry}
 
 -- the word for a status; without one, nobody asks
-abbrev pub status_text : Option Status → List ℕ
-status_text None = codes "parked"
-status_text (Some Disputed) = codes "disputed"
-status_text (Some Lapsed) = codes "lapsed"
-status_text (Some Refused) = codes "refused"
-status_text (Some Waiting) = codes "waiting"
-status_text (Some Void) = codes "void"
-status_text (Some (Granted w)) = codes "granted"
+abbrev pub status_word : Option Status → List ℕ
+status_word None = codes "parked"
+status_word (Some Disputed) = codes "disputed"
+status_word (Some Lapsed) = codes "lapsed"
+status_word (Some Refused) = codes "refused"
+status_word (Some Waiting) = codes "waiting"
+status_word (Some Void) = codes "void"
+status_word (Some (Granted w)) = codes "granted"
 
 -- the ceiling of the first of the requests, if the roster has it
-abbrev pub ceiling_of : RosterFields Cmnd → List RequestFields → Option (CeilingFields Cmnd)
-ceiling_of f [] = None
-ceiling_of f (q ∷ more) = ceiling_at f q.ceiling
+abbrev pub ceiling_asked : RosterFields Cmnd → List RequestFields → Option (CeilingFields Cmnd)
+ceiling_asked f [] = None
+ceiling_asked f (q ∷ more) = ceiling_at f q.ceiling
 
 abbrev pub ceiling_for : RosterFields Cmnd → AuditEntry → Option (CeilingFields Cmnd)
-ceiling_for f e = ceiling_of f e.about.requests.items
+ceiling_for f e = ceiling_asked f e.about.requests.items
 
 -- each person's first approval that counts
 abbrev pub approvals_for : RosterFields Cmnd → AuditEntry → List VerdictFields
@@ -49,12 +49,12 @@ only_request (q ∷ []) = Some q
 only_request (q ∷ r ∷ more) = None
 
 -- the verdict is about the request
-abbrev pub is_about : RequestFields → VerdictFields → Bool
-is_about q v = bytes_eq v.of q.by && (v.no == q.no)
+abbrev pub is_verdict_on : RequestFields → VerdictFields → Bool
+is_verdict_on q v = bytes_eq v.of q.by && (v.no == q.no)
 
 -- the request and the verdicts on it
 abbrev pub messages_on : RequestFields → List VerdictFields → List Message
-messages_on q vs = Request q ∷ map Verdict (filter (is_about q) vs)
+messages_on q vs = Request q ∷ map Verdict (filter (is_verdict_on q) vs)
 
 -- the moment at which a name's only request was complete, by the verdicts on it, if it ever was
 abbrev pub IsCompletionOf : RosterFields Cmnd → Option RequestFields

@@ -22,7 +22,7 @@ use Rattle.grants.specs.declared.outcome.Window.{Window}
 use Rattle.findings.specs.Document.{AreTextsOf, IsDenialOn}
 use Rattle.findings.specs.Effects.{effect_text}
 use Rattle.findings.specs.Judging.{approvers, asked_at, effect_on, IsCompletionOn, lacks}
-use Rattle.findings.specs.Judging.{status_text}
+use Rattle.findings.specs.Judging.{status_word}
 use Rattle.findings.specs.Windows.{AreWindows}
 use Rattle.findings.specs.declared.by_host.HostWindow.{HostWindow}
 use Rattle.findings.specs.declared.effects.Effect.{Effect}
@@ -100,7 +100,7 @@ name_text name = name.by ++ codes " " ++ decimal name.no
 
 abbrev pub status_line : RequestName → Option Status → Option Denial → List ℕ
 status_line name status denial =
-    name_text name ++ codes "  " ++ status_text status ++ window_text status ++ why_text denial
+    name_text name ++ codes "  " ++ status_word status ++ window_text status ++ why_text denial
     ++ codes "\n"
 
 -- ---- the requests
@@ -194,7 +194,7 @@ text requests parked windows =
 
 -- The entries of names under which somebody asks, then those of the others, each in their order,
 -- and the windows on the hosts that are asked about.
-pub record IsText (f : RosterFields Cmnd)
+pub record IsTerminalText (f : RosterFields Cmnd)
     (pick : Pick) (entries : List AuditEntry) (whole : List ℕ) : Type 0 where
   pub requests : List (List ℕ)
   pub parked : List (List ℕ)

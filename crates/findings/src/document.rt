@@ -25,7 +25,7 @@ use sudo_words::{Moment, Name, NoMemory};
 /// Adds a comma before each element but the first.
 fn push_comma(out: &mut String, is_first: bool) -> Result<(), NoMemory>
     ensures { OnOk result
-        (string_bytes out.new ≡ string_bytes out.old ++ document.comma is_first) }
+        (string_bytes out.new ≡ string_bytes out.old ++ document.comma_before is_first) }
 {
     if !is_first {
         out.push_str(",")?;
@@ -129,7 +129,7 @@ fn push_verdicts(
 /// Adds a word between quotes.
 fn push_quoted(out: &mut String, word: &str) -> Result<(), NoMemory>
     ensures { OnOk result
-        (string_bytes out.new ≡ string_bytes out.old ++ document.quoted word.now) }
+        (string_bytes out.new ≡ string_bytes out.old ++ document.in_quotes word.now) }
 {
     out.push_str("\"")?;
     out.push_str(word)?;
@@ -139,7 +139,7 @@ fn push_quoted(out: &mut String, word: &str) -> Result<(), NoMemory>
 
 fn push_people(out: &mut String, people: &[&Name]) -> Result<(), NoMemory>
     ensures { OnOk result (string_bytes out.new ≡ string_bytes out.old
-        ++ document.joined true (map (λ p. document.quoted p.now) people.now)) }
+        ++ document.joined true (map (λ p. document.in_quotes p.now) people.now)) }
 {
     let mut is_first = true;
     for person in people {
@@ -166,7 +166,7 @@ fn push_asked(out: &mut String, lacks: u64, at: Moment) -> Result<(), NoMemory>
 /// Adds how many approvals it lacks, and who may give one at the moment.
 fn push_waiting(out: &mut String, lacks: u64, at: Moment, people: &[&Name]) -> Result<(), NoMemory>
     ensures { OnOk result (string_bytes out.new ≡ string_bytes out.old
-        ++ document.waiting_json lacks at (map (λ p. document.quoted p.now) people.now)) }
+        ++ document.waiting_json lacks at (map (λ p. document.in_quotes p.now) people.now)) }
 {
     push_asked(out, lacks, at)?;
     push_people(out, people)?;

@@ -119,7 +119,7 @@ pub(crate) fn has_one(verdicts: &[&Verdict], person: &Name) -> bool
 
 /// Whether it is an approval, and counts.
 fn approves(roster: &Roster, ceiling: &Ceiling, verdict: &Verdict) -> bool
-    ensures { result ≡ effects.approves roster.now.says ceiling.now verdict.now }
+    ensures { result ≡ effects.counts_as_approval roster.now.says ceiling.now verdict.now }
 {
     is_approval(verdict.kind()) && counts(roster, ceiling, verdict)
 }

@@ -18,7 +18,7 @@ use sudo_words::{Moment, Name, NoMemory};
 
 /// The word for a status.
 pub(crate) fn status_word(status: &Option<Status>) -> &'static str
-    ensures { result.now ≡ says.status_text status.now }
+    ensures { result.now ≡ says.status_word status.now }
 {
     match status {
         None => "parked",
@@ -50,7 +50,7 @@ pub(crate) struct Judged<'a> {
 
 /// The ceiling of the first of the requests, if there is one and the roster has its ceiling.
 fn ceiling_of<'a>(roster: &'a Roster, requests: &'a [Request]) -> Option<&'a Ceiling>
-    ensures { option_map (λ c. c.now) result ≡ says.ceiling_of roster.now.says requests.now }
+    ensures { option_map (λ c. c.now) result ≡ says.ceiling_asked roster.now.says requests.now }
 {
     match requests {
         [request, ..] => roster.ceiling(request.ceiling()),
@@ -76,7 +76,7 @@ fn approvals_under<'a>(
 
 /// Whether the verdict is about the request.
 fn is_about(request: &Request, verdict: &Verdict) -> bool
-    ensures { result ≡ says.is_about request.now verdict.now }
+    ensures { result ≡ says.is_verdict_on request.now verdict.now }
 {
     verdict.of() == request.by() && verdict.no() == request.no()
 }

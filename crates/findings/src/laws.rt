@@ -15,7 +15,7 @@ ghost use Rattle.grants.specs.WorkedAdmission as worked;
 ghost use Rattle.grants.specs.declared.outcome.Status.TheVariants as statuses;
 ghost use Rattle.findings.specs.Document.{IsDocument};
 ghost use Rattle.findings.specs.Judging.{IsCompletionOf};
-ghost use Rattle.findings.specs.Terminal.{IsText};
+ghost use Rattle.findings.specs.Terminal.{IsTerminalText};
 ghost use Rattle.findings.specs.Terminal as terminal;
 ghost use Rattle.findings.specs.declared.entry.AuditEntry.{AuditEntry};
 ghost use Rattle.findings.specs.declared.pick.Pick.{Pick};
@@ -39,7 +39,7 @@ pub fn one_document()
 /// Entries have one text for a terminal.
 pub fn one_text()
     ensures { (f : RosterFields Cmnd) (pick : Pick) (entries : List AuditEntry) (s t : List ℕ)
-        → IsText f pick entries s → IsText f pick entries t → s ≡ t }
+        → IsTerminalText f pick entries s → IsTerminalText f pick entries t → s ≡ t }
 {}
 
 /// No word is lost where a line goes on below, and none is added: without its spaces and line ends

@@ -372,7 +372,7 @@ pub fn text(
     entries: &[AuditEntry],
 ) -> Result<String, NoMemory>
     ensures { IfOk result
-        (λ s. terminal.IsText roster.now.says pick.now entries.now (string_bytes s)) }
+        (λ s. terminal.IsTerminalText roster.now.says pick.now entries.now (string_bytes s)) }
 {
     let mut out = String::new(alloc);
     out.push_str("REQUESTS\n")?;

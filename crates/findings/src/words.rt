@@ -210,7 +210,7 @@ fn nothing(alloc: Global) -> Said
 /// The question, if the words are complete: three positional arguments, and no option without its
 /// value.
 fn finish(said: Said) -> Result<Question, WordsFault>
-    ensures { (h : asking.Heard) → Hears said h → IfOk result (asking.Asks h) }
+    ensures { (h : asking.Heard) → Hears said h → IfOk result (asking.WordsAsk h) }
 {
     let Said {
         places,
@@ -235,7 +235,7 @@ fn finish(said: Said) -> Result<Question, WordsFault>
 /// without the program's own name at the front.
 pub fn asked_by(alloc: Global, words: &[String]) -> Result<Question, WordsFault>
     ensures { IfOk result
-        (asking.Asks (asking.hear_all asking.nothing_heard (map string_bytes words.now))) }
+        (asking.WordsAsk (asking.hear_all asking.nothing_heard (map string_bytes words.now))) }
 {
     let mut said = nothing(alloc);
     for word in words {

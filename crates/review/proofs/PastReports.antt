@@ -18,9 +18,10 @@ use Rattle.grants.specs.Past.{AreMadeBy}
 use Rattle.grants.specs.declared.outcome.Window.{Window}
 use Rattle.grants.proofs.PastLaws.{judge_alike, status}
 use Rattle.sudo_words.specs.Lists.{AreParts, IsEachOnce}
+use Rattle.suspects.specs.LookedAt.{approval}
 use Rattle.review.specs.declared.reason.Reason.{Reason}
 use Rattle.review.specs.declared.reason.Reason.TheVariants.{Asker, Duty, Conflict}
-use Rattle.review.specs.Barred.{AreBarredLines, HasApprovedAt, IsWhy, approval, reason}
+use Rattle.review.specs.Barred.{AreBarredLines, HasApprovedAt, IsWhy, reason}
 use Rattle.review.specs.Columns.{lines_text}
 use Rattle.review.specs.Report.{AreBarred, AreBarredUnder, AreBroadLines, AreInForce, BarredLines, IsLiveLine, IsReport}
 use Rattle.review.specs.Report.{conflict_for, conflict_line, conflicts_of, is_open, lesser_first, report_lines}

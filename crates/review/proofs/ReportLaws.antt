@@ -27,10 +27,11 @@ use Rattle.grants.specs.Verdicts.{StandsAlone, may_give}
 use Rattle.grants.specs.declared.outcome.Status.{Status}
 use Rattle.grants.specs.declared.outcome.Window.{Window}
 use Rattle.grants.proofs.CountingLaws.{added, taken_away}
+use Rattle.suspects.specs.LookedAt.{approval}
 use Rattle.review.specs.declared.need.Need.TheVariants.{Needless}
 use Rattle.review.specs.declared.reason.Reason.{Reason}
 use Rattle.review.specs.declared.reason.Reason.TheVariants.{Asker, Duty, Conflict}
-use Rattle.review.specs.Barred.{HasApprovedAt, IsBarred, approval, reason}
+use Rattle.review.specs.Barred.{HasApprovedAt, IsBarred, reason}
 use Rattle.sudo_beyond.specs.Beyond.{Allows, IsInvocation}
 use Rattle.review.specs.Needs.{IsNeed, own_policy}
 

@@ -20,9 +20,10 @@ use Rattle.grants.specs.declared.outcome.Status.{Status}
 use Rattle.grants.specs.declared.outcome.Window.{Window}
 use Rattle.grants.proofs.StatusLaws.{one_status, order_free}
 use Rattle.outcomes.proofs.SetLemmas.{one_parked, parked_of_set}
+use Rattle.suspects.specs.LookedAt.{approval}
 use Rattle.review.specs.declared.need.Need.{Need}
 use Rattle.review.specs.declared.reason.Reason.{Reason}
-use Rattle.review.specs.Barred.{AreBarredLines, HasApproved, HasApprovedAt, IsWhy, approval, barred_for, reason}
+use Rattle.review.specs.Barred.{AreBarredLines, HasApproved, HasApprovedAt, IsWhy, barred_for, reason}
 use Rattle.sudo_words.specs.Lists.{AreParts, text_order}
 use Rattle.review.specs.Columns.{lines_text}
 use Rattle.review.specs.Needs.{IsNeedOn, grant_scope, own_policy}

@@ -3,20 +3,16 @@ use Rattle.std.specs.Prelude.{◌≡◌, ℕ, ◌≤◌, true, false, not, List,
 use Rattle.std.specs.Prelude.{Contains, Option, Some, None, if◌then◌else◌, codes}
 use Rattle.std.specs.Str.{bytes_eq}
 use Rattle.sudo_words.specs.declared.cmnd.Cmnd.{Cmnd}
-use Rattle.messages.specs.Fields.{RequestFields, VerdictFields}
+use Rattle.messages.specs.Fields.{RequestFields}
 use Rattle.messages.specs.Names.{name_of}
 use Rattle.messages.specs.declared.message.Message.{Message}
 use Rattle.messages.specs.declared.message.Message.TheVariants.{Verdict}
-use Rattle.messages.specs.declared.kind.VerdictKind.TheVariants.{Approve}
 use Rattle.roster.specs.Fields.{CeilingFields, RosterFields}
 use Rattle.roster.specs.Relations.{eligible, holds, holds_against}
+use Rattle.suspects.specs.LookedAt.{approval}
 use Rattle.review.specs.declared.reason.Reason.{Reason}
 use Rattle.review.specs.declared.reason.Reason.TheVariants.{Asker, Duty, Conflict}
 use Rattle.review.specs.Columns.{left, name_columns}
-
--- the person's approval of the request at the moment
-abbrev pub approval : RequestFields → (person : List ℕ) → (at : ℕ) → VerdictFields
-approval q person at = record { at = at; by = person; kind = Approve; no = q.no; of = q.by }
 
 -- The person approved the request at the moment: that approval is among the messages.
 abbrev pub HasApprovedAt : List Message → RequestFields → (person : List ℕ) → (at : ℕ) → Type 0

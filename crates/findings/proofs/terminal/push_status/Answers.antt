@@ -1,6 +1,6 @@
 use Rattle.std.proofs.Common.{◌++◌, List, ℕ, string_bytes, ap, ◌∙◌}
 use Rattle.std.specs.Prelude.{codes}
-use Rattle.findings.specs.Judging.{status_text}
+use Rattle.findings.specs.Judging.{status_word}
 use Rattle.findings.specs.Terminal.{name_text, why_text, window_text}
 use Rattle.findings.proofs.PieceLemmas.{piece}
 use Rattle.findings.proofs.terminal.push_status.Goals as goal
@@ -11,7 +11,7 @@ returns c =
     let e = c.args.entry.now in
     let a = name_text e.name in
     let b = codes "  " in
-    let w = status_text e.status in
+    let w = status_word e.status in
     let s = window_text e.status in
     let d = why_text c.args.denial in
     let one = string_bytes c.push_name.new.out in
