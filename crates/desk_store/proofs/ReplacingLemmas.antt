@@ -4,7 +4,7 @@ use Rattle.std.specs.Prelude.{IsErr, OnErr, OnOk}
 use Rattle.sqlite.specs.Table.{Table}
 use Rattle.sqlite.specs.Tree.{Trees}
 use Rattle.sqlite.specs.Effect.{Database}
-use Rattle.sqlite.specs.State.{State, HasCleanDisk, Survives}
+use Rattle.sqlite.specs.State.{State, Survives}
 use Rattle.sqlite.proofs.StateLemmas.{survives_then, survives_weaker}
 use Rattle.sqlite_rules.specs.Lists.{Has}
 use Rattle.store_tables.specs.DeskTables.{verdicts_at}

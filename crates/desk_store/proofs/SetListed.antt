@@ -1,6 +1,5 @@
 -- The messages whose texts a database keeps, as a list.
 use Rattle.std.proofs.Common.{◌≡◌, ◌≤◌, true, true≢false, false, not, inl, inr, ℕ, List, [], ◌∷◌, length, map, Contains, codes, refl, ap, ap₂, sym, ◌∙◌, subst}
-use Rattle.std.specs.List.{list_any}
 use Rattle.std.proofs.lemmas.Bool.{cases_Bool}
 use Rattle.std.proofs.lemmas.List.Sorted.{IsPermutation-refl}
 use Rattle.sqlite.specs.declared.types.Value.{Value}

@@ -1,8 +1,7 @@
 //! Replacing the roster's text of a desk of either form, in one commit.
 
-ghost use Rattle.std.specs.Prelude.{◌≡◌, Contains, IfOk};
+ghost use Rattle.std.specs.Prelude.{Contains, IfOk};
 ghost use Rattle.sqlite.specs.Held.{state};
-ghost use Rattle.messages.specs.declared.message.Message.{Message as AnyMessage};
 ghost use Rattle.store_tables.specs.Kept.{HoldsText};
 ghost use Rattle.store_tables.specs.Sets.{Lists, SameSet};
 ghost use Rattle.store_tables.specs.SqliteStates.{IsUp, Rests};

@@ -1,11 +1,10 @@
 -- Where a grant is needless, the base allows what it covers, and each host's file allows the same without its lines.
-use Rattle.std.proofs.Common.{◌≡◌, ℕ, ◌≤◌, ◌⊎◌, Bool, true, false, not, ◌&&◌, Some, None, List, [], ◌∷◌, ◌++◌, map, reverse, refl, sym, ap, ap₂, ◌∙◌, subst}
+use Rattle.std.proofs.Common.{◌≡◌, ℕ, ◌⊎◌, true, not, Some, None, List, [], ◌∷◌, ◌++◌, map, reverse, refl, sym, ap, ap₂, ◌∙◌, subst}
 use Rattle.std.proofs.Common.{inl, inr, arith}
 use Rattle.std.specs.Prelude.{◌↔◌, nat_eq}
 use Rattle.std.specs.List.{Contains}
 use Rattle.std.specs.Str.{bytes_eq}
 use Rattle.std.proofs.lemmas.Bool.{and_parts, cases_Bool, eqb-true}
-use Rattle.std.proofs.lemmas.List.Elements.{Contains-append_right}
 use Rattle.std.proofs.lemmas.Slice.Eq.{bytes_eq-Decides}
 use Rattle.sudo_words.specs.declared.cmnd.Cmnd.{Cmnd}
 use Rattle.sudo_policy.specs.declared.entry.Rule.{Rule}
@@ -32,7 +31,7 @@ use Rattle.outcomes.proofs.GrantedRules.{Fits, fits_from_yes, grant_answers, yes
 use Rattle.outcomes.proofs.Headline.{Grants, entries_of_rules, line_grants, one_says_yes, silent_lines, some_grants}
 use Rattle.outcomes.proofs.Membership.{Contains-from_get}
 use Rattle.sudo_beyond.specs.Beyond.{Allows, IsInvocation}
-use Rattle.sudo_words.proofs.Lists.{contains_head, contains_map}
+use Rattle.sudo_words.proofs.Lists.{contains_map}
 use Rattle.sudo_words.proofs.OneSorted.{cons_cases, no_element}
 use Rattle.review.specs.declared.need.Need.TheVariants.{Needless}
 use Rattle.review.specs.Needs.{IsNeed, is_same_name, lines_without, own_policy}

@@ -2,12 +2,12 @@
 use Rattle.std.proofs.Common.{◌≡◌, ◌⊎◌, ℕ, Bool, true, false, ◌&&◌, leb, if◌then◌else◌, List, [], ◌∷◌, ◌++◌, Option, Some, None}
 use Rattle.std.proofs.Common.{refl, sym, ap, ◌∙◌, subst, inl, inr}
 use Rattle.std.specs.List.{Contains}
-use Rattle.std.proofs.lemmas.Bool.{and_parts, cases_Bool, leb-true}
+use Rattle.std.proofs.lemmas.Bool.{and_parts, leb-true}
 use Rattle.sudo_words.specs.declared.cmnd.Cmnd.{Cmnd}
 use Rattle.sudo_words.specs.Lists.{AreParts}
 use Rattle.sudo_policy.specs.declared.entry.Entry.{Entry}
 use Rattle.messages.specs.Fields.{RequestFields}
-use Rattle.messages.specs.Names.{NamePrecedes, name_of}
+use Rattle.messages.specs.Names.{NamePrecedes}
 use Rattle.messages.specs.Order.{AreInOrder}
 use Rattle.messages.specs.Wire.{IsMessage}
 use Rattle.messages.specs.declared.request_name.RequestName.{RequestName}

@@ -1,11 +1,11 @@
 -- The messages about some of the names, as those about one name after another come.
-use Rattle.std.proofs.Common.{◌≡◌, ◌⊎◌, List, [], ◌∷◌, ◌++◌, refl, sym, ap, ◌∙◌, subst, inl, inr}
+use Rattle.std.proofs.Common.{List, [], ◌∷◌, ◌++◌, ◌∙◌, subst, inl, inr}
 use Rattle.std.specs.List.{Contains}
 use Rattle.std.proofs.lemmas.List.Elements.{Contains-append_left, Contains-append_right, Contains-append_cases, Contains-push_cases}
 use Rattle.messages.specs.declared.request_name.RequestName.{RequestName}
 use Rattle.messages.specs.declared.message.Message.{Message}
 use Rattle.grants.specs.Verdicts.{IsDisputed}
-use Rattle.outcomes.specs.About.{AreAbout, name_in}
+use Rattle.outcomes.specs.About.{AreAbout}
 use Rattle.outcomes.specs.Gathered.{AreGathered, Known}
 use Rattle.outcomes.proofs.Membership.{no_member}
 use Rattle.suspects.specs.private.Parts.{IsCovered, IsPartFor}

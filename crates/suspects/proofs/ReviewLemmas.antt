@@ -1,20 +1,19 @@
 -- What a report looks at: all summaries, or those of a part of the messages.
-use Rattle.std.proofs.Common.{◌≡◌, ◌⊎◌, ℕ, List, [], ◌∷◌, ◌++◌, map, refl, sym, ap, ◌∙◌, subst, inl, inr}
+use Rattle.std.proofs.Common.{◌≡◌, ◌⊎◌, ℕ, List, [], ◌∷◌, ◌++◌, map, refl, ap, ◌∙◌, subst, inl, inr}
 use Rattle.std.specs.List.{Contains}
-use Rattle.std.proofs.lemmas.List.Elements.{Contains-append_left, Contains-append_right, Contains-append_cases}
+use Rattle.std.proofs.lemmas.List.Elements.{Contains-append_left, Contains-append_right}
 use Rattle.sudo_words.specs.declared.cmnd.Cmnd.{Cmnd}
 use Rattle.sudo_words.proofs.Lists.{contains_map}
-use Rattle.messages.specs.Fields.{RequestFields}
 use Rattle.messages.specs.Names.{IsNamed, SameMessages, name_of}
 use Rattle.messages.specs.declared.request_name.RequestName.{RequestName}
 use Rattle.messages.specs.declared.message.Message.{Message}
 use Rattle.messages.specs.declared.message.Message.TheVariants.{Request, Verdict}
 use Rattle.roster.specs.Fields.{RosterFields}
-use Rattle.grants.specs.Summaries.{Kept, StandsFor}
+use Rattle.grants.specs.Summaries.{Kept}
 use Rattle.grants.specs.Verdicts.{IsDisputed}
 use Rattle.outcomes.specs.About.{name_in}
 use Rattle.outcomes.specs.Gathered.{Known}
-use Rattle.outcomes.specs.Outcomes.{AreLive, IsLive, LiveGrant}
+use Rattle.outcomes.specs.Outcomes.{AreLive, LiveGrant}
 use Rattle.outcomes.specs.Summaries.{AreSummaries}
 use Rattle.outcomes.proofs.Membership.{no_member, Contains-head, Contains-behind, Contains-cases}
 use Rattle.outcomes.proofs.NameMaps.{same_cases}

@@ -1,5 +1,5 @@
 -- Suspects: as a message comes, and as the summaries are gone through.
-use Rattle.std.proofs.Common.{◌≡◌, ◌⊎◌, ℕ, Bool, true, false, not, List, [], ◌∷◌, ◌++◌, Option, Some, None, refl, sym, ap, ◌∙◌, subst, inl, inr}
+use Rattle.std.proofs.Common.{◌≡◌, ℕ, Bool, true, false, not, List, [], ◌∷◌, ◌++◌, Option, Some, None, refl, sym, ap, ◌∙◌, subst, inl, inr}
 use Rattle.std.specs.List.{Contains}
 use Rattle.std.proofs.lemmas.List.Elements.{Contains-append_left, Contains-push_cases}
 use Rattle.sudo_words.specs.declared.cmnd.Cmnd.{Cmnd}
@@ -14,7 +14,6 @@ use Rattle.grants.specs.Summaries.{AreApprovals, Kept, StandsFor}
 use Rattle.grants.specs.Verdicts.{IsDisputed, StandsAlone}
 use Rattle.outcomes.specs.About.{name_in}
 use Rattle.outcomes.proofs.Existence.{who_asks}
-use Rattle.outcomes.proofs.NameMaps.{same_cases}
 use Rattle.outcomes.proofs.Standing.{name_from_named}
 use Rattle.suspects.specs.LookedAt.{AllCount, AreReviewed, AreSuspects, approval}
 

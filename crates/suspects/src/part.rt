@@ -1,6 +1,6 @@
 //! The messages about some of the names.
 
-ghost use Rattle.std.specs.Prelude.{◌≡◌, List, [], ◌∷◌, ◌++◌, OnOk, map};
+ghost use Rattle.std.specs.Prelude.{List, [], ◌∷◌, ◌++◌, OnOk, map};
 ghost use Rattle.messages.specs.declared.message.Message.{Message as AnyMessage};
 ghost use Rattle.messages.specs.declared.request_name.RequestName.{RequestName as AnyName};
 ghost use Rattle.outcomes.specs.Gathered.{AreGathered};

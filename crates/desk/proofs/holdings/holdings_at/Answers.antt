@@ -1,4 +1,3 @@
-use Rattle.std.proofs.Common.{subst}
 use Rattle.desk.proofs.holdings.holdings_at.Goals as goal
 
 pub returns-in_err-parked-clause-known : goal.returns-in_err-parked-clause-known

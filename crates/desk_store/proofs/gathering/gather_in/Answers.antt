@@ -1,12 +1,8 @@
-use Rattle.std.proofs.Common.{List}
 use Rattle.std.specs.Prelude.{Contains}
 use Rattle.sqlite.specs.Held.{state}
 use Rattle.messages.specs.NameRows.{ShowSet}
-use Rattle.messages.specs.declared.message.Message.{Message}
 use Rattle.store_tables.specs.Kept.{HoldsText}
 use Rattle.store_schema.proofs.ShapeLemmas.{common_of}
-use Rattle.outcomes.specs.Gathered.{AreGathered}
-use Rattle.desk_store.specs.Keeping.{IsKnownOf}
 use Rattle.messages.proofs.SetsShown.{shown_too}
 use Rattle.desk_store.proofs.SetListed.{set_listed}
 use Rattle.desk_store.proofs.gathering.gather_in.Goals as goal

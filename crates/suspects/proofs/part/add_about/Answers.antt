@@ -1,7 +1,6 @@
-use Rattle.std.proofs.Common.{ℕ, List, Option, Vec, Global, sym, subst}
+use Rattle.std.proofs.Common.{Option, Vec, Global, subst}
 use Rattle.std.proofs.lemmas.Result.{on_ok_weaker}
 use Rattle.messages.specs.declared.message.Message.{Message}
-use Rattle.messages.specs.declared.request_name.RequestName.{RequestName}
 use Rattle.outcomes.specs.About.{AreAbout, AreTold}
 use Rattle.suspects.proofs.PartLemmas.{part_disputed, part_more}
 use Rattle.suspects.proofs.part.add_about.Goals as goal

@@ -1,6 +1,4 @@
-use Rattle.std.proofs.Common.{[], map}
-use Rattle.outcomes.specs.Outcomes.{LiveGrant}
-use Rattle.outcomes.specs.Summaries.{AreSummaries}
+use Rattle.std.proofs.Common.{[]}
 use Rattle.std.proofs.lemmas.Result.{IfOk-weaker}
 use Rattle.suspects.proofs.PartLemmas.{part_of_none}
 use Rattle.suspects.proofs.ReviewLemmas.{part_reviewed}

@@ -1,4 +1,4 @@
-use Rattle.std.proofs.Common.{◌≡◌, ◌∙◌, ℕ, List, Option, Some, None, sym, ap, subst}
+use Rattle.std.proofs.Common.{◌≡◌, ◌∙◌, ℕ, List, Some, None, sym, ap, subst}
 use Rattle.messages.specs.Fields.{RequestFields}
 use Rattle.messages.specs.Names.{name_of}
 use Rattle.roster.specs.Relations.{ceiling_at}
