@@ -4,6 +4,7 @@ use Rattle.std.specs.List.{Contains}
 use Rattle.std.specs.Option.{IfSome}
 use Rattle.std.proofs.lemmas.List.Elements.{Contains-append_left, Contains-push, Contains-push_cases}
 use Rattle.sudo_words.specs.declared.cmnd.Cmnd.{Cmnd}
+use Rattle.messages.specs.Wire.{IsMessage}
 use Rattle.messages.specs.declared.message.Message.{Message}
 use Rattle.messages.specs.declared.request_name.RequestName.{RequestName}
 use Rattle.roster.specs.Fields.{RosterFields}
@@ -84,6 +85,12 @@ known_with f Up S None (Some k) known more nothing =
 known_with f Up S (Some k) None known more nothing = tt
 known_with f Up S (Some k) (Some l) known more nothing = λ up.
     let it = known up in (it.0, it.1, more it.0 it.1 up it.2)
+
+-- the same of a list of what is held, which has messages alone
+pub known_looked : (S : Message → Type 0) → ((m : Message) → S m → IsMessage m) → (Old New : List Message → Type 0)
+    → ((set : List Message) → ((m : Message) → Contains set m → IsMessage m) → Old set → New set)
+    → (set : List Message) × Lists S set × Old set → (set : List Message) × Lists S set × New set
+known_looked S messages Old New more it = (it.0, it.1, more it.0 (λ m there. messages m ((it.1 m).1 there)) it.2)
 
 -- and it is known only where it was
 pub known_of_up_with : (Clean Up : Type 0) (old new : Option Known) → IsKnownOfUp Clean Up old → (old ≡ None → new ≡ None) → IsKnownOfUp Clean Up new

@@ -8,6 +8,7 @@ use Rattle.outcomes.specs.Parked.{AreParked}
 use Rattle.outcomes.proofs.SetLemmas.{parked_of_set}
 use Rattle.suspects.specs.LookedAt.{AreReviewed}
 use Rattle.suspects.proofs.ReviewLemmas.{reviewed_of_set}
+use Rattle.desk.proofs.KnownLemmas.{known_looked}
 use Rattle.desk.proofs.QueryLemmas.{same_listed}
 use Rattle.desk.proofs.desk.Desk.holdings_at.Goals as goal
 
@@ -49,10 +50,7 @@ invariant_of-self-in_err-held g c =
       is.desk,
       λ up. is.roster up ∙ c.self.invariant.2 (is.served.was_up up),
       is.durable,
-      λ up.
-          let it = is.still_known up in
-          let written : (m : Message) → Contains it.0 m → IsMessage m = λ m there. g.met.K.Keeper.holds_messages k m ((it.1 m).1 there) in
-          (it.0, it.1, c.holdings_at-held.ensures.known it.0 written it.2),
+      λ up. known_looked (K.holds k) (g.met.K.Keeper.holds_messages k) _ _ c.holdings_at-held.ensures.known (is.still_known up),
       is.live,
     )
 
@@ -65,9 +63,6 @@ invariant_of-self-2 g c =
       is.desk,
       λ up. is.roster up ∙ c.self.invariant.2 (is.served.was_up up),
       is.durable,
-      λ up.
-          let it = is.still_known up in
-          let written : (m : Message) → Contains it.0 m → IsMessage m = λ m there. g.met.K.Keeper.holds_messages k m ((it.1 m).1 there) in
-          (it.0, it.1, c.holdings_at-held.ensures.known it.0 written it.2),
+      λ up. known_looked (K.holds k) (g.met.K.Keeper.holds_messages k) _ _ c.holdings_at-held.ensures.known (is.still_known up),
       is.live,
     )
