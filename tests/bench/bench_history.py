@@ -6,6 +6,8 @@
   live, a half of this host and of the past. A later question is counted, not one of the first: in
   some tens of those the C library's `malloc` sorts what the opening gave back, once.
 - **A report** of 100 live grants alone, and beside 100,000 that have ended.
+- **A message and the count after it** (`/v1/count`, which each host asks before its file) beside 40
+  messages, and beside 4,000: the count is kept up to date, and not made anew.
 - **What became of one request** (`/v1/requests/ASKER/NO`) beside 100,000 other messages, and the
   file of a host that has this request's grant alone, of the same desk.
 - **An opening and the first file**: of 100,000 messages the instructions, beside what it costs to
@@ -34,7 +36,7 @@ from collections.abc import Iterator, Sequence
 from tests.bench.bench_store import judged
 from tests.common import desk, store_files
 
-LIVE, GRANTS = 20, 100
+LIVE, GRANTS, TOLD = 20, 100, 4_000
 BEFORE = 300  # questions before the one that is counted
 OTHERS, ENDED, OPENED, COUNTED = 1_000_000, 100_000, 1_000_000, 100_000
 HOSTS = ["db1", *(f"web{n}" for n in range(40))]
@@ -42,6 +44,7 @@ ASKERS = [f"user{n}" for n in range(500)]
 MOMENT = "20260105093000Z"
 FILE = f"/v1/hosts/db1/sudoers/{MOMENT}".encode()
 REQUEST = f"/v1/requests/{ASKERS[0]}/0".encode()
+COUNT = b"/v1/count"
 REPORT = f"/v1/reviews/{MOMENT}".encode()
 # 0.65 of what it was while the first question read what the opening had read: 8.5 times
 MOST_BESIDE_READING = 5.5
@@ -181,6 +184,36 @@ def one_request(site: Site, count: int) -> bool:
     return judged(f"one request of {count:,} messages, beside its host's file", named / file, 1.0)
 
 
+def counted_after_a_message(site: Site, store: str) -> int:
+    """The instructions of a message and of the count after it, over a store whose messages were
+    counted before."""
+    before = [*desk.counting(), "--instr-atstart=no"]
+    body = desk.request(9_999_999, by=ASKERS[0], hosts=[HOSTS[1]]).encode()
+    with site.serving(
+        store, "--requests", str(BEFORE + 4), before=before, stderr=subprocess.PIPE
+    ) as server:
+        for _ in range(BEFORE + 1):
+            told = answer(server, COUNT)
+        count(server, "on")
+        with server.connect(seconds=600) as peer:
+            peer.sendall(desk.posted(b"web", body))
+            desk.received(peer)
+        more = answer(server, COUNT)
+        count(server, "off")
+        answer(server, COUNT)
+        if int(more.split()[0]) != int(told.split()[0]) + 1:
+            sys.exit(f"bench_history: {told[:20]!r} messages, and one more are {more[:20]!r}")
+        return collected(server)
+
+
+def counts(site: Site, count: int) -> bool:
+    few = counted_after_a_message(site, site.store("a few", granted(0, 40, "db1")))
+    many = counted_after_a_message(site, site.store("told", granted(0, count, "db1")))
+    what = f"a message and the count after it, beside {count:,} messages"
+    print(f"{what}: {few:,} instructions beside 40, {many:,} beside all")
+    return judged(what, many / few, 1.5)
+
+
 def opening_counted(site: Site, count: int) -> bool:
     """An opening and the first file, beside reading the messages, in instructions."""
     bodies = [*granted(0, 2 * LIVE, "db1"), *others(count - 2 * LIVE)]
@@ -239,7 +272,7 @@ def main() -> int:
         site = Site(folder, given.words)
         if desk.found("valgrind"):
             wrong += files(site, given.others) + reports(site, given.ended)
-            wrong += one_request(site, given.ended)
+            wrong += one_request(site, given.ended) + counts(site, TOLD)
             wrong += opening_counted(site, given.counted)
         else:
             print("instructions: left out, for valgrind is not there")

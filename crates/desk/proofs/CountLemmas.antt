@@ -1,7 +1,8 @@
 -- How many messages a set has.
 use Rattle.std.proofs.Common.{suc, ◌≡◌, ◌≢◌, ◌⊎◌, ℕ, ◌+◌, ◌≤◌, List, [], ◌∷◌, ◌++◌, length, AllPairs, get_or}
 use Rattle.std.proofs.Common.{refl, sym, ap, ◌∙◌, subst, inl, inr, arith, length-append}
-use Rattle.std.specs.Prelude.{Contains}
+use Rattle.std.specs.Prelude.{Contains, Option, Some, None}
+use Rattle.std.specs.Option.{SomeIff}
 use Rattle.std.proofs.lemmas.List.Elements.{Contains-append_cases, Contains-append_left, Contains-get_or, Contains-push}
 use Rattle.std.proofs.lemmas.List.Kept.{AllPairs-cons}
 use Rattle.std.proofs.lemmas.List.Quantifiers.{all_pairs_push}
@@ -13,6 +14,7 @@ use Rattle.messages.proofs.NameOrder.{texts_strict}
 use Rattle.messages.proofs.Uniqueness.{one_message}
 use Rattle.outcomes.proofs.Membership.{no_member, Contains-head, Contains-behind, Contains-cases}
 use Rattle.desk.specs.Count.{IsCount}
+use Rattle.desk.specs.private.Known.{IsCounted}
 use Rattle.desk.specs.Texts.{AreTexts}
 
 -- ---- lists without repeats
@@ -181,3 +183,9 @@ held_counted set m n has x =
       λ h. Contains-append_left set (m ∷ []) k h,
       λ h. elim (push_cases set m k h) as (λ _. Contains set k) [ inl old ↦ old | inr same ↦ subst (Contains set) same has ],
     )) x
+
+-- the sum that was looked for counts one more, if it is a number
+pub sum_counted : (sum : Option ℕ) (Fits : Type 0) (set : List Message) (m : Message) (n : ℕ) → SomeIff sum Fits (n + 1)
+    → ¬ Contains set m → IsCount set n → IsCounted (set ++ m ∷ []) sum
+sum_counted None Fits set m n is lacks counted = tt
+sum_counted (Some k) Fits set m n is lacks counted = subst (IsCount (set ++ m ∷ [])) (sym is.1) (new_counted set m n lacks counted)

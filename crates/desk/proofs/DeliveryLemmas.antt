@@ -1,6 +1,6 @@
 -- One answer to a delivery, and what is held once one more delivery is answered.
 use Rattle.std.proofs.Common.{◌≡◌, ℕ, ◌<◌, ◌⊎◌, List, [], ◌∷◌, ◌++◌, length, Result, Ok, Err, true, false, refl, sym, ap, ◌∙◌, subst, inl, inr, arith}
-use Rattle.std.specs.Prelude.{IsUtf8}
+use Rattle.std.specs.Prelude.{IfOk, IsUtf8, OnOk}
 use Rattle.messages.specs.Canonical.{IsCanonicalText}
 use Rattle.messages.specs.private.Members.{value_of}
 use Rattle.messages.specs.Wire.{wire, IsMessage}
@@ -118,6 +118,13 @@ pub acknowledged : (f : RosterFields Cmnd) (d : Delivery) (ack : Ack) (m : Messa
 acknowledged f d ack m known body admits = answer_from_sound f d (Ok ack) (inr (inr (known, (m, body, admits))))
 
 -- ---- the set
+
+-- what holds of a call that ended well
+pub at_ok : {A E P : Type 0} {r : Result A E} {a : A} → r ≡ Ok a → OnOk r P → P
+at_ok {P = P} is holds = subst (λ r. OnOk r P) is holds
+
+pub of_ok : {A E : Type 0} (P : A → Type 0) {r : Result A E} {a : A} → r ≡ Ok a → IfOk r P → P a
+of_ok P is holds = subst (λ r. IfOk r P) is holds
 
 pub held_at_ok : (S T : Message → Type 0) (d : Delivery) (ack : Ack) (m : Message) → IsBodyOf d.body m → IsWith S m T → HeldAfter S d (Ok ack) T
 held_at_ok S T d ack m body is = λ n. (

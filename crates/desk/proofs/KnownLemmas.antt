@@ -9,6 +9,9 @@ use Rattle.messages.specs.declared.message.Message.{Message}
 use Rattle.messages.specs.declared.request_name.RequestName.{RequestName}
 use Rattle.roster.specs.Fields.{RosterFields}
 use Rattle.store_tables.specs.Sets.{IsWith, Lists, SameSet}
+use Rattle.store_tables.specs.Arrivals.{IsTold}
+use Rattle.store_tables.specs.declared.arrival.Arrival.{Arrival}
+use Rattle.store_tables.specs.declared.arrival.Arrival.TheVariants.{New, Held}
 use Rattle.std.specs.BTreeSet.{BTreeSet}
 use Rattle.outcomes.specs.Gathered.{Known as Gathered}
 use Rattle.suspects.specs.LookedAt.{AreKnownSuspects}
@@ -20,7 +23,7 @@ use Rattle.desk.proofs.QueryLemmas.{same_listed}
 use Rattle.desk.specs.declared.opening.Origin.{Origin}
 use Rattle.desk.specs.declared.opening.Origin.TheVariants.{Found, Made}
 use Rattle.desk.specs.declared.loading.Known.{Known}
-use Rattle.desk.specs.private.Known.{IsCounted, IsKnown, IsKnownAtFirst, IsKnownIn, IsKnownOfUp, IsOriginOf}
+use Rattle.desk.specs.private.Known.{IsCounted, IsKnown, IsKnownAtFirst, IsKnownIn, IsKnownOfUp, IsOriginOf, set_after}
 
 pub lists_still : (S T : Message → Type 0) (list : List Message) → SameSet S T → Lists S list → Lists T list
 lists_still S T list same lists n = (λ held. (lists n).0 ((same n).1 held), λ among. (same n).0 ((lists n).1 among))
@@ -49,16 +52,34 @@ known_still f Up Later S T None known was same = tt
 known_still f Up Later S T (Some g) known was same = λ later.
     let k = known (was later) in (k.0, lists_still S T k.0 (same later) k.1, k.2)
 
--- a message more is held
-pub known_more : (f : RosterFields Cmnd) (Up Later : Type 0) (S T : Message → Type 0) (m : Message) (old new : Option Known)
-    → IsKnown f Up S old → (Later → Up) → (Later → IsWith S m T)
-    → ((set : List Message) → IfSome old (IsKnownIn f set) → IfSome new (IsKnownIn f (set ++ m ∷ []))) → (old ≡ None → new ≡ None) → IsKnown f Later T new
-known_more f Up Later S T m None None known was grown more nothing = tt
-known_more f Up Later S T m None (Some g) known was grown more nothing =
+-- a message came, which was new, or which was held
+after_lists : (S T : Message → Type 0) (m : Message) (list : List Message) (arrival : Arrival) → IsWith S m T → IsTold (S m) arrival → Lists S list
+    → Lists T (set_after arrival list m)
+after_lists S T m list New grown told lists = with_lists S T m list grown lists
+after_lists S T m list Held grown there lists = lists_still S T list (λ n. (
+  λ held. (grown n).0 (inl held),
+  λ held. elim ((grown n).1 held) as (λ _. S n) [ inl old ↦ old | inr new ↦ subst S (sym new) there ],
+)) lists
+
+told_listed : (S : Message → Type 0) (m : Message) (list : List Message) (arrival : Arrival) → Lists S list → IsTold (S m) arrival
+    → IsTold (Contains list m) arrival
+told_listed S m list New lists absent = λ among. absent ((lists m).1 among)
+told_listed S m list Held lists there = (lists m).0 there
+
+pub known_then : (f : RosterFields Cmnd) (Up Later : Type 0) (S T : Message → Type 0) (m : Message) (arrival : Arrival) (old new : Option Known)
+    → IsKnown f Up S old → (Later → Up) → (Later → IsWith S m T) → (Later → IsTold (S m) arrival)
+    → ((set : List Message) → IsTold (Contains set m) arrival → IfSome old (IsKnownIn f set) → IfSome new (IsKnownIn f (set_after arrival set m)))
+    → (old ≡ None → new ≡ None) → IsKnown f Later T new
+known_then f Up Later S T m arrival None None known was grown told more nothing = tt
+known_then f Up Later S T m arrival None (Some g) known was grown told more nothing =
     let wrong : ◌≡◌ {A = Option Known} (Some g) None = nothing refl in absurd cc
-known_more f Up Later S T m (Some g) None known was grown more nothing = tt
-known_more f Up Later S T m (Some g) (Some h) known was grown more nothing = λ later.
-    let k = known (was later) in (k.0 ++ m ∷ [], with_lists S T m k.0 (grown later) k.1, more k.0 k.2)
+known_then f Up Later S T m arrival (Some g) None known was grown told more nothing = tt
+known_then f Up Later S T m arrival (Some g) (Some h) known was grown told more nothing = λ later.
+    let k = known (was later) in (
+      set_after arrival k.0 m,
+      after_lists S T m k.0 arrival (grown later) (told later) k.1,
+      more k.0 (told_listed S m k.0 arrival k.1 (told later)) k.2,
+    )
 
 -- suspects that are not known
 unknown : (f : RosterFields Cmnd) (set : List Message) (o : Option (BTreeSet RequestName)) → o ≡ None → AreKnownSuspects f set o
@@ -87,10 +108,10 @@ known_with f Up S (Some k) (Some l) known more nothing = λ up.
     let it = known up in (it.0, it.1, more it.0 it.1 up it.2)
 
 -- the same of a list of what is held, which has messages alone
-pub known_looked : (S : Message → Type 0) → ((m : Message) → S m → IsMessage m) → (Old New : List Message → Type 0)
-    → ((set : List Message) → ((m : Message) → Contains set m → IsMessage m) → Old set → New set)
-    → (set : List Message) × Lists S set × Old set → (set : List Message) × Lists S set × New set
-known_looked S messages Old New more it = (it.0, it.1, more it.0 (λ m there. messages m ((it.1 m).1 there)) it.2)
+pub known_looked : (S : Message → Type 0) → ((m : Message) → S m → IsMessage m) → (Old Kept : List Message → Type 0)
+    → ((set : List Message) → ((m : Message) → Contains set m → IsMessage m) → Old set → Kept set)
+    → (set : List Message) × Lists S set × Old set → (set : List Message) × Lists S set × Kept set
+known_looked S messages Old Kept more it = (it.0, it.1, more it.0 (λ m there. messages m ((it.1 m).1 there)) it.2)
 
 -- and it is known only where it was
 pub known_of_up_with : (Clean Up : Type 0) (old new : Option Known) → IsKnownOfUp Clean Up old → (old ≡ None → new ≡ None) → IsKnownOfUp Clean Up new

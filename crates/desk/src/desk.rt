@@ -19,7 +19,7 @@ ghost use Rattle.desk.specs.declared.refusal.Refusal.TheVariants as refusal;
 
 use crate::ack::Ack;
 use crate::delivery::{admitted, text_of};
-use crate::loading::{Known, with_message};
+use crate::loading::{Known, known_after};
 use crate::opening::{find_or_make, known_at_first};
 use crate::refusal::Refusal;
 use desk_store::Keeper;
@@ -199,8 +199,9 @@ impl<K: Keeper> Desk<K> {
         }
         let message = admitted(self.alloc, &mut self.reader, &self.roster, body)?;
         // What is known stays only where the message is kept.
-        let known = with_message(self.known.take(), &message);
+        let known = self.known.take();
         let added = self.keeper.add(&message, text_of(body, &message));
+        let known = known_after(known, &message, &added);
         // The message is dropped by a call: at an exit that drops it in line, each of its fields
         // would be proved again.
         drop(message);

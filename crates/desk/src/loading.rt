@@ -1,16 +1,18 @@
 //! What is known of a desk's messages, kept from one call to the next.
 
 ghost use Rattle.std.specs.Prelude.{◌≡◌, List, [], ◌∷◌, ◌++◌, IfErr};
-ghost use Rattle.std.specs.Prelude.{IfOk, OnOk, IsErr, IfSome, Err, None, Some};
+ghost use Rattle.std.specs.Prelude.{Contains, IfOk, OnOk, IsErr, IfSome, Ok, Err, None, Some};
 ghost use Rattle.sudo_words.specs.declared.cmnd.Cmnd.{Cmnd as AnyCmnd};
 ghost use Rattle.messages.specs.declared.message.Message.{Message as AnyMessage};
 ghost use Rattle.roster.specs.Fields.{RosterFields};
 ghost use Rattle.desk.specs.Count.{IsCount};
-ghost use Rattle.desk.specs.private.Known.{IsKnown, IsKnownIn, IsKnownOfUp};
+ghost use Rattle.desk.specs.private.Known.{IsCounted, IsKnown, IsKnownIn, IsKnownOfUp, set_after};
 ghost use Rattle.desk.specs.Refusals.{IsWant};
 ghost use Rattle.desk.specs.declared.refusal.Refusal.TheVariants as refusal;
 ghost use Rattle.desk_store.specs.Left.{AddsOnly, IsDeskOf, LeavesOnly};
 ghost use Rattle.desk_store.specs.Serves.{Serves};
+ghost use Rattle.store_tables.specs.Arrivals.{IsTold};
+ghost use Rattle.store_tables.specs.declared.arrival.Arrival.{Arrival as AnyArrival};
 ghost use Rattle.store_tables.specs.Sets.{Lists, SameSet};
 
 use crate::refusal::Refusal;
@@ -19,6 +21,7 @@ use messages::{Message, RequestName};
 use outcomes::Gathered;
 use roster::Roster;
 use std::collections::BTreeSet;
+use store_tables::Arrival;
 use suspects::with_suspect;
 
 /// What is known of a set of messages.
@@ -98,9 +101,20 @@ pub(crate) fn known_of<K: Keeper>(
     }
 }
 
-/// What is known with one message more, which is not counted; nothing, where memory runs out.
-pub(crate) fn with_message(known: Option<Known>, message: &Message) -> Option<Known>
-    ensures more { (f : RosterFields AnyCmnd) (set : List AnyMessage)
+/// One more than there were, if they were counted and one more is a number.
+fn one_more(count: Option<usize>) -> Option<usize>
+    ensures { (set : List AnyMessage) (m : AnyMessage) → ¬ Contains set m
+        → IsCounted set count → IsCounted (set ++ m ∷ []) result }
+{
+    match count {
+        Some(count) => count.checked_add(1),
+        None => None,
+    }
+}
+
+/// What is known with one message more; nothing, where memory runs out.
+fn with_message(known: Option<Known>, message: &Message) -> Option<Known>
+    ensures more { (f : RosterFields AnyCmnd) (set : List AnyMessage) → ¬ Contains set message.now
         → IfSome known (IsKnownIn f set)
         → IfSome result (IsKnownIn f (set ++ message.now ∷ [])) }
     ensures nothing { known ≡ None → result ≡ None }
@@ -108,10 +122,30 @@ pub(crate) fn with_message(known: Option<Known>, message: &Message) -> Option<Kn
     let Some(mut known) = known else {
         return None;
     };
-    known.count = None;
+    known.count = one_more(known.count);
     known.suspects = with_suspect(known.suspects.take(), message);
     match known.gathered.take(message) {
         Ok(()) => Some(known),
+        Err(_) => None,
+    }
+}
+
+/// What is known once the keeper was to add the message: the same where it was held already, that
+/// with one message more where it is new, and nothing where it was refused.
+pub(crate) fn known_after(
+    known: Option<Known>,
+    message: &Message,
+    added: &Result<Arrival, KeeperError>,
+) -> Option<Known>
+    ensures more { (f : RosterFields AnyCmnd) (set : List AnyMessage) (arrival : AnyArrival)
+        → added.now ≡ Ok arrival → IsTold (Contains set message.now) arrival
+        → IfSome known (IsKnownIn f set)
+        → IfSome result (IsKnownIn f (set_after arrival set message.now)) }
+    ensures nothing { known ≡ None → result ≡ None }
+{
+    match added {
+        Ok(Arrival::New) => with_message(known, message),
+        Ok(Arrival::Held) => known,
         Err(_) => None,
     }
 }

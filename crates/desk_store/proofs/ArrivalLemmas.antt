@@ -3,8 +3,11 @@ use Rattle.std.proofs.Common.{◌≡◌, ◌∙◌, true, List, ℕ, Result, Ok,
 use Rattle.std.specs.Prelude.{OnErr, OnOk}
 use Rattle.sqlite.specs.Effect.{Database}
 use Rattle.sqlite.specs.State.{State}
-use Rattle.messages.specs.Wire.{wire}
+use Rattle.messages.specs.Wire.{wire, IsMessage}
 use Rattle.messages.specs.declared.message.Message.{Message}
+use Rattle.store_tables.specs.Arrivals.{IsTold}
+use Rattle.store_tables.specs.declared.arrival.Arrival.{Arrival}
+use Rattle.store_tables.specs.declared.arrival.Arrival.TheVariants.{New, Held}
 use Rattle.store_tables.specs.Kept.{HoldsText, IsDeskDatabase, Spares}
 use Rattle.store_tables.specs.SqliteStates.{IsUp}
 use Rattle.store_tables.specs.Stored.{content_of, has, with_text}
@@ -18,6 +21,12 @@ content_wired old new m text is content = content ∙ ap (λ t. with_text t (con
 
 pub held_wired : (db : Database) (m : Message) (text : List ℕ) → text ≡ wire m → HoldsText db m → has (content_of db) text ≡ true
 held_wired db m text is held = ap (has (content_of db)) is ∙ held.1
+
+-- what is told of its text is told of the message
+pub told_wired : (db : Database) (m : Message) (text : List ℕ) (arrival : Arrival) → IsMessage m → text ≡ wire m
+    → IsTold (has (content_of db) text ≡ true) arrival → IsTold (HoldsText db m) arrival
+told_wired db m text Held is wired there = (is, ap (has (content_of db)) (sym wired) ∙ there)
+told_wired db m text New is wired absent = λ held. absent (held_wired db m text wired held)
 
 -- a desk stays one
 pub arrival_keeps : {A E : Type 0} (old new : State) (r : Result A E) → (IsUp old → IsKept old.now) → (IsUp new → IsUp old)

@@ -1,11 +1,14 @@
 -- What a keeper in memory holds after a message was added to the others.
 use Rattle.std.proofs.Common.{◌≡◌, ◌⊎◌, ℕ, List, [], ◌∷◌, ◌++◌, Result, Ok, Err, sym, subst, inl, inr}
-use Rattle.std.specs.Prelude.{Option, Contains, OnOk}
+use Rattle.std.specs.Prelude.{Option, Contains, IfOk, OnOk}
 use Rattle.std.proofs.lemmas.List.Elements.{Contains-append_left, Contains-push, Contains-push_cases}
 use Rattle.messages.specs.Wire.{IsMessage}
 use Rattle.messages.specs.declared.message.Message.{Message}
 use Rattle.desk_store.specs.private.Collected.{IsPut}
 use Rattle.desk_store.specs.Memory.{Holds}
+use Rattle.store_tables.specs.Arrivals.{IsTold}
+use Rattle.store_tables.specs.declared.arrival.Arrival.{Arrival}
+use Rattle.store_tables.specs.declared.arrival.Arrival.TheVariants.{New, Held}
 use Rattle.store_tables.specs.Sets.{IsWith}
 
 turned : (m n : Message) → m ≡ n → n ≡ m
@@ -47,3 +50,10 @@ pub put_adds_at_ok : {A E : Type 0} (result : Result A E) (r : Option (List ℕ)
     → OnOk result (IsPut old m new) → OnOk result (IsWith (Holds (record { roster = r; messages = old })) m (Holds (record { roster = r; messages = new })))
 put_adds_at_ok (Ok a) r old m new is put = put_adds r old m new is put
 put_adds_at_ok (Err e) r old m new is put = tt
+
+-- what is told of the list is told of the keeper
+pub put_told : {E : Type 0} (result : Result Arrival E) (r : Option (List ℕ)) (old : List Message) (m : Message) → IsMessage m
+    → IfOk result (IsTold (Contains old m)) → IfOk result (IsTold (Holds (record { roster = r; messages = old }) m))
+put_told (Ok Held) r old m is there = (is, there)
+put_told (Ok New) r old m is absent = λ held. absent held.1
+put_told (Err e) r old m is told = tt

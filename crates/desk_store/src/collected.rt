@@ -5,6 +5,7 @@ ghost use Rattle.std.specs.Prelude.{OnOk, OnErr, IfErr, IsPermutation, string_by
 ghost use Rattle.std.specs.Prelude.{vec_capacity};
 ghost use Rattle.messages.specs.Wire.{IsMessage, wire};
 ghost use Rattle.messages.specs.declared.message.Message.{Message as AnyMessage};
+ghost use Rattle.store_tables.specs.Arrivals.{IsTold};
 ghost use Rattle.desk_store.specs.private.Collected.{IsPut, has_text};
 ghost use Rattle.desk_store.specs.declared.error.KeeperError.TheVariants as error;
 
@@ -13,6 +14,7 @@ use messages::Message;
 use std::alloc::Global;
 use std::collections::HashSet;
 use std::marker::Model;
+use store_tables::Arrival;
 
 /// Messages, each once, in the order in which they came. Contracts see the list.
 #[derive(Drop)]
@@ -85,16 +87,17 @@ impl Collected {
     }
 
     /// Adds a copy of the message, whose text this is, after the others, unless it is there
-    /// already.
-    pub(crate) fn put(&mut self, message: &Message, text: &str) -> Result<(), KeeperError>
+    /// already. The answer tells which it was.
+    pub(crate) fn put(&mut self, message: &Message, text: &str) -> Result<Arrival, KeeperError>
         requires message { IsMessage message.now }
         requires text { text.now ≡ wire message.now }
         ensures put { OnOk result (IsPut self.old message.now self.new) }
+        ensures told { IfOk result (IsTold (Contains self.old message.now)) }
         ensures unchanged { OnErr result (self.new ≡ self.old) }
         ensures err { IfErr result (λ e. e ≡ error.NoMemory) }
     {
         if knows(&self.texts, text) {
-            return Ok(());
+            return Ok(Arrival::Held);
         }
         let (copy, key) = copies(self.alloc, &mut self.messages, message, text)?;
         // The copy is dropped by a call: if the exit dropped it inline, each of its fields would be
@@ -102,7 +105,7 @@ impl Collected {
         match add_text(&mut self.texts, key) {
             Ok(()) => {
                 self.messages.push_reserved(copy);
-                Ok(())
+                Ok(Arrival::New)
             }
             Err(error) => {
                 drop(copy);

@@ -10,6 +10,7 @@ use crate::found::Found;
 use crate::keeper::Keeper;
 use messages::Message;
 use outcomes::Gathered;
+use store_tables::Arrival;
 
 /// A keeper around any other: the given number of calls succeed or fail as they would, and each
 /// later one is refused before it reaches the keeper inside.
@@ -125,7 +126,7 @@ impl<K: Keeper> Keeper for FailingKeeper<K> {
         self.kept.make(text)
     }
 
-    fn add(&mut self, message: &Message, text: &str) -> Result<(), KeeperError> {
+    fn add(&mut self, message: &Message, text: &str) -> Result<Arrival, KeeperError> {
         self.kept.lasts();
         spend(&mut self.calls_left, &mut self.refused)?;
         self.kept.add(message, text)

@@ -4,6 +4,7 @@ ghost use Rattle.std.specs.Prelude.{◌≡◌, ℕ, ◌≤◌, ◌⊎◌, List, 
 ghost use Rattle.messages.specs.Wire.{IsMessage, wire};
 ghost use Rattle.messages.specs.declared.message.Message.{Message as AnyMessage};
 ghost use Rattle.store_schema.specs.Beside.{TableWithRows};
+ghost use Rattle.store_tables.specs.Arrivals.{IsTold};
 ghost use Rattle.store_tables.specs.Sets.{IsNothing, SameSet, IsWith, Lists, With};
 ghost use Rattle.desk_store.specs.Keeping.{HasFailed, IsKnownOf, IsSomeDesk, Tells, TellsKnown};
 ghost use Rattle.desk_store.specs.Left.{Left, AddsOnly, IsAsKept, IsCommitted, IsDeskOf};
@@ -15,6 +16,7 @@ use crate::error::KeeperError;
 use crate::found::Found;
 use messages::Message;
 use outcomes::Gathered;
+use store_tables::Arrival;
 
 /// What keeps a desk: it has no part of a desk, or a desk's roster text and the set of its
 /// messages, or a desk of an older form, or something that is not a desk.
@@ -115,14 +117,15 @@ pub trait Keeper {
             (is_desk self.new) (is_old self.new) (roster self.new) (holds self.new)) };
 
     /// Adds the message, whose text this is, to the desk's, in one commit. One that the desk has
-    /// already changes nothing.
-    fn add(&mut self, message: &Message, text: &str) -> Result<(), KeeperError>
+    /// already changes nothing. The answer tells which it was.
+    fn add(&mut self, message: &Message, text: &str) -> Result<Arrival, KeeperError>
         requires desk { is_up self.old → is_desk self.old }
         requires message { IsMessage message.now }
         requires text { text.now ≡ wire message.now }
         requires short { length text.now ≤ 16_384 }
         ensures added { is_up self.new
             → OnOk result (IsWith (holds self.old) message.now (holds self.new)) }
+        ensures told { is_up self.new → IfOk result (IsTold (holds self.old message.now)) }
         ensures repeated { is_up self.new → holds self.old message.now
             → OnOk result (is_same self.old self.new) }
         ensures unchanged { is_up self.new → OnErr result (is_same self.old self.new) }

@@ -17,6 +17,7 @@ use messages::Message;
 use outcomes::Gathered;
 use std::alloc::Global;
 use std::marker::Model;
+use store_tables::Arrival;
 
 /// A desk in memory, or no part of one. It is always up, never answers `Storage`, and keeps no desk
 /// of an older form.
@@ -121,7 +122,7 @@ impl Keeper for MemoryKeeper {
         Ok(())
     }
 
-    fn add(&mut self, message: &Message, text: &str) -> Result<(), KeeperError> {
+    fn add(&mut self, message: &Message, text: &str) -> Result<Arrival, KeeperError> {
         self.messages.put(message, text)
     }
 

@@ -22,7 +22,7 @@ fn each_once(alloc: Global, all: &[Stored]) -> Result<Collected, NoMemory>
 {
     let mut messages = Collected::new(alloc);
     for stored in all {
-        let Ok(()) = messages.put(stored.message(), stored.body()) else {
+        let Ok(_) = messages.put(stored.message(), stored.body()) else {
             return Err(NoMemory);
         };
     }

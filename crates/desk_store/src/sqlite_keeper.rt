@@ -29,7 +29,7 @@ use sqlite::{Alter, Connection};
 use std::alloc::Global;
 use store_opening::{Contents, InDatabase, look, messages_of};
 use store_schema::{is_ready, make};
-use store_tables::{Fault, arrive};
+use store_tables::{Arrival, Fault, arrive};
 
 /// A desk in a database over any store, or a database that has none. Between calls all that it
 /// shows is committed.
@@ -234,7 +234,7 @@ impl<S: Alter> Keeper for SqliteKeeper<S> {
         }
     }
 
-    fn add(&mut self, message: &Message, text: &str) -> Result<(), KeeperError> {
+    fn add(&mut self, message: &Message, text: &str) -> Result<Arrival, KeeperError> {
         settles(&self.conn);
         if !self.conn.is_autocommit() {
             return Err(storage(&mut self.failed));
@@ -242,7 +242,7 @@ impl<S: Alter> Keeper for SqliteKeeper<S> {
         let arrived = arrive(self.alloc, &mut self.conn, message, text);
         settles(&self.conn);
         match arrived {
-            Ok(()) => Ok(()),
+            Ok(arrival) => Ok(arrival),
             Err(refused) => Err(told(&mut self.failed, refused)),
         }
     }

@@ -8,6 +8,8 @@ use Rattle.store_tables.specs.Kept.{IsDeskDatabase, Spares}
 use Rattle.store_tables.specs.SqliteStates.{IsUp, Rests}
 use Rattle.store_tables.specs.Steps.{IsStep}
 use Rattle.store_tables.specs.Committed.{ArrivesAt}
+use Rattle.store_tables.specs.Arrivals.{IsTold}
+use Rattle.store_tables.specs.declared.arrival.Arrival.{Arrival}
 use Rattle.store_tables.specs.private.Turning.{Received, Receives}
 use Rattle.store_tables.proofs.OneSchema.{again, listed_again}
 use Rattle.store_tables.proofs.TurnLemmas.{clean_before}
@@ -76,6 +78,10 @@ module _ (text : List ℕ) (old last end : State) (rests : Rests old) (step : Is
 
       pub commit_repeated : IsUp end → has (content_of old.now) text ≡ true → end.now ≡ old.now
       commit_repeated up there = (ok up.clean).1.now_is ∙ (received (clean_last up.clean)).repeats (desk (commit_ends.was_up up)) there
+
+      pub commit_told : (arrival : Arrival) → (HasCleanDisk last → IsDeskDatabase old.now → IsTold (has (content_of old.now) text ≡ true) arrival)
+          → IsUp end → IsTold (has (content_of old.now) text ≡ true) arrival
+      commit_told arrival told up = told (clean_last up.clean) (desk (commit_ends.was_up up))
 
       pub commit_spared : IsUp end → Spares old.now end.now
       commit_spared up = subst (Spares old.now) (sym (ok up.clean).1.now_is) (receives (commit_ends.was_up up) (clean_last up.clean)).spares

@@ -6,5 +6,6 @@ pub mod Kept
 pub mod SqliteStates
 pub mod Committed
 pub mod Causes
+pub mod Arrivals
 pub mod Steps
 pub mod private

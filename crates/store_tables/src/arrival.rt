@@ -7,6 +7,7 @@ ghost use Rattle.messages.specs.Names.{name_of};
 ghost use Rattle.messages.specs.Wire.{kind_text, wire};
 ghost use Rattle.messages.specs.declared.message.Message.TheVariants as message_of;
 ghost use Rattle.store_tables.specs.Rows.{verdict_row, parked_row};
+ghost use Rattle.store_tables.specs.Arrivals.{IsTold};
 ghost use Rattle.store_tables.specs.Causes.{IsExplained};
 ghost use Rattle.store_tables.specs.Kept.{IsDeskDatabase};
 ghost use Rattle.store_tables.specs.Stored.{IsWritten, content_of, has};
@@ -26,6 +27,15 @@ use messages::{Message, MessageFault, Request, Verdict, VerdictKind, read_messag
 use sqlite::{Alter, Row, Transaction};
 use sqlite_value::value::ValueRef;
 use std::alloc::Global;
+
+/// What an arrival tells of its message.
+#[derive(Clone, Copy, Debug, PartialEq, Eq)]
+pub enum Arrival {
+    /// It was not there before.
+    New,
+    /// It was there already, and nothing changed.
+    Held,
+}
 
 /// The word for a kind of verdict.
 fn word_of(kind: VerdictKind) -> &'static str
@@ -204,12 +214,15 @@ pub(crate) fn receive<S: Alter>(
     tx: &mut Transaction<'_, S>,
     message: &Message,
     body: &str,
-) -> Result<(), Fault>
+) -> Result<Arrival, Fault>
     requires text { body.now ≡ wire message.now }
     requires written { IsWritten body.now }
     ensures same_reference { tx.new.conn.ghost_name ≡ tx.old.conn.ghost_name }
     ensures received { InStep (state S.Store tx.old.conn.now)
         (state S.Store tx.new.conn.now) (λ a b. OnOk result (Received body.now a b)) }
+    ensures told { InStep (state S.Store tx.old.conn.now) (state S.Store tx.new.conn.now)
+        (λ a b. IfOk result (λ arrival. IsDeskDatabase a.now
+        → IsTold (has (content_of a.now) body.now ≡ true) arrival)) }
     // Of a message that is there.
     ensures explained { InStep (state S.Store tx.old.conn.now) (state S.Store tx.new.conn.now)
         (λ a b. IfErr result (λ e. IsTrue a.is_open → IsDeskDatabase a.now
@@ -217,8 +230,9 @@ pub(crate) fn receive<S: Alter>(
     ensures step { IsStep (state S.Store tx.old.conn.now) (state S.Store tx.new.conn.now) }
 {
     if has_text(tx, body)? {
-        return Ok(());
+        return Ok(Arrival::Held);
     }
     put_text(tx, body)?;
-    settle(alloc, tx, message, body)
+    settle(alloc, tx, message, body)?;
+    Ok(Arrival::New)
 }

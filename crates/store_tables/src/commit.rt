@@ -1,6 +1,7 @@
 //! A message's arrival, and a new roster's text, each in one commit.
 
-ghost use Rattle.std.specs.Prelude.{◌≡◌, ◌≢◌, true, false, AllPairs, Contains, IfErr, OnOk, OnErr};
+ghost use Rattle.std.specs.Prelude.{◌≡◌, ◌≢◌, true, false, AllPairs, Contains};
+ghost use Rattle.std.specs.Prelude.{IfErr, IfOk, OnOk, OnErr};
 ghost use Rattle.sqlite.specs.State.{HasCleanDisk, IsLive, Survives};
 ghost use Rattle.sqlite.specs.Held.{state};
 ghost use Rattle.messages.specs.Wire.{wire, IsMessage};
@@ -10,9 +11,10 @@ ghost use Rattle.store_tables.specs.Kept.{HoldsText, IsDeskDatabase, Spares};
 ghost use Rattle.store_tables.specs.SqliteStates.{IsUp, Rests};
 ghost use Rattle.store_tables.specs.Stored.{IsWritten, content_of, has, with_roster, with_text};
 ghost use Rattle.store_tables.specs.Committed.{ArrivesAt, ChangesAt};
+ghost use Rattle.store_tables.specs.Arrivals.{IsTold};
 ghost use Rattle.store_tables.specs.Causes.{IsExplained};
 
-use crate::arrival::receive;
+use crate::arrival::{Arrival, receive};
 use crate::fault::Fault;
 use crate::roster::replace_within;
 use messages::Message;
@@ -27,13 +29,13 @@ fn obeys<S: Alter>(conn: &Connection<S>)
 }
 
 /// Takes a message into a desk, with all that it changes, in one commit. One that is there already
-/// changes nothing.
+/// changes nothing. The answer tells which it was.
 pub fn arrive<S: Alter>(
     alloc: Global,
     conn: &mut Connection<S>,
     message: &Message,
     body: &str,
-) -> Result<(), Fault>
+) -> Result<Arrival, Fault>
     requires autocommit { conn.old.in_transaction ≡ false }
     requires rests { Rests (state S.Store conn.old) }
     requires desk { IsUp (state S.Store conn.old) → IsDeskDatabase (state S.Store conn.old).now }
@@ -49,6 +51,8 @@ pub fn arrive<S: Alter>(
     ensures arrived { IsUp (state S.Store conn.new)
         → OnOk result (content_of (state S.Store conn.new).now
         ≡ with_text body.now (content_of (state S.Store conn.old).now)) }
+    ensures told { IsUp (state S.Store conn.new) → IfOk result
+        (IsTold (has (content_of (state S.Store conn.old).now) body.now ≡ true)) }
     ensures repeated { IsUp (state S.Store conn.new)
         → has (content_of (state S.Store conn.old).now) body.now ≡ true
         → OnOk result ((state S.Store conn.new).now ≡ (state S.Store conn.old).now) }
@@ -66,9 +70,9 @@ pub fn arrive<S: Alter>(
 {
     obeys(conn);
     let mut tx = conn.transaction();
-    receive(alloc, &mut tx, message, body)?;
+    let arrival = receive(alloc, &mut tx, message, body)?;
     tx.commit()?;
-    Ok(())
+    Ok(arrival)
 }
 
 /// Replaces the desk's roster text, and makes all rows anew from its messages, in one commit.

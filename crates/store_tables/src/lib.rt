@@ -8,6 +8,7 @@ mod refill;
 mod roster;
 mod statements;
 
+pub use arrival::Arrival;
 pub use commit::{arrive, replace};
 pub use fault::Fault;
 pub use refill::refill_rows;

@@ -1,11 +1,13 @@
 -- What is known of a desk's messages. For private clauses.
-use Rattle.std.specs.Prelude.{◌≡◌, ℕ, List, [], Option, Some, None, IfSome}
+use Rattle.std.specs.Prelude.{◌≡◌, ℕ, List, [], ◌∷◌, ◌++◌, Option, Some, None, IfSome}
 use Rattle.sudo_words.specs.declared.cmnd.Cmnd.{Cmnd}
 use Rattle.messages.specs.declared.message.Message.{Message}
 use Rattle.roster.specs.Fields.{RosterFields}
 use Rattle.outcomes.specs.Gathered.{AreGathered}
 use Rattle.suspects.specs.LookedAt.{AreKnownSuspects}
 use Rattle.store_tables.specs.Sets.{IsNothing, Lists}
+use Rattle.store_tables.specs.declared.arrival.Arrival.{Arrival}
+use Rattle.store_tables.specs.declared.arrival.Arrival.TheVariants.{New, Held}
 use Rattle.desk_store.specs.Keeping.{IsKnownOf}
 use Rattle.desk.specs.Count.{IsCount}
 use Rattle.desk.specs.declared.loading.Known.{Known}
@@ -16,6 +18,11 @@ use Rattle.desk.specs.declared.opening.Origin.TheVariants.{Found, Made}
 abbrev pub IsCounted : List Message → Option ℕ → Type 0
 IsCounted set None = Unit {0}
 IsCounted set (Some count) = IsCount set count
+
+-- the set once the message came, which was new, or which it had
+abbrev pub set_after : Arrival → List Message → Message → List Message
+set_after New set m = set ++ m ∷ []
+set_after Held set m = set
 
 -- this is known of the listed set under the roster
 abbrev pub IsKnownIn : RosterFields Cmnd → List Message → Known → Type 0

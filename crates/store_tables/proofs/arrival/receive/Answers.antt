@@ -1,8 +1,9 @@
+use Rattle.std.proofs.Common.{◌∙◌, sym}
 use Rattle.std.proofs.lemmas.Result.{err_from_is_err_and}
 use Rattle.sqlite.specs.Held.{state}
 use Rattle.store_tables.proofs.CauseLemmas.{never_missing, never_refused}
 use Rattle.store_tables.proofs.ReceiveLemmas.{again, anew}
-use Rattle.store_tables.proofs.TurnLemmas.{clean_before, on_ok}
+use Rattle.store_tables.proofs.TurnLemmas.{clean_before}
 use Rattle.store_tables.proofs.arrival.receive.Goals as goal
 
 pub returns-then-branch-clause-received : goal.returns-then-branch-clause-received
@@ -19,8 +20,22 @@ returns-clause-received g c clean inside =
     let clean_b = clean_before b d _ c.settle.ensures.step.survives clean in
     let finds = c.in_ok-has_text.ensures.finds (clean_before z b _ c.put_text.ensures.survives clean_b) inside in
     let wrote = c.in_ok-put_text.ensures.wrote clean_b finds.begun.mode in
-    on_ok c.settle.result _ _ (anew c.args.body.now c.in_ok-has_text.field-0 c.args.message.now a z b d
-    c.requires.written c.requires.text c.if-branch.false finds wrote) (c.settle.ensures.settled clean wrote.inside.mode)
+    anew c.args.body.now c.in_ok-has_text.field-0 c.args.message.now a z b d
+    c.requires.written c.requires.text c.if-branch.false finds wrote (c.in_ok-settle.ensures.settled clean wrote.inside.mode)
+
+pub returns-then-branch-clause-told : goal.returns-then-branch-clause-told
+returns-then-branch-clause-told g c clean inside = λ desk.
+    sym ((c.in_ok-has_text.ensures.finds clean inside).tells desk.tidy) ∙ c.if-branch.true
+
+pub returns-clause-told : goal.returns-clause-told
+returns-clause-told g c clean inside =
+    let a = state g.S.Store c.args.tx.now.conn.now in
+    let z = state g.S.Store c.has_text.new.tx.conn.now in
+    let b = state g.S.Store c.put_text.new.tx.conn.now in
+    let d = state g.S.Store c.settle.new.tx.conn.now in
+    let clean_b = clean_before b d _ c.settle.ensures.step.survives clean in
+    let finds = c.in_ok-has_text.ensures.finds (clean_before z b _ c.put_text.ensures.survives clean_b) inside in
+    λ desk there. never_missing c.args.body.now c.in_ok-has_text.field-0 a z c.if-branch.false finds desk there
 
 pub returns-in_err-has_text-clause-explained : goal.returns-in_err-has_text-clause-explained
 returns-in_err-has_text-clause-explained g c clean inside =
@@ -35,12 +50,12 @@ returns-in_err-put_text-clause-explained g c clean inside =
     let finds = c.in_ok-has_text.ensures.finds (clean_before z b _ c.put_text.ensures.survives clean) inside in
     never_refused c.from_residual-in_err-put_text.result _ _ _ _ (λ is_open. never_missing c.args.body.now c.in_ok-has_text.field-0 a z c.if-branch.false finds)
 
-pub returns-clause-explained : goal.returns-clause-explained
-returns-clause-explained g c clean inside =
+pub returns-in_err-settle-clause-explained : goal.returns-in_err-settle-clause-explained
+returns-in_err-settle-clause-explained g c clean inside =
     let a = state g.S.Store c.args.tx.now.conn.now in
     let z = state g.S.Store c.has_text.new.tx.conn.now in
     let b = state g.S.Store c.put_text.new.tx.conn.now in
     let d = state g.S.Store c.settle.new.tx.conn.now in
     let clean_b = clean_before b d _ c.settle.ensures.step.survives clean in
     let finds = c.in_ok-has_text.ensures.finds (clean_before z b _ c.put_text.ensures.survives clean_b) inside in
-    never_refused c.settle.result _ _ _ _ (λ is_open. never_missing c.args.body.now c.in_ok-has_text.field-0 a z c.if-branch.false finds)
+    never_refused c.from_residual-in_err-settle.result _ _ _ _ (λ is_open. never_missing c.args.body.now c.in_ok-has_text.field-0 a z c.if-branch.false finds)

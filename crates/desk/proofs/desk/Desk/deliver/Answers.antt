@@ -10,8 +10,8 @@ use Rattle.desk.specs.Crash.{IsAddedByDelivery}
 use Rattle.desk.specs.Delivery.{Delivery, IsBodyOf, IsDeliveryAnswer}
 use Rattle.desk.specs.private.Known.{IsKnown}
 use Rattle.desk.specs.declared.refusal.Refusal.TheVariants.{Storage}
-use Rattle.desk.proofs.DeliveryLemmas.{acknowledged, held_at_ok, refused, same_body}
-use Rattle.desk.proofs.KnownLemmas.{known_more}
+use Rattle.desk.proofs.DeliveryLemmas.{acknowledged, at_ok, held_at_ok, of_ok, refused, same_body}
+use Rattle.desk.proofs.KnownLemmas.{known_then}
 use Rattle.desk.proofs.LeftLemmas.{adds_as, known_of_up}
 use Rattle.desk.proofs.RefusalLemmas.{told_storage}
 use Rattle.desk.proofs.desk.Desk.deliver.Goals as goal
@@ -39,7 +39,7 @@ returns-clause-held g c = λ up.
     let d : Delivery = record { relay = c.args.relay.now; body = c.args.body.now } in
     let K = g.K.Keeper in
     let held = held_at_ok (K.holds c.self.inside.keeper) (K.holds c.add-added.new.self) d
-    (record {}) c.in_ok-message.message c.in_ok-message.ensures.found.0 (c.in_ok-added.ensures.added up) in
+    (record {}) c.in_ok-message.message c.in_ok-message.ensures.found.0 (at_ok c.in_ok-added.was (c.add-added.ensures.added up)) in
     rw (← c.self.view_is) held
 
 pub returns-clause-repeated : goal.returns-clause-repeated
@@ -48,7 +48,7 @@ returns-clause-repeated g c = λ up.
     let old = c.self.inside.keeper in
     let n = c.in_ok-message.message in
     let again : (m : Message) → IsBodyOf c.args.body.now m → K.holds old m → K.is_same old c.add-added.new.self = λ m body held.
-    c.in_ok-added.ensures.repeated up (subst (K.holds old) (same_body c.args.body.now m n body c.in_ok-message.ensures.found.0) held) in
+    at_ok c.in_ok-added.was (c.add-added.ensures.repeated up (subst (K.holds old) (same_body c.args.body.now m n body c.in_ok-message.ensures.found.0) held)) in
     rw (← c.self.view_is) again
 
 pub invariant_of-self-2 : goal.invariant_of-self-2
@@ -57,14 +57,16 @@ invariant_of-self-2 g c =
     let old = c.self.inside.keeper in
     let new = c.add-added.new.self in
     let f = c.self.inside.roster.says in
-    let known = subst (IsKnown f (K.is_up old) (K.holds old)) (sym c.take.ensures.value) c.self.invariant.4 in (
+    let known = subst (IsKnown f (K.is_up old) (K.holds old)) (sym c.take-known.ensures.value) c.self.invariant.4 in (
       c.self.invariant.0,
       λ up. c.add-added.ensures.desk up,
       λ up. c.add-added.ensures.roster up ∙ c.self.invariant.2 (c.add-added.ensures.served.was_up up),
       λ up. c.add-added.ensures.durable up,
-      known_more f (K.is_up old) (K.is_up new) (K.holds old) (K.holds new) c.in_ok-message.message c.take.result c.with_message-known.result known
-          c.add-added.ensures.served.was_up c.in_ok-added.ensures.added (c.with_message-known.ensures.more f) c.with_message-known.ensures.nothing,
-      known_of_up (K.is_clean new) (K.is_up new) c.with_message-known.result c.in_ok-added.ensures.live,
+      known_then f (K.is_up old) (K.is_up new) (K.holds old) (K.holds new) c.in_ok-message.message c.in_ok-added.field-0 c.take-known.result
+          c.known_after-known.result known c.add-added.ensures.served.was_up
+          (λ up. at_ok c.in_ok-added.was (c.add-added.ensures.added up)) (λ up. of_ok _ c.in_ok-added.was (c.add-added.ensures.told up))
+          (λ set. c.known_after-known.ensures.more f set c.in_ok-added.field-0 c.in_ok-added.was) c.known_after-known.ensures.nothing,
+      known_of_up (K.is_clean new) (K.is_up new) c.known_after-known.result (λ clean. at_ok c.in_ok-added.was (c.add-added.ensures.live clean)),
     )
 
 pub returns-in_err-added-clause-leaves : goal.returns-in_err-added-clause-leaves

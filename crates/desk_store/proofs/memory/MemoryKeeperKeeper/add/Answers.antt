@@ -1,11 +1,12 @@
 use Rattle.std.proofs.Common.{◌⊎◌, subst}
-use Rattle.std.specs.Prelude.{⊤, [], IsSome, OnOk, option_map, string_bytes, unwrap_or}
+use Rattle.std.specs.Prelude.{⊤, [], IfOk, IsSome, OnOk, option_map, string_bytes, unwrap_or}
 use Rattle.desk_store.specs.Memory.{MemoryContent, Holds}
+use Rattle.store_tables.specs.Arrivals.{IsTold}
 use Rattle.store_tables.specs.Sets.{IsWith, With}
 use Rattle.desk_store.specs.Left.{IsCommitted, IsDeskOf, IsWithOrWithout, LeavesOnly}
 use Rattle.desk_store.specs.Crash.{LeavesContent}
 use Rattle.desk_store.proofs.MemoryLeft.{put_adds_only, put_lasts, put_leaves}
-use Rattle.desk_store.proofs.MemoryLemmas.{put_adds_at_ok}
+use Rattle.desk_store.proofs.MemoryLemmas.{put_adds_at_ok, put_told}
 use Rattle.desk_store.proofs.memory.MemoryKeeperKeeper.add.Goals as goal
 
 pub returns-clause-added : goal.returns-clause-added
@@ -14,6 +15,12 @@ returns-clause-added c = λ up.
     let P : MemoryContent → Type 0 =
     λ old. OnOk c.put.result (IsWith (Holds old) c.args.message.now (Holds (record { roster = roster; messages = c.put.new.self }))) in
     subst P c.self.view_is (put_adds_at_ok c.put.result roster c.self.inside.messages c.args.message.now c.put.new.self c.requires.message c.put.ensures.put)
+
+pub returns-clause-told : goal.returns-clause-told
+returns-clause-told c = λ up.
+    let roster = option_map string_bytes c.self.inside.roster in
+    let P : MemoryContent → Type 0 = λ old. IfOk c.put.result (IsTold (Holds old c.args.message.now)) in
+    subst P c.self.view_is (put_told c.put.result roster c.self.inside.messages c.args.message.now c.requires.message c.put.ensures.told)
 
 pub returns-clause-crash : goal.returns-clause-crash
 returns-clause-crash c = λ up clean left may.

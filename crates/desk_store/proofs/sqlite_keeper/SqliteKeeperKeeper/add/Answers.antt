@@ -5,7 +5,7 @@ use Rattle.sqlite.specs.State.{Survives}
 use Rattle.store_tables.specs.Stored.{Content, content_of}
 use Rattle.store_tables.specs.SqliteStates.{IsUp}
 use Rattle.store_tables.specs.Committed.{ArrivesAt}
-use Rattle.desk_store.proofs.ArrivalLemmas.{arrival_keeps, content_wired, held_wired}
+use Rattle.desk_store.proofs.ArrivalLemmas.{arrival_keeps, content_wired, held_wired, told_wired}
 use Rattle.desk_store.proofs.FoundLemmas.{arrival_lasts, one_more, up_left, with_message, with_or_without}
 use Rattle.store_schema.proofs.BesideLemmas.{same_beside, spared_beside}
 use Rattle.desk_store.proofs.OutcomeLemmas.{ok_no_err, storage_caused}
@@ -58,6 +58,16 @@ pub returns-in-Ok-clause-added : goal.returns-in-Ok-clause-added
 returns-in-Ok-clause-added g c up = with_message (state g.S.Store c.args.self.now.conn).now
     (state g.S.Store c.arrive-arrived.new.conn).now c.args.message.now c.requires.message (content_wired (state g.S.Store c.args.self.now.conn).now
     (state g.S.Store c.arrive-arrived.new.conn).now c.args.message.now c.args.text.now c.requires.text (c.in-Ok.ensures.arrived up))
+
+pub returns-then-not-is_autocommit-clause-told : goal.returns-then-not-is_autocommit-clause-told
+returns-then-not-is_autocommit-clause-told g c up = tt
+
+pub returns-in-Ok-clause-told : goal.returns-in-Ok-clause-told
+returns-in-Ok-clause-told g c up = told_wired (state g.S.Store c.args.self.now.conn).now c.args.message.now c.args.text.now
+    c.in-Ok.arrival c.requires.message c.requires.text (c.in-Ok.ensures.told up)
+
+pub returns-in-Err-clause-told : goal.returns-in-Err-clause-told
+returns-in-Err-clause-told g c up = tt
 
 pub returns-in-Ok-clause-repeated : goal.returns-in-Ok-clause-repeated
 returns-in-Ok-clause-repeated g c up there =
