@@ -1,6 +1,7 @@
 -- The summaries of the names that are left at a host are those that what is left of its lines comes from, and the grants in force those of all names.
-use Rattle.std.proofs.Common.{◌≡◌, ℕ, ◌++◌, true, List, [], ◌∷◌, Option, Some, None, refl, sym, ap, ◌∙◌, subst, inl, inr, append_assoc}
-use Rattle.std.proofs.lemmas.List.{append-nil}
+use Rattle.std.proofs.Common.{◌≡◌, ℕ, ◌+◌, ◌<◌, ◌++◌, true, length, take, drop, get_or, Bor, List, [], ◌∷◌}
+use Rattle.std.proofs.Common.{Option, Some, None, refl, sym, ap, ◌∙◌, subst, inl, inr, append_assoc}
+use Rattle.std.proofs.lemmas.List.{append-nil, map-append, take-append-drop}
 use Rattle.std.specs.List.{Contains}
 use Rattle.std.specs.List.Sorted.{IsStrictlySortedBy}
 use Rattle.std.specs.BTreeMap.{BTreeMap, values}
@@ -13,11 +14,12 @@ use Rattle.messages.specs.Order.{AreInOrder}
 use Rattle.messages.specs.declared.message.Message.{Message}
 use Rattle.messages.specs.declared.request_name.RequestName.{RequestName}
 use Rattle.messages.proofs.NameOrder.{lower_from_less}
+use Rattle.sudo_decide.proofs.AnswerLemmas.{take_one_more}
 use Rattle.grants.specs.Summaries.{Kept, StandsFor}
 use Rattle.outcomes.specs.Summaries.{SummaryPrecedes}
 use Rattle.outcomes.specs.declared.index.Ending.{Ending}
 use Rattle.outcomes.specs.declared.index.Index.{Index}
-use Rattle.outcomes.specs.private.Index.{AreListed, AreNamesLeft, IsListed, ending_of, endings_at, if_kept, is_left, kept_of}
+use Rattle.outcomes.specs.private.Index.{AreListed, AreNamesLeft, IsListed, ending_of, endings_at, if_kept, is_left, kept_of, names_lent}
 use Rattle.outcomes.specs.private.ByName.{AreRequests, Gathers, at_name}
 use Rattle.outcomes.proofs.ByNameLemmas.{kept_at}
 use Rattle.outcomes.proofs.GatherLemmas.{named_at}
@@ -51,6 +53,20 @@ module _ (m : BTreeMap RequestName Kept) where
   kept_both (n ∷ xs) ys =
       ap (λ (ks : List Kept). if_kept (at_name m n) ++ ks) (kept_both xs ys)
       ∙ sym (append_assoc (if_kept (at_name m n)) (kept_of m xs) (kept_of m ys))
+
+  -- the names so far, of some that are lent, and one more
+  pub lent_more : (ns : List (Bor RequestName)) (i : ℕ) (n : Bor RequestName) → i < length ns → n ≡ get_or ns i n
+      → kept_of m (names_lent (take (i + 1) ns)) ≡ kept_of m (names_lent (take i ns)) ++ if_kept (at_name m n.now)
+  lent_more ns i n within is =
+      ap (kept_of m) (ap names_lent (take_one_more ns i n within is) ∙ map-append (λ (name : Bor RequestName). name.now) (take i ns) (n ∷ []))
+      ∙ kept_more (names_lent (take i ns)) n.now
+
+  -- those so far and the others are all
+  pub lent_both : (ns : List (Bor RequestName)) (i : ℕ)
+      → kept_of m (names_lent (take i ns)) ++ kept_of m (names_lent (drop i ns)) ≡ kept_of m (names_lent ns)
+  lent_both ns i =
+      sym (kept_both (names_lent (take i ns)) (names_lent (drop i ns)))
+      ∙ ap (kept_of m) (sym (map-append (λ (name : Bor RequestName). name.now) (take i ns) (drop i ns)) ∙ ap names_lent (take-append-drop i ns))
 
   -- each is the summary of one of the names
   pub kept_from : (names : List RequestName) (k : Kept) → Contains (kept_of m names) k

@@ -1,17 +1,23 @@
 -- The index, as requests are listed and as summaries come.
-use Rattle.std.proofs.Common.{◌≡◌, ℕ, ◌<◌, ◌≤◌, ◌⊎◌, true, false, List, [], ◌∷◌, ◌++◌, Option, Some, None}
+use Rattle.std.proofs.Common.{◌≡◌, ℕ, ◌<◌, ◌≤◌, Bool, true, false, ◌&&◌, ◌==◌, List, [], ◌∷◌, ◌++◌, Option, Some, None, Bor, bytes_eq}
 use Rattle.std.proofs.Common.{refl, sym, ap, ◌∙◌, subst, inl, inr, arith, append_assoc}
-use Rattle.std.specs.List.{Contains, AllByRecursion}
-use Rattle.std.specs.List.Sorted.{IsStrictlySortedBy}
+use Rattle.std.specs.List.{Contains, AllByRecursion, dedup}
+use Rattle.std.specs.List.Retain.{IsFiltered, DiffersFromLast}
+use Rattle.std.specs.List.Sorted.{IsPermutation, IsSorted, IsStrictlySortedBy}
 use Rattle.std.specs.BTreeMap.{BTreeMap, Updates, get, is_at}
 use Rattle.std.specs.BTreeSet.{BTreeSet, insert_key}
-use Rattle.std.specs.Cmp.Lexicographic.{slice_cmp}
-use Rattle.std.specs.Ordering.{MatchOrdering, match_ordering, nat_cmp, ordering_then}
+use Rattle.std.specs.Cmp.{IsEquivalence, IsTotalOrder, and_equiv, nat_eq_equiv, on_equiv, unsigned_ties}
+use Rattle.std.specs.Cmp.Lexicographic.{on_texts_equal, slice_cmp, texts_ties}
+use Rattle.std.specs.Ordering.{MatchOrdering, is_eq, match_ordering, nat_cmp, ordering_then}
 use Rattle.std.specs.declared.cmp.Ordering.{Ordering}
 use Rattle.std.specs.declared.cmp.Ordering.TheVariants.{Less, Equal, Greater}
 use Rattle.std.proofs.lemmas.Bool.{cases_Bool, leb-true, le-leb}
-use Rattle.std.proofs.lemmas.Cmp.{ranked}
-use Rattle.std.proofs.lemmas.List.Elements.{Contains-append_right, Contains-append_cases}
+use Rattle.std.proofs.lemmas.Cmp.{on_total, ranked}
+use Rattle.std.proofs.lemmas.List.{map-append}
+use Rattle.std.proofs.lemmas.List.Elements.{Contains-append_left, Contains-append_right, Contains-append_cases}
+use Rattle.std.proofs.lemmas.List.Filters.{dedup_is}
+use Rattle.std.proofs.lemmas.List.Kept.{Any-dedup, Contains-from_dedup, IsStrictlySortedBy-dedup}
+use Rattle.std.proofs.lemmas.List.Sorted.{Contains-permutation, IsPermutation-sym}
 use Rattle.std.proofs.lemmas.Map.Keys.{sorted_head, sorted_tail}
 use Rattle.std.proofs.lemmas.Map.Lookups.{exact_bytes, exact_unsigned}
 use Rattle.messages.specs.Fields.{RequestFields}
@@ -21,9 +27,10 @@ use Rattle.grants.specs.Summaries.{Kept}
 use Rattle.outcomes.specs.declared.index.Ending.{Ending}
 use Rattle.outcomes.specs.declared.index.Index.{Index}
 use Rattle.outcomes.specs.private.ByName.{AreRequests, at_name}
-use Rattle.outcomes.specs.private.Index.{AreListed, AreNamesLeft, Hosts, IsListed, IsNameLeft, ending_cmp, ending_of, endings_at, endings_in, is_left}
+use Rattle.outcomes.specs.private.Index.{AreListed, AreNamesLeft, Hosts, IsListed, IsNameLeft}
+use Rattle.outcomes.specs.private.Index.{ending_cmp, ending_of, endings_at, endings_in, is_left, names_lent}
 use Rattle.outcomes.proofs.Membership.{no_member, Contains-head, Contains-behind, Contains-cases}
-use Rattle.outcomes.proofs.NameMaps.{SetsAt, at_none, at_same, equal_from_test, same_cases, same_from_equal}
+use Rattle.outcomes.proofs.NameMaps.{SetsAt, at_none, at_same, equal_from_test, equal_itself, names_total, same_cases, same_from_equal}
 
 -- ---- the order of endings
 
@@ -64,23 +71,6 @@ module _ {X : Type 0} (cmp : X → X → Ordering) (exact : (a b : X) → cmp a 
           elim (Contains-cases x xs other m) as (λ _. Contains (x ∷ insert_key cmp xs k) other) [
             | inl same ↦ subst (λ (y : X). Contains (x ∷ insert_key cmp xs k) y) same (Contains-head x (insert_key cmp xs k))
             | inr later ↦ Contains-behind x (insert_key cmp xs k) other (more later)
-          ]
-
-  pub inserted_from : (ks : List X) (k other : X) → Contains (insert_key cmp ks k) other → (k ≡ other) ⊎ Contains ks other
-  inserted_from [] k other m = Contains-cases k [] other m
-  inserted_from (x ∷ xs) k other m = at (cmp k x) (inserted_from xs k other) m
-    where
-      at : (o : Ordering) → (Contains (insert_key cmp xs k) other → (k ≡ other) ⊎ Contains xs other)
-          → Contains (match_ordering o (k ∷ x ∷ xs) (x ∷ xs) (x ∷ insert_key cmp xs k)) other → (k ≡ other) ⊎ Contains (x ∷ xs) other
-      at Less more among = Contains-cases k (x ∷ xs) other among
-      at Equal more among = inr among
-      at Greater more among =
-          elim (Contains-cases x (insert_key cmp xs k) other among) as (λ _. (k ≡ other) ⊎ Contains (x ∷ xs) other) [
-            | inl same ↦ inr (subst (λ (y : X). Contains (x ∷ xs) y) same (Contains-head x xs))
-            | inr later ↦ elim (more later) as (λ _. (k ≡ other) ⊎ Contains (x ∷ xs) other) [
-              | inl new ↦ inl new
-              | inr old ↦ inr (Contains-behind x xs other old)
-            ]
           ]
 
 -- ---- the endings at one host are set
@@ -211,37 +201,51 @@ none_before after front rest e x sorted ended m left =
     let wrong : false ≡ true = sym ended ∙ also in
     absurd cc
 
-pub none_left : (after : Option ℕ) (names : List RequestName) → names ≡ [] → IsStrictlySortedBy name_cmp names → AreNamesLeft after [] names
-none_left after names empty in_order = record {
-  in_order = in_order;
-  each = λ name m. absurd (no_member name (subst (λ (ns : List RequestName). Contains ns name) empty m));
+-- the names of the endings that are left, in any order
+pub record AreLeft (after : Option ℕ) (endings : List Ending) (names : List RequestName) : Type 0 where
+  pub each : (name : RequestName) → Contains names name → IsNameLeft after endings name
+  pub all : (ending : Ending) → Contains endings ending → is_left after ending.until ≡ true → Contains names ending.name
+
+pub none_left : (after : Option ℕ) (names : List (Bor RequestName)) → names ≡ [] → AreLeft after [] (names_lent names)
+none_left after names empty = record {
+  each = λ name m. absurd (no_member name (subst (λ (ns : List (Bor RequestName)). Contains (names_lent ns) name) empty m));
   all = λ e m left. absurd (no_member e m);
 }
 
+-- at a host where nothing is listed
+pub none_at : (after : Option ℕ) (names : List (Bor RequestName)) → names ≡ [] → AreNamesLeft after [] (names_lent names)
+unfolding IsStrictlySortedBy
+none_at after names empty =
+    let are = none_left after names empty in
+    record { in_order = subst (λ (ns : List (Bor RequestName)). IsStrictlySortedBy name_cmp (names_lent ns)) (sym empty) tt; each = are.each; all = are.all }
+
 -- one ending more, from behind
-pub left_more : (after : Option ℕ) (seen : List Ending) (names : List RequestName) (e : Ending) (name : RequestName) → name ≡ e.name
-    → is_left after e.until ≡ true → IsStrictlySortedBy name_cmp (insert_key name_cmp names name)
-    → AreNamesLeft after seen names → AreNamesLeft after (e ∷ seen) (insert_key name_cmp names name)
-left_more after seen names e name is left in_order are = record {
-  in_order = in_order;
-  each = λ other m. elim (inserted_from name_cmp same_from_equal names name other m) as (λ _. IsNameLeft after (e ∷ seen) other) [
-    | inl same ↦ record { ending = e; among = Contains-head e seen; left = left; named = sym is ∙ same }
-    | inr old ↦
-        let found = are.each other old in
+pub left_more : (after : Option ℕ) (seen : List Ending) (old new : List (Bor RequestName)) (e : Ending) (n : Bor RequestName) → new ≡ old ++ n ∷ []
+    → n.now ≡ e.name → is_left after e.until ≡ true → AreLeft after seen (names_lent old) → AreLeft after (e ∷ seen) (names_lent new)
+left_more after seen old new e n more is left are = subst (AreLeft after (e ∷ seen)) (sym more_names) record {
+  each = λ other m. elim (Contains-append_cases (names_lent old) (n.now ∷ []) other m) as (λ _. IsNameLeft after (e ∷ seen) other) [
+    | inl before ↦
+        let found = are.each other before in
         record { ending = found.ending; among = Contains-behind e seen found.ending found.among; left = found.left; named = found.named }
+    | inr last ↦ elim (Contains-cases n.now [] other last) as (λ _. IsNameLeft after (e ∷ seen) other) [
+      | inl same ↦ record { ending = e; among = Contains-head e seen; left = left; named = sym is ∙ same }
+      | inr none ↦ absurd (no_member other none)
+    ]
   ];
-  all = λ x m lasts. elim (Contains-cases e seen x m) as (λ _. Contains (insert_key name_cmp names name) x.name) [
-    | inl same ↦ subst (λ (n : RequestName). Contains (insert_key name_cmp names name) n) (is ∙ ap (λ (y : Ending). y.name) same)
-        (inserted_here name_cmp same_from_equal names name)
-    | inr later ↦ inserted_stays name_cmp same_from_equal names name x.name (are.all x later lasts)
+  all = λ x m lasts. elim (Contains-cases e seen x m) as (λ _. Contains (names_lent old ++ n.now ∷ []) x.name) [
+    | inl same ↦ Contains-append_right (names_lent old) (n.now ∷ []) x.name
+        (subst (λ (y : RequestName). Contains (n.now ∷ []) y) (is ∙ ap (λ (y : Ending). y.name) same) (Contains-head n.now []))
+    | inr later ↦ Contains-append_left (names_lent old) (n.now ∷ []) x.name (are.all x later lasts)
   ];
 }
+  where
+    more_names : names_lent new ≡ names_lent old ++ n.now ∷ []
+    more_names = ap names_lent more ∙ map-append (λ (name : Bor RequestName). name.now) old (n ∷ [])
 
 -- these are all that are left once an ending is not left, or once none is before them
 pub left_whole : (after : Option ℕ) (front seen all : List Ending) (e : Ending) (names : List RequestName) → (front ++ e ∷ []) ++ seen ≡ all
-    → IsStrictlySortedBy ending_cmp all → is_left after e.until ≡ false → AreNamesLeft after seen names → AreNamesLeft after all names
+    → IsStrictlySortedBy ending_cmp all → is_left after e.until ≡ false → AreLeft after seen names → AreLeft after all names
 left_whole after front seen all e names split sorted ended are = record {
-  in_order = are.in_order;
   each = λ name m.
       let found = are.each name m in
       record {
@@ -268,3 +272,89 @@ left_whole after front seen all e names split sorted ended are = record {
         ])
       ];
 }
+
+-- ---- in their order, each once
+
+-- the order of names that are lent, and the test by which `dedup` compares two
+abbrev pub lent_cmp : Bor RequestName → Bor RequestName → Ordering
+lent_cmp a b = name_cmp a.now b.now
+
+abbrev pub lent_eq : Bor RequestName → Bor RequestName → Bool
+lent_eq a b = bytes_eq a.now.by b.now.by && (a.now.no == b.now.no)
+
+lent_total : IsTotalOrder lent_cmp
+lent_total = on_total (λ (n : Bor RequestName). n.now) names_total
+
+lent_equiv : IsEquivalence lent_eq
+lent_equiv = and_equiv (on_texts_equal (λ (n : Bor RequestName). n.now.by)) (on_equiv (λ (n : Bor RequestName). n.now.no) nat_eq_equiv)
+
+tie_both : (a b : Ordering) → (is_eq a && is_eq b) ≡ is_eq (ordering_then a b)
+tie_both Less b = refl
+tie_both Equal b = refl
+tie_both Greater b = refl
+
+-- the derived test and the order agree
+pub names_tie : (a b : RequestName) → (bytes_eq a.by b.by && (a.no == b.no)) ≡ is_eq (name_cmp a b)
+names_tie a b =
+    ap (λ (t : Bool). t && (a.no == b.no)) (texts_ties a.by b.by)
+    ∙ ap (λ (t : Bool). is_eq (slice_cmp nat_cmp a.by b.by) && t) (unsigned_ties a.no b.no)
+    ∙ tie_both (slice_cmp nat_cmp a.by b.by) (nat_cmp a.no b.no)
+
+lent_ties : (a b : Bor RequestName) → lent_eq a b ≡ is_eq (lent_cmp a b)
+lent_ties a b = names_tie a.now b.now
+
+pub same_from_test : (a b : RequestName) → (bytes_eq a.by b.by && (a.no == b.no)) ≡ true → a ≡ b
+same_from_test a b e = same_from_equal a b (equal_from_test (name_cmp a b) (sym (names_tie a b) ∙ e))
+
+-- and two names that differ fail the test
+pub same_passes : (a b : RequestName) → a ≡ b → (bytes_eq a.by b.by && (a.no == b.no)) ≡ true
+same_passes a b same = names_tie a b ∙ ap (λ (x : RequestName). is_eq (name_cmp a x)) (sym same) ∙ ap is_eq (equal_itself a)
+
+lent_after : (n : Bor RequestName) (ns : List (Bor RequestName)) → AllByRecursion (λ m. lent_cmp n m ≡ Less) ns
+    → AllByRecursion (λ name. name_cmp n.now name ≡ Less) (names_lent ns)
+lent_after n [] all = tt
+lent_after n (m ∷ ns) all = (all.0, lent_after n ns all.1)
+
+lent_sorted : (ns : List (Bor RequestName)) → IsStrictlySortedBy lent_cmp ns → IsStrictlySortedBy name_cmp (names_lent ns)
+unfolding IsStrictlySortedBy
+lent_sorted [] s = tt
+lent_sorted (n ∷ ns) s = (lent_after n ns s.0, lent_sorted ns s.1)
+
+lent_among : (ns : List (Bor RequestName)) (n : Bor RequestName) → Contains ns n → Contains (names_lent ns) n.now
+lent_among [] n m = absurd (no_member n m)
+lent_among (k ∷ ns) n m =
+    elim (Contains-cases k ns n m) as (λ _. Contains (k.now ∷ names_lent ns) n.now) [
+      | inl same ↦ subst (λ (x : Bor RequestName). Contains (k.now ∷ names_lent ns) x.now) same (Contains-head k.now (names_lent ns))
+      | inr later ↦ Contains-behind k.now (names_lent ns) n.now (lent_among ns n later)
+    ]
+
+among_lent : (ns : List (Bor RequestName)) (name : RequestName) → Contains (names_lent ns) name
+    → (n : Bor RequestName) × Contains ns n × (n.now ≡ name)
+among_lent [] name m = absurd (no_member name m)
+among_lent (k ∷ ns) name m =
+    elim (Contains-cases k.now (names_lent ns) name m) as (λ _. (n : Bor RequestName) × Contains (k ∷ ns) n × (n.now ≡ name)) [
+      | inl same ↦ (k, Contains-head k ns, same)
+      | inr later ↦ let found = among_lent ns name later in (found.0, Contains-behind k ns found.0 found.1, found.2)
+    ]
+
+-- what `sort` and `dedup` leave of the names that are left
+pub left_in_order : (after : Option ℕ) (endings : List Ending) (names sorted kept : List (Bor RequestName)) → AreLeft after endings (names_lent names)
+    → IsPermutation names sorted → IsSorted lent_cmp sorted → IsFiltered (DiffersFromLast lent_eq) [] sorted kept
+    → AreNamesLeft after endings (names_lent kept)
+left_in_order after endings names sorted kept are moved ordered filtered = record {
+  in_order = lent_sorted kept (subst (IsStrictlySortedBy lent_cmp) (sym is) (IsStrictlySortedBy-dedup lent_total lent_ties sorted ordered));
+  each = λ name m.
+      let found = among_lent kept name m in
+      let inside : Contains sorted found.0 =
+      Contains-from_dedup lent_eq sorted found.0 (subst (λ (ns : List (Bor RequestName)). Contains ns found.0) is found.1) in
+      let before = Contains-permutation sorted names found.0 (IsPermutation-sym names sorted moved) inside in
+      are.each name (subst (Contains (names_lent names)) found.2 (lent_among names found.0 before));
+  all = λ x m lasts.
+      let found = among_lent names x.name (are.all x m lasts) in
+      let same = Any-dedup lent_equiv sorted found.0 (Contains-permutation names sorted found.0 moved found.1) in
+      let inside : Contains kept same.1 = subst (λ (ns : List (Bor RequestName)). Contains ns same.1) (sym is) (same.0, same.2, same.3) in
+      subst (Contains (names_lent kept)) (sym (same_from_test found.0.now same.1.now same.4) ∙ found.2) (lent_among kept same.1 inside);
+}
+  where
+    is : kept ≡ dedup lent_eq sorted
+    is = dedup_is lent_eq sorted kept filtered

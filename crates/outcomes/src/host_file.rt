@@ -2,6 +2,8 @@
 
 ghost use Rattle.std.specs.Prelude.{◌≡◌, ◌⊎◌, ◌<◌, ◌≤◌, List, IfOk, IfErr};
 ghost use Rattle.std.specs.Prelude.{OnOk, MatchResult, length, string_bytes};
+ghost use Rattle.std.specs.List.Sorted.{IsStrictlySortedBy};
+ghost use Rattle.messages.specs.Names.{name_cmp};
 ghost use Rattle.messages.specs.declared.message.Message.{Message as AnyMessage};
 ghost use Rattle.grants.specs.Bases.{FitsBase};
 ghost use Rattle.grants.specs.declared.host_fault.HostFault.TheVariants as fault;
@@ -10,7 +12,7 @@ ghost use Rattle.outcomes.specs.HostFile.{Line, AreLines};
 ghost use Rattle.outcomes.specs.LinesLeft as left;
 ghost use Rattle.outcomes.specs.private.Behind.{AreBehind, AreNamesLines};
 ghost use Rattle.outcomes.specs.private.ByName.{AreRequests, Gathers, at_name};
-ghost use Rattle.outcomes.specs.private.Index.{kept_of};
+ghost use Rattle.outcomes.specs.private.Index.{kept_of, names_lent};
 
 use crate::base::Base;
 use crate::gathering::Gathered;
@@ -18,7 +20,7 @@ use grants::{HostFault, Summary, push_lines};
 use messages::RequestName;
 use roster::Roster;
 use std::alloc::Global;
-use std::collections::{BTreeMap, BTreeSet};
+use std::collections::BTreeMap;
 use sudo_words::{HostName, Moment, NoMemory};
 
 /// The most lines of a host's file after those of the base.
@@ -52,13 +54,15 @@ fn push_all(
     text: &mut String,
     roster: &Roster,
     summaries: &BTreeMap<RequestName, Summary>,
-    names: &BTreeSet<RequestName>,
+    names: &[&RequestName],
     host: &HostName,
     after: &Option<Moment>,
 ) -> Result<(), HostFault>
+    requires { IsStrictlySortedBy name_cmp (names_lent names.now) }
     ensures ok { (set : List AnyMessage) → Gathers set summaries.now
         → OnOk result (AreBehind roster.now.says set host.now after.now
-        (kept_of summaries.now names.now.keys) (string_bytes text.old) (string_bytes text.new)) }
+        (kept_of summaries.now (names_lent names.now))
+        (string_bytes text.old) (string_bytes text.new)) }
     ensures err { (set : List AnyMessage) → Gathers set summaries.now
         → IfErr result (left.IsPast roster.now.says set host.now after.now) }
 {

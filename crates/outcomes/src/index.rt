@@ -5,6 +5,7 @@ ghost use Rattle.messages.specs.Fields.{RequestFields};
 ghost use Rattle.messages.specs.declared.request_name.RequestName.{RequestName as AnyName};
 ghost use Rattle.outcomes.specs.declared.index.Ending.{Ending as AnyEnding};
 ghost use Rattle.outcomes.specs.private.Index.{AreNamesLeft, IsListed, endings_at, is_left};
+ghost use Rattle.outcomes.specs.private.Index.{names_lent};
 
 use messages::{Request, RequestName};
 use std::alloc::{AllocError, Global};
@@ -97,24 +98,28 @@ fn is_left(after: &Option<Moment>, until: Moment) -> bool
     }
 }
 
-/// The names of the endings that are left: without a moment all, and with one those of the requests
-/// that ask for an end then or later. It goes from the latest end down to the moment and stops, so
-/// what has ended costs nothing.
-pub(crate) fn names_left(
+/// The names of the endings that are left, each once and in their order: without a moment all, and
+/// with one those of the requests that ask for an end then or later. It goes from the latest end
+/// down to the moment and stops, so what has ended costs nothing. The names are lent: no text is
+/// copied.
+pub(crate) fn names_left<'a>(
     alloc: Global,
-    endings: &BTreeSet<Ending>,
+    endings: &'a BTreeSet<Ending>,
     after: &Option<Moment>,
-) -> Result<BTreeSet<RequestName>, NoMemory>
-    ensures { IfOk result (λ names. AreNamesLeft after.now endings.now.keys names.keys) }
+) -> Result<Vec<&'a RequestName>, NoMemory>
+    ensures { IfOk result
+        (λ names. AreNamesLeft after.now endings.now.keys (names_lent names.items)) }
 {
-    let mut names = BTreeSet::new(alloc);
+    let mut names = Vec::new(alloc);
     for ending in endings.iter().rev() {
         if !is_left(after, ending.until) {
             break;
         }
-        let name = ending.name.clone()?;
-        names.insert(name)?;
+        names.push(&ending.name)?;
     }
+    names.sort_unstable();
+    // After a failure a name may be listed under two ends.
+    names.dedup();
     Ok(names)
 }
 
@@ -149,28 +154,29 @@ impl Index {
     }
 
     /// The names of the endings that are left at a host.
-    pub(crate) fn names_at(
-        &self,
+    pub(crate) fn names_at<'a>(
+        &'a self,
         alloc: Global,
         host: &HostName,
         after: &Option<Moment>,
-    ) -> Result<BTreeSet<RequestName>, NoMemory>
-        ensures { IfOk result
-            (λ names. AreNamesLeft after.now (endings_at self.now.hosts host.now) names.keys) }
+    ) -> Result<Vec<&'a RequestName>, NoMemory>
+        ensures { IfOk result (λ names. AreNamesLeft after.now
+            (endings_at self.now.hosts host.now) (names_lent names.items)) }
     {
         match self.hosts.get(host) {
             Some(endings) => names_left(alloc, endings, after),
-            None => Ok(BTreeSet::new(alloc)),
+            None => Ok(Vec::new(alloc)),
         }
     }
 
     /// The names of all endings that are left.
-    pub(crate) fn names_of_all(
-        &self,
+    pub(crate) fn names_of_all<'a>(
+        &'a self,
         alloc: Global,
         after: &Option<Moment>,
-    ) -> Result<BTreeSet<RequestName>, NoMemory>
-        ensures { IfOk result (λ names. AreNamesLeft after.now self.now.all.keys names.keys) }
+    ) -> Result<Vec<&'a RequestName>, NoMemory>
+        ensures { IfOk result
+            (λ names. AreNamesLeft after.now self.now.all.keys (names_lent names.items)) }
     {
         names_left(alloc, &self.all, after)
     }

@@ -6,7 +6,7 @@ ghost use Rattle.grants.specs.Summaries.{StandsFor};
 ghost use Rattle.outcomes.specs.Gathered.{AreGathered};
 ghost use Rattle.outcomes.specs.Outcomes.{AreLive};
 ghost use Rattle.outcomes.specs.private.ByName.{Gathers, at_name};
-ghost use Rattle.outcomes.specs.private.Index.{kept_of};
+ghost use Rattle.outcomes.specs.private.Index.{kept_of, names_lent};
 ghost use Rattle.outcomes.specs.private.InTurn.{Adds, AddsAt, Give, grant_of, live_for};
 
 use crate::gathering::Gathered;
@@ -14,7 +14,7 @@ use grants::{Summary, Window, status};
 use messages::{Request, RequestName};
 use roster::Roster;
 use std::alloc::Global;
-use std::collections::{BTreeMap, BTreeSet};
+use std::collections::BTreeMap;
 use std::marker::Model;
 use sudo_words::{Label, Moment, NoMemory};
 
@@ -94,12 +94,12 @@ fn live_among(
     alloc: Global,
     roster: &Roster,
     summaries: &BTreeMap<RequestName, Summary>,
-    names: &BTreeSet<RequestName>,
+    names: &[&RequestName],
     at: Moment,
 ) -> Result<Vec<Live>, NoMemory>
     ensures { (set : List AnyMessage) → Gathers set summaries.now → IfOk result
         (λ list. Give roster.now.says set (live_for at)
-        (kept_of summaries.now names.now.keys) list.items) }
+        (kept_of summaries.now (names_lent names.now)) list.items) }
 {
     let mut list = Vec::new(alloc);
     for name in names {

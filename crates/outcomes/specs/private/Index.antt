@@ -1,6 +1,7 @@
 -- The names of requests by the ends that they ask for: at each host, and of all.
 use Rattle.std.specs.Prelude.{◌≡◌, ℕ, Bool, true, nat_le, List, [], ◌∷◌, ◌++◌, Contains}
-use Rattle.std.specs.Prelude.{Option, Some, None}
+use Rattle.std.specs.Prelude.{Option, Some, None, map}
+use Rattle.std.specs.Borrow.{Bor}
 use Rattle.std.specs.BTreeMap.{BTreeMap, get}
 use Rattle.std.specs.BTreeSet.{BTreeSet}
 use Rattle.std.specs.Cmp.Lexicographic.{slice_cmp}
@@ -76,6 +77,10 @@ pub record AreNamesLeft (after : Option ℕ) (endings : List Ending) (names : Li
   pub each : (name : RequestName) → Contains names name → IsNameLeft after endings name
   pub all : (ending : Ending) → Contains endings ending → is_left after ending.until ≡ true
       → Contains names ending.name
+
+-- names that are lent
+abbrev pub names_lent : List (Bor RequestName) → List RequestName
+names_lent names = map (λ name. name.now) names
 
 -- ---- the summaries of some names
 

@@ -2,7 +2,7 @@ use Rattle.std.proofs.Common.{ℕ, List, subst}
 use Rattle.std.specs.Prelude.{string_bytes}
 use Rattle.std.proofs.lemmas.Result.{err_from_is_err_and}
 use Rattle.outcomes.specs.private.Behind.{AreBehind}
-use Rattle.outcomes.specs.private.Index.{kept_of}
+use Rattle.outcomes.specs.private.Index.{kept_of, names_lent}
 use Rattle.outcomes.proofs.ByNameLemmas.{opened}
 use Rattle.outcomes.proofs.FileLemmas.{is_file_left, memory_alone, not_past}
 use Rattle.outcomes.proofs.HostRoll.{host_roll}
@@ -25,9 +25,9 @@ returns-clause-file c = λ set known.
     let host = c.args.host.now in
     let after = c.args.after in
     let g = opened set m inside.waiting c.args.gathered.now c.gathered.view_is c.gathered.invariant.0 known in
-    let names = c.in_ok-names.names.keys in
+    let names = names_lent c.deref.result.now in
     let listed = c.gathered.invariant.1 in
-    let roll = host_roll m set g.summaries inside.index host after names listed c.in_ok-names.ensures in
+    let roll = host_roll m set g.summaries inside.index host after names listed (rw c.deref.ensures.value c.in_ok-names.ensures) in
     let lines = c.has_lines.ensures set g.summaries (listed_requests inside.index m listed) in
     let new = string_bytes c.push_all.new.text in
     is_file_left f c.args.base.now set host after (kept_of m names) new lines.0 c.requires lines.1 roll
@@ -40,8 +40,8 @@ returns-clause-many c = λ set ls known are past.
     let m = inside.summaries in
     let host = c.args.host.now in
     let g = opened set m inside.waiting c.args.gathered.now c.gathered.view_is c.gathered.invariant.0 known in
-    let names = c.in_ok-names.names.keys in
-    let roll = host_roll m set g.summaries inside.index host c.args.after names c.gathered.invariant.1 c.in_ok-names.ensures in
+    let names = names_lent c.deref.result.now in
+    let roll = host_roll m set g.summaries inside.index host c.args.after names c.gathered.invariant.1 (rw c.deref.ensures.value c.in_ok-names.ensures) in
     not_past c.args.roster.now.says set host c.args.after (kept_of m names) _ _ ls roll (c.in_ok-push_all.ensures.ok set g.summaries) are past
 
 pub returns-in_err-push_all-clause-err : goal.returns-in_err-push_all-clause-err
