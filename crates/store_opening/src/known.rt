@@ -8,7 +8,7 @@ ghost use Rattle.store_opening.specs.private.Names.{AreAsked, IsIndex, IsTold};
 ghost use Rattle.store_opening.specs.private.Names.{is_at, name_cmp, name_of};
 
 use crate::names::{Asked, NameKey, disputed, in_order, is_among, texts_in_order};
-use crate::places::{VerdictKey, count_up, key_in, key_of, name_key, nowhere};
+use crate::places::{Places, VerdictKey, key_in, key_of, name_key};
 use crate::stored::Stored;
 use messages::Message;
 use sqlite::Row;
@@ -23,10 +23,10 @@ pub(crate) struct Known<'a> {
     names: Vec<NameKey<'a>>,
     /// The names that have more than one request, in order.
     disputed: Vec<NameKey<'a>>,
-    /// The places of the messages, in the order of their texts.
-    texts: Vec<usize>,
-    /// The places of the messages, in the order of the rows of `verdicts`.
-    verdicts: Vec<usize>,
+    /// The places of the messages whose texts the rows of `names` and `parked` show.
+    texts: Places<&'a [u8]>,
+    /// The places of the verdicts, by what their rows say.
+    verdicts: Places<VerdictKey<'a>>,
 }
 
 /// The name and the text of the message, if it is a request.
@@ -67,30 +67,40 @@ fn names_of<'a>(alloc: Global, told: &[Asked<'a>]) -> Result<Vec<NameKey<'a>>, N
     Ok(names)
 }
 
-fn key_at(all: &[Stored], at: usize) -> VerdictKey<'_> {
-    match all.get(at) {
-        Some(stored) => key_of(stored),
-        None => nowhere(),
+/// Whether `verdicts` is to have a row of the message: those are found by what they say, and all
+/// others by their texts.
+fn is_counted(names: &[NameKey<'_>], stored: &Stored) -> bool {
+    match stored.message() {
+        Message::Request(_) => false,
+        Message::Verdict(verdict) => {
+            let name = name_key(verdict.of().as_str(), verdict.no());
+            names.binary_search(&name).is_ok()
+        }
     }
 }
 
-fn text_at(all: &[Stored], at: usize) -> &[u8] {
-    match all.get(at) {
-        Some(stored) => stored.body().as_bytes(),
-        None => b"",
+fn by_text<'a>(
+    alloc: Global,
+    all: &'a [Stored],
+    names: &[NameKey<'a>],
+) -> Result<Places<&'a [u8]>, NoMemory> {
+    let mut keyed = Vec::new(alloc);
+    for at in 0..all.len() {
+        if !is_counted(names, &all[at]) {
+            keyed.push((all[at].body().as_bytes(), at))?;
+        }
     }
+    Ok(Places::of(keyed))
 }
 
-fn by_text(alloc: Global, all: &[Stored]) -> Result<Vec<usize>, NoMemory> {
-    let mut places = count_up(alloc, all.len())?;
-    places.sort_unstable_by(|a, b| text_at(all, *a).cmp(text_at(all, *b)));
-    Ok(places)
-}
-
-fn by_verdict(alloc: Global, all: &[Stored]) -> Result<Vec<usize>, NoMemory> {
-    let mut places = count_up(alloc, all.len())?;
-    places.sort_unstable_by(|a, b| key_at(all, *a).cmp(&key_at(all, *b)));
-    Ok(places)
+fn by_verdict(alloc: Global, all: &[Stored]) -> Result<Places<VerdictKey<'_>>, NoMemory> {
+    let mut keyed = Vec::new(alloc);
+    for at in 0..all.len() {
+        if let Some(key) = key_of(&all[at]) {
+            keyed.push((key, at))?;
+        }
+    }
+    Ok(Places::of(keyed))
 }
 
 impl<'a> Known<'a> {
@@ -102,7 +112,7 @@ impl<'a> Known<'a> {
         let asked = texts_in_order(all_told(alloc, all)?);
         let disputed = in_order(disputed(alloc, asked.as_slice())?);
         let names = in_order(names_of(alloc, asked.as_slice())?);
-        let texts = by_text(alloc, all)?;
+        let texts = by_text(alloc, all, names.as_slice())?;
         let verdicts = by_verdict(alloc, all)?;
         Ok(Known {
             all,
@@ -156,28 +166,17 @@ impl<'a> Known<'a> {
         }
     }
 
-    /// A message of this text.
+    /// A message of this text that `verdicts` is to have no row of.
     pub(crate) fn with_text(&self, text: &[u8]) -> Option<&Stored>
         ensures { IfSome result (λ s. Contains self.now.all.now s.now) }
     {
-        let all = self.all;
-        let found = self
-            .texts
-            .binary_search_by(|at| text_at(all, *at).cmp(text))
-            .ok()?;
-        all.get(*self.texts.get(found)?)
+        self.all.get(self.texts.find(&text)?)
     }
 
     /// A verdict whose row in `verdicts` would say what this row says.
     pub(crate) fn with_row(&self, row: &Row) -> Option<&Stored>
         ensures { IfSome result (λ s. Contains self.now.all.now s.now) }
     {
-        let all = self.all;
-        let key = key_in(row);
-        let found = self
-            .verdicts
-            .binary_search_by(|at| key_at(all, *at).cmp(&key))
-            .ok()?;
-        all.get(*self.verdicts.get(found)?)
+        self.all.get(self.verdicts.find(&key_in(row))?)
     }
 }

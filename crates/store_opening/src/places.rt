@@ -10,8 +10,6 @@ use crate::stored::Stored;
 use messages::{Message, Verdict};
 use sqlite::Row;
 use sqlite_value::value::ValueRef;
-use std::alloc::Global;
-use sudo_words::NoMemory;
 
 /// What a verdict's row says, in the order of `verdicts`.
 #[derive(Clone, Copy, Debug, PartialEq, Eq, PartialOrd, Ord)]
@@ -64,21 +62,7 @@ pub(crate) fn name_in(row: &Row) -> NameKey<'_>
     }
 }
 
-/// What stands for a row that is not there.
-pub(crate) fn nameless() -> NameKey<'static> {
-    NameKey { by: b"", number: 0 }
-}
-
-/// What stands for a message that has no row in `verdicts`.
-pub(crate) fn nowhere() -> VerdictKey<'static> {
-    VerdictKey {
-        name: nameless(),
-        by: b"",
-        kind: b"",
-        at: 0,
-    }
-}
-
+/// What the verdict's row in `verdicts` says.
 fn key_of_verdict(verdict: &Verdict) -> VerdictKey<'_> {
     VerdictKey {
         name: name_key(verdict.of().as_str(), verdict.no()),
@@ -88,11 +72,11 @@ fn key_of_verdict(verdict: &Verdict) -> VerdictKey<'_> {
     }
 }
 
-/// What the message's row in `verdicts` says.
-pub(crate) fn key_of(stored: &Stored) -> VerdictKey<'_> {
+/// What the message's row in `verdicts` says, if it is a verdict.
+pub(crate) fn key_of(stored: &Stored) -> Option<VerdictKey<'_>> {
     match stored.message() {
-        Message::Verdict(verdict) => key_of_verdict(verdict),
-        Message::Request(_) => nowhere(),
+        Message::Verdict(verdict) => Some(key_of_verdict(verdict)),
+        Message::Request(_) => None,
     }
 }
 
@@ -106,11 +90,26 @@ pub(crate) fn key_in(row: &Row) -> VerdictKey<'_> {
     }
 }
 
-/// The places in a list of this length, in order.
-pub(crate) fn count_up(alloc: Global, length: usize) -> Result<Vec<usize>, NoMemory> {
-    let mut places = Vec::with_capacity(alloc, length)?;
-    for at in 0..length {
-        places.push(at)?;
+/// Keys in order, each with the place in a list that it was made of. So a key is made once, and not
+/// for each comparison.
+#[derive(Debug, Drop)]
+pub(crate) struct Places<K: Ord> {
+    keyed: Vec<(K, usize)>,
+}
+
+impl<K: Ord> Places<K> {
+    /// The keys, put in order.
+    pub(crate) fn of(mut keyed: Vec<(K, usize)>) -> Places<K> {
+        keyed.sort_unstable();
+        Places { keyed }
     }
-    Ok(places)
+
+    /// A place of the key, where it has one.
+    pub(crate) fn find(&self, key: &K) -> Option<usize> {
+        let found = self
+            .keyed
+            .binary_search_by(|placed| placed.0.cmp(key))
+            .ok()?;
+        Some(self.keyed.get(found)?.1)
+    }
 }

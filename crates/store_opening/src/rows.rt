@@ -14,7 +14,7 @@ use crate::known::Known;
 use crate::once::are_once;
 use crate::places::text_in;
 use crate::stored::Stored;
-use crate::table::Table;
+use crate::table::{Counted, Named, Waiting};
 use crate::walk;
 use messages::Message;
 use sqlite::Row;
@@ -67,10 +67,10 @@ fn is_parked_row(known: &Known<'_>, row: &Row) -> bool
     walk::is_parked_row(row, known.all)
 }
 
-fn has_name(names: &Table<'_>, asker: &str, number: u32) -> bool
+fn has_name(names: &Named<'_>, asker: &str, number: u32) -> bool
     ensures { result ≡ list_any (compare.is_of_name asker.now number) names.now.rows.now }
 {
-    if let Some(row) = names.named(asker, number) {
+    if let Some(row) = names.row_of(asker, number) {
         if is_of_name(row, asker, number) {
             return true;
         }
@@ -78,10 +78,10 @@ fn has_name(names: &Table<'_>, asker: &str, number: u32) -> bool
     walk::has_name(names.rows, asker, number)
 }
 
-fn has_verdict(verdicts: &Table<'_>, stored: &Stored) -> bool
+fn has_verdict(verdicts: &Counted<'_>, stored: &Stored) -> bool
     ensures { result ≡ list_any (λ r. compare.shows_verdict r stored.now) verdicts.now.rows.now }
 {
-    if let Some(row) = verdicts.with_verdict(stored) {
+    if let Some(row) = verdicts.row_of(stored) {
         if shows_verdict(row, stored) {
             return true;
         }
@@ -89,10 +89,10 @@ fn has_verdict(verdicts: &Table<'_>, stored: &Stored) -> bool
     walk::has_verdict(verdicts.rows, stored)
 }
 
-fn has_parked(parked: &Table<'_>, stored: &Stored) -> bool
+fn has_parked(parked: &Waiting<'_>, stored: &Stored) -> bool
     ensures { result ≡ list_any (λ r. compare.shows_parked r stored.now) parked.now.rows.now }
 {
-    if let Some(row) = parked.with_text(stored.body()) {
+    if let Some(row) = parked.row_of(stored.body()) {
         if shows_parked(row, stored) {
             return true;
         }
@@ -101,7 +101,7 @@ fn has_parked(parked: &Table<'_>, stored: &Stored) -> bool
 }
 
 /// The message has its row in `names`, if it is to have one there.
-fn has_name_row(names: &Table<'_>, stored: &Stored) -> bool
+fn has_name_row(names: &Named<'_>, stored: &Stored) -> bool
     ensures { result ≡ compare.has_name_row names.now.rows.now stored.now }
 {
     match stored.message() {
@@ -111,7 +111,7 @@ fn has_name_row(names: &Table<'_>, stored: &Stored) -> bool
 }
 
 /// The message has its row in `verdicts`, if it is to have one there.
-fn has_verdict_row(known: &Known<'_>, verdicts: &Table<'_>, stored: &Stored) -> bool
+fn has_verdict_row(known: &Known<'_>, verdicts: &Counted<'_>, stored: &Stored) -> bool
     requires { IsIndex known.now.all.now known.now.names.items known.now.disputed.items }
     ensures { result ≡ compare.has_verdict_row known.now.all.now verdicts.now.rows.now stored.now }
 {
@@ -119,7 +119,7 @@ fn has_verdict_row(known: &Known<'_>, verdicts: &Table<'_>, stored: &Stored) -> 
 }
 
 /// The message has its row in `parked`, if it is to have one there.
-fn has_parked_row(known: &Known<'_>, parked: &Table<'_>, stored: &Stored) -> bool
+fn has_parked_row(known: &Known<'_>, parked: &Waiting<'_>, stored: &Stored) -> bool
     requires { IsIndex known.now.all.now known.now.names.items known.now.disputed.items }
     ensures { result ≡ compare.has_parked_row known.now.all.now parked.now.rows.now stored.now }
 {
@@ -147,13 +147,13 @@ fn is_each_parked_row(known: &Known<'_>, rows: &[Row]) -> bool
     rows.iter().all(|row| is_parked_row(known, row))
 }
 
-fn have_name_rows(all: &[Stored], names: &Table<'_>) -> bool
+fn have_name_rows(all: &[Stored], names: &Named<'_>) -> bool
     ensures { result ≡ list_all (compare.has_name_row names.now.rows.now) all.now }
 {
     all.iter().all(|stored| has_name_row(names, stored))
 }
 
-fn have_verdict_rows(known: &Known<'_>, verdicts: &Table<'_>) -> bool
+fn have_verdict_rows(known: &Known<'_>, verdicts: &Counted<'_>) -> bool
     requires { IsIndex known.now.all.now known.now.names.items known.now.disputed.items }
     ensures { result ≡ list_all (compare.has_verdict_row known.now.all.now verdicts.now.rows.now)
         known.now.all.now }
@@ -164,7 +164,7 @@ fn have_verdict_rows(known: &Known<'_>, verdicts: &Table<'_>) -> bool
         .all(|stored| has_verdict_row(known, verdicts, stored))
 }
 
-fn have_parked_rows(known: &Known<'_>, parked: &Table<'_>) -> bool
+fn have_parked_rows(known: &Known<'_>, parked: &Waiting<'_>) -> bool
     requires { IsIndex known.now.all.now known.now.names.items known.now.disputed.items }
     ensures { result ≡ list_all (compare.has_parked_row known.now.all.now parked.now.rows.now)
         known.now.all.now }
@@ -181,7 +181,7 @@ fn are_names(alloc: Global, known: &Known<'_>, rows: &[Row]) -> Result<bool, NoM
     ensures { IfOk result (λ are. are ≡ compare.are_rows_of part.Names known.now.all.now rows.now) }
 {
     let once = are_once(alloc, rows)?;
-    let named = Table::by_name(alloc, rows)?;
+    let named = Named::new(alloc, rows)?;
     Ok(is_each_name_row(known, rows) && have_name_rows(known.all, &named) && once)
 }
 
@@ -191,7 +191,7 @@ fn are_verdicts(alloc: Global, known: &Known<'_>, rows: &[Row]) -> Result<bool, 
     ensures { IfOk result
         (λ are. are ≡ compare.are_rows_of part.Verdicts known.now.all.now rows.now) }
 {
-    let counted = Table::by_verdict(alloc, rows)?;
+    let counted = Counted::new(alloc, rows)?;
     Ok(is_each_verdict_row(known, rows) && have_verdict_rows(known, &counted))
 }
 
@@ -201,7 +201,7 @@ fn are_parked(alloc: Global, known: &Known<'_>, rows: &[Row]) -> Result<bool, No
     ensures { IfOk result
         (λ are. are ≡ compare.are_rows_of part.Parked known.now.all.now rows.now) }
 {
-    let waiting = Table::by_text(alloc, rows)?;
+    let waiting = Waiting::new(alloc, rows)?;
     Ok(is_each_parked_row(known, rows) && have_parked_rows(known, &waiting))
 }
 

@@ -1,107 +1,103 @@
-//! The rows of a table, and an order in which one is found by binary search.
+//! The rows of tables, each found by binary search.
 
 ghost use Rattle.std.specs.Prelude.{◌≡◌, Contains, IfOk, IfSome};
 
 use crate::names::NameKey;
-use crate::places::{
-    VerdictKey, count_up, key_in, key_of, name_in, name_key, nameless, nowhere, text_in,
-};
+use crate::places::{Places, VerdictKey, key_in, key_of, name_in, name_key, text_in};
 use crate::stored::Stored;
 use sqlite::Row;
 use std::alloc::Global;
 use sudo_words::NoMemory;
 
-/// Rows, with their places in an order.
+/// Rows of `names`, and where each name is among them.
 #[derive(Debug, Drop)]
-pub(crate) struct Table<'a> {
+pub(crate) struct Named<'a> {
     pub(crate) rows: &'a [Row],
-    places: Vec<usize>,
+    places: Places<NameKey<'a>>,
 }
 
-fn name_at(rows: &[Row], at: usize) -> NameKey<'_> {
-    match rows.get(at) {
-        Some(row) => name_in(row),
-        None => nameless(),
-    }
-}
-
-fn text_at(rows: &[Row], at: usize) -> &[u8] {
-    match rows.get(at) {
-        Some(row) => text_in(row, 1),
-        None => b"",
-    }
-}
-
-fn key_at(rows: &[Row], at: usize) -> VerdictKey<'_> {
-    match rows.get(at) {
-        Some(row) => key_in(row),
-        None => nowhere(),
-    }
-}
-
-impl<'a> Table<'a> {
-    /// The rows of `names`, in the order of the names.
-    pub(crate) fn by_name(alloc: Global, rows: &'a [Row]) -> Result<Table<'a>, NoMemory>
+impl<'a> Named<'a> {
+    /// The rows, looked up by their names.
+    pub(crate) fn new(alloc: Global, rows: &'a [Row]) -> Result<Named<'a>, NoMemory>
         ensures { IfOk result (λ t. t.rows.now ≡ rows.now) }
     {
-        let mut places = count_up(alloc, rows.len())?;
-        places.sort_unstable_by(|a, b| name_at(rows, *a).cmp(&name_at(rows, *b)));
-        Ok(Table { rows, places })
+        let mut keyed = Vec::with_capacity(alloc, rows.len())?;
+        for at in 0..rows.len() {
+            keyed.push((name_in(&rows[at]), at))?;
+        }
+        Ok(Named {
+            rows,
+            places: Places::of(keyed),
+        })
     }
 
-    /// The rows of `verdicts`, in the order of what they say.
-    pub(crate) fn by_verdict(alloc: Global, rows: &'a [Row]) -> Result<Table<'a>, NoMemory>
-        ensures { IfOk result (λ t. t.rows.now ≡ rows.now) }
-    {
-        let mut places = count_up(alloc, rows.len())?;
-        places.sort_unstable_by(|a, b| key_at(rows, *a).cmp(&key_at(rows, *b)));
-        Ok(Table { rows, places })
-    }
-
-    /// The rows of `parked`, in the order of their texts.
-    pub(crate) fn by_text(alloc: Global, rows: &'a [Row]) -> Result<Table<'a>, NoMemory>
-        ensures { IfOk result (λ t. t.rows.now ≡ rows.now) }
-    {
-        let mut places = count_up(alloc, rows.len())?;
-        places.sort_unstable_by(|a, b| text_at(rows, *a).cmp(text_at(rows, *b)));
-        Ok(Table { rows, places })
-    }
-
-    /// A row of the name, where the rows are in the order of names.
-    pub(crate) fn named(&self, asker: &str, number: u32) -> Option<&Row>
+    /// A row of the name.
+    pub(crate) fn row_of(&self, asker: &str, number: u32) -> Option<&Row>
         ensures { IfSome result (λ r. Contains self.now.rows.now r.now) }
     {
-        let rows = self.rows;
         let name = name_key(asker, number);
-        let found = self
-            .places
-            .binary_search_by(|at| name_at(rows, *at).cmp(&name))
-            .ok()?;
-        rows.get(*self.places.get(found)?)
+        self.rows.get(self.places.find(&name)?)
+    }
+}
+
+/// Rows of `verdicts`, and where each verdict is among them.
+#[derive(Debug, Drop)]
+pub(crate) struct Counted<'a> {
+    pub(crate) rows: &'a [Row],
+    places: Places<VerdictKey<'a>>,
+}
+
+impl<'a> Counted<'a> {
+    /// The rows, looked up by what they say.
+    pub(crate) fn new(alloc: Global, rows: &'a [Row]) -> Result<Counted<'a>, NoMemory>
+        ensures { IfOk result (λ t. t.rows.now ≡ rows.now) }
+    {
+        let mut keyed = Vec::with_capacity(alloc, rows.len())?;
+        for at in 0..rows.len() {
+            keyed.push((key_in(&rows[at]), at))?;
+        }
+        Ok(Counted {
+            rows,
+            places: Places::of(keyed),
+        })
     }
 
-    /// A row of the verdict, where the rows are in the order of what they say.
-    pub(crate) fn with_verdict(&self, stored: &Stored) -> Option<&Row>
+    /// A row of the message, if it is a verdict.
+    pub(crate) fn row_of(&self, stored: &Stored) -> Option<&Row>
         ensures { IfSome result (λ r. Contains self.now.rows.now r.now) }
     {
-        let rows = self.rows;
-        let key = key_of(stored);
-        let found = self
-            .places
-            .binary_search_by(|at| key_at(rows, *at).cmp(&key))
-            .ok()?;
-        rows.get(*self.places.get(found)?)
+        let key = key_of(stored)?;
+        self.rows.get(self.places.find(&key)?)
+    }
+}
+
+/// Rows of `parked`, and where each text is among them.
+#[derive(Debug, Drop)]
+pub(crate) struct Waiting<'a> {
+    pub(crate) rows: &'a [Row],
+    places: Places<&'a [u8]>,
+}
+
+impl<'a> Waiting<'a> {
+    /// The rows, looked up by their texts.
+    pub(crate) fn new(alloc: Global, rows: &'a [Row]) -> Result<Waiting<'a>, NoMemory>
+        ensures { IfOk result (λ t. t.rows.now ≡ rows.now) }
+    {
+        let mut keyed = Vec::with_capacity(alloc, rows.len())?;
+        for at in 0..rows.len() {
+            keyed.push((text_in(&rows[at], 1), at))?;
+        }
+        Ok(Waiting {
+            rows,
+            places: Places::of(keyed),
+        })
     }
 
-    /// A row of the text, where the rows are in the order of their texts.
-    pub(crate) fn with_text(&self, text: &str) -> Option<&Row>
+    /// A row of the text.
+    pub(crate) fn row_of(&self, text: &str) -> Option<&Row>
         ensures { IfSome result (λ r. Contains self.now.rows.now r.now) }
     {
-        let rows = self.rows;
-        let found = self
-            .places
-            .binary_search_by(|at| text_at(rows, *at).cmp(text.as_bytes()))
-            .ok()?;
-        rows.get(*self.places.get(found)?)
+        let text = text.as_bytes();
+        self.rows.get(self.places.find(&text)?)
     }
 }
