@@ -11,8 +11,11 @@ use Rattle.sudo_words.specs.Command.{cmnd_text}
 use Rattle.sudo_policy.specs.declared.entry.Rule.{Rule}
 use Rattle.sudo_policy.specs.declared.entry.Entry.{Entry}
 use Rattle.sudo_policy.specs.declared.entry.Entry.TheVariants as entries
+use Rattle.sudo_policy.specs.declared.tags.Tag.TheVariants.{NoPasswd}
+use Rattle.sudo_policy.specs.declared.tags.Tags.{Tags}
 use Rattle.sudo_policy.specs.Policy.{IsRule, IsEntry, IsPlaced, ArePlaced, KnowsRule, IsPolicy, entry_weight, rule_weight, weight_below}
-use Rattle.sudo_policy.specs.Printing.{canon, date_text, line_text, tag_text, what_text, who_text}
+use Rattle.sudo_policy.specs.Printing.{canon, date_text, line_text, what_text, who_text}
+use Rattle.sudo_policy.specs.Tags.{tag_text, tags_text}
 use Rattle.sudo_policy.specs.Reading.{with_rules}
 use Rattle.grants.specs.Bases.{FitsBase}
 use Rattle.grants.specs.GrantRules.{IsGrantRule, plain_rule}
@@ -78,14 +81,17 @@ after_short : (moment : Option ℕ) → length (date_text (codes "NOTAFTER") mom
 after_short None = lit≤ tt
 after_short (Some moment) = lit≤ tt
 
-tag_short : (nopasswd : Bool) → length (tag_text nopasswd) ≤ 10
+tag_short : (nopasswd : Bool) → length (tag_text NoPasswd nopasswd) ≤ 10
 tag_short true = lit≤ tt
 tag_short false = lit≤ tt
+
+tags_short : (tags : Tags) → length (tags_text tags) ≤ 10
+tags_short tags = tag_short tags.nopasswd
 
 module _ (r : Rule) (g : IsGrantRule r) where
   -- the rule, by its parts
   abbrev plain : Rule
-  plain = plain_rule g.user g.host g.target g.not_before g.not_after g.nopasswd g.cmnd
+  plain = plain_rule g.user g.host g.target g.not_before g.not_after g.tags g.cmnd
 
   plain_lawful : IsRule plain
   plain_lawful = record {
@@ -113,8 +119,8 @@ module _ (r : Rule) (g : IsGrantRule r) where
       let before = date_text (codes "NOTBEFORE") g.not_before in
       let after = date_text (codes "NOTAFTER") g.not_after in
       let dates = within before after 26 25 (before_short g.not_before) (after_short g.not_after) in
-      let tagged = within (before ++ after) (tag_text g.nopasswd) 51 10 dates (tag_short g.nopasswd) in
-      within ((before ++ after) ++ tag_text g.nopasswd) (cmnd_text g.cmnd) 61 1_024 tagged g.lawful.short
+      let tagged = within (before ++ after) (tags_text g.tags) 51 10 dates (tags_short g.tags) in
+      within ((before ++ after) ++ tags_text g.tags) (cmnd_text g.cmnd) 61 1_024 tagged g.lawful.short
 
   plain_short : length (line_text (entries.Rule plain)) ≤ 1_189
   plain_short =

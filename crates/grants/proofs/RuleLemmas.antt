@@ -15,7 +15,7 @@ use Rattle.messages.specs.Names.{IsNamed, name_of}
 use Rattle.messages.specs.declared.message.Message.{Message}
 use Rattle.roster.specs.Fields.{RosterFields}
 use Rattle.grants.specs.private.Given.{EndsInTime}
-use Rattle.grants.specs.GrantRules.{AreRules, IsGrantRule, grant_rule, rules_for}
+use Rattle.grants.specs.GrantRules.{AreRules, IsGrantRule, grant_rule, grant_tags, rules_for}
 use Rattle.grants.specs.Statuses.{InWindow, IsFirstMoment, IsLastMoment, IsStatus}
 use Rattle.grants.specs.Summaries.{Kept, StandsFor}
 use Rattle.grants.specs.Verdicts.{StandsAlone}
@@ -90,7 +90,7 @@ module _ (host : List ℕ) (q : RequestFields) (is : IsRequest q) (first last : 
       target = q.runas;
       not_before = Some first;
       not_after = Some last;
-      nopasswd = false;
+      tags = grant_tags;
       cmnd = c;
       user_is = is.by;
       host_is = named;

@@ -1,6 +1,6 @@
 -- The rules of a grant: one for each command of a request that is in force, on a host that it
 -- names.
-use Rattle.std.specs.Prelude.{◌≡◌, ℕ, Bool, true, false, if◌then◌else◌, List}
+use Rattle.std.specs.Prelude.{◌≡◌, ℕ, true, false, if◌then◌else◌, List}
 use Rattle.std.specs.Prelude.{[], ◌∷◌, Contains, Option, Some, IfSome, map}
 use Rattle.std.specs.List.{list_any}
 use Rattle.std.specs.Str.{bytes_eq}
@@ -12,6 +12,8 @@ use Rattle.sudo_policy.specs.declared.entry.Signed.{Signed}
 use Rattle.sudo_policy.specs.declared.entry.Item.TheVariants as items
 use Rattle.sudo_policy.specs.declared.entry.CmndItem.TheVariants as cmnds
 use Rattle.sudo_policy.specs.declared.entry.Rule.{Rule}
+use Rattle.sudo_policy.specs.declared.tags.Tags.{Tags}
+use Rattle.sudo_policy.specs.Tags.{no_tags}
 use Rattle.messages.specs.Fields.{RequestFields}
 use Rattle.messages.specs.Names.{name_of}
 use Rattle.messages.specs.declared.message.Message.{Message}
@@ -28,14 +30,14 @@ one item = record { negated = false; item = item } ∷ []
 -- One user may run one command on one host as one target: no alias, and nothing negated
 -- (sudoers(5), "User specification").
 abbrev pub plain_rule : (user host target : List ℕ)
-    → (not_before not_after : Option ℕ) → Bool → Cmnd → Rule
-plain_rule user host target not_before not_after nopasswd cmnd = record {
+    → (not_before not_after : Option ℕ) → Tags → Cmnd → Rule
+plain_rule user host target not_before not_after tags cmnd = record {
   users = one (items.Name user);
   hosts = one (items.Name host);
   runas = one (items.Name target);
   not_before = not_before;
   not_after = not_after;
-  nopasswd = nopasswd;
+  tags = tags;
   cmnd = record { negated = false; item = cmnds.Cmnd cmnd };
 }
 
@@ -46,7 +48,7 @@ pub record IsGrantRule (r : Rule) : Type 0 where
   pub target : List ℕ
   pub not_before : Option ℕ
   pub not_after : Option ℕ
-  pub nopasswd : Bool
+  pub tags : Tags
   pub cmnd : Cmnd
   pub user_is : is_name user ≡ true
   pub host_is : is_host_name host ≡ true
@@ -54,11 +56,16 @@ pub record IsGrantRule (r : Rule) : Type 0 where
   pub not_before_is : IfSome not_before IsMoment
   pub not_after_is : IfSome not_after IsMoment
   pub lawful : IsLawful cmnd
-  pub rule_is : r ≡ plain_rule user host target not_before not_after nopasswd cmnd
+  pub rule_is : r ≡ plain_rule user host target not_before not_after tags cmnd
 
--- the rule of one command of a request, from its first moment to its last: a password is asked for
+-- the tags of a grant's rules: a password is asked for
+abbrev pub grant_tags : Tags
+grant_tags = no_tags
+
+-- the rule of one command of a request, from its first moment to its last
 abbrev pub grant_rule : List ℕ → RequestFields → (first last : ℕ) → Cmnd → Rule
-grant_rule host q first last cmnd = plain_rule q.by host q.runas (Some first) (Some last) false cmnd
+grant_rule host q first last cmnd =
+    plain_rule q.by host q.runas (Some first) (Some last) grant_tags cmnd
 
 -- The rules that a request gives a host: if it names the host and its window is not empty, one for
 -- each of its commands, in its order, with the window's first and last moment as dates; otherwise

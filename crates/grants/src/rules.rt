@@ -16,7 +16,7 @@ use crate::summary::Summary;
 use messages::Request;
 use roster::Roster;
 use std::alloc::Global;
-use sudo_policy::{CmndItem, Item, Rule, Signed};
+use sudo_policy::{CmndItem, Item, Rule, Signed, Tags};
 use sudo_words::{Cmnd, HostName, Items, Name, NoMemory};
 
 fn one_name(alloc: Global, name: &Name) -> Result<Items<Signed<Item<Name>>>, NoMemory>
@@ -67,7 +67,7 @@ fn rule_of(
         runas: one_name(alloc, request.runas())?,
         not_before: Some(window.start),
         not_after: Some(window.end),
-        nopasswd: false,
+        tags: Tags::none(),
         cmnd: granted_cmnd(cmnd)?,
     })
 }

@@ -1,5 +1,5 @@
 -- A host's file, from its lines' rules.
-use Rattle.std.proofs.Common.{◌≡◌, ℕ, ◌+◌, ◌<◌, ◌≤◌, leb, Bool, true, false, List, [], ◌∷◌, ◌++◌, map, length}
+use Rattle.std.proofs.Common.{◌≡◌, ℕ, ◌+◌, ◌<◌, ◌≤◌, leb, Bool, true, List, [], ◌∷◌, ◌++◌, map, length}
 use Rattle.std.proofs.Common.{Option, Some, None, refl, sym, ap, ◌∙◌, subst, inl, inr, arith, append_assoc, length-append}
 use Rattle.std.specs.Prelude.{◌↔◌, Contains}
 use Rattle.std.specs.List.{AllByRecursion}
@@ -25,7 +25,7 @@ use Rattle.sudo_policy.proofs.One.{text_one}
 use Rattle.sudo_policy.proofs.PolicyFronts.{canon_both}
 use Rattle.roster.specs.Fields.{RosterFields}
 use Rattle.grants.specs.Bases.{FitsBase}
-use Rattle.grants.specs.GrantRules.{IsGrantRule}
+use Rattle.grants.specs.GrantRules.{IsGrantRule, grant_tags}
 use Rattle.grants.specs.Summaries.{Kept}
 use Rattle.grants.specs.GrantLines.{AreWritten, lasts_until, rules_left, stays}
 use Rattle.grants.proofs.LawfulRules.{extended_policy}
@@ -225,7 +225,7 @@ line_is_grant f set host line known l =
       target = q.runas;
       not_before = Some l.first;
       not_after = Some l.last;
-      nopasswd = false;
+      tags = grant_tags;
       cmnd = l.cmnd;
       user_is = is.by;
       host_is = All-contains (λ (h : List ℕ). is_host_name h ≡ true) q.hosts host is.hosts.1 l.names_host;

@@ -1,5 +1,5 @@
 -- What a host's file decides: it allows what a grant covers, and decides all else as the base does.
-use Rattle.std.proofs.Common.{◌≡◌, ℕ, ◌≤◌, ◌⊎◌, Bool, true, false, Option, Some, None, List, [], ◌∷◌, ◌++◌}
+use Rattle.std.proofs.Common.{◌≡◌, ℕ, ◌≤◌, ◌⊎◌, Bool, true, Option, Some, None, List, [], ◌∷◌, ◌++◌}
 use Rattle.std.proofs.Common.{map, reverse, refl, sym, ap, ◌∙◌, subst, inl, inr, append_assoc, max, arith}
 use Rattle.std.specs.List.{Contains}
 use Rattle.std.proofs.lemmas.Bool.{le-leb}
@@ -8,6 +8,7 @@ use Rattle.messages.specs.declared.message.Message.{Message}
 use Rattle.sudo_policy.specs.declared.entry.Rule.{Rule}
 use Rattle.sudo_policy.specs.declared.entry.Entry.{Entry}
 use Rattle.sudo_policy.specs.declared.entry.Entry.TheVariants as entries
+use Rattle.sudo_policy.specs.declared.tags.Tags.{Tags}
 use Rattle.sudo_decide.specs.declared.decision.Decision.{Decision}
 use Rattle.sudo_decide.specs.declared.decision.Decision.TheVariants.{Allow}
 use Rattle.sudo_decide.specs.declared.invocation.Invocation.{Invocation}
@@ -17,7 +18,7 @@ use Rattle.sudo_words.specs.declared.cmnd.Cmnd.{Cmnd}
 use Rattle.messages.specs.Names.{name_of}
 use Rattle.roster.specs.Fields.{RosterFields}
 use Rattle.grants.specs.GrantLines.{stays}
-use Rattle.grants.specs.GrantRules.{grant_rule}
+use Rattle.grants.specs.GrantRules.{grant_rule, grant_tags}
 use Rattle.grants.specs.Statuses.{IsLastMoment}
 use Rattle.outcomes.specs.Covers.{Covers}
 use Rattle.outcomes.specs.HostFile.{Line, IsLine, AreLines, lines_after, with_lines}
@@ -48,12 +49,12 @@ silent_lines defined es (line ∷ lines) i d quiet by =
 
 -- a line says yes, and asks for a password, or says nothing
 abbrev pub Grants : List Entry → Line → Invocation → Type 0
-Grants defined line i = (line.rule.nopasswd ≡ false) × ((says defined line.rule i ≡ Some true) ⊎ (says defined line.rule i ≡ None))
+Grants defined line i = (line.rule.tags ≡ grant_tags) × ((says defined line.rule i ≡ Some true) ⊎ (says defined line.rule i ≡ None))
 
-pub allowed : (defined es : List Entry) (line : Line) (i : Invocation) → line.rule.nopasswd ≡ false
+pub allowed : (defined es : List Entry) (line : Line) (i : Invocation) → line.rule.tags ≡ grant_tags
     → says defined line.rule i ≡ Some true → DecidesBy defined (es ++ entry_of line ∷ []) i Allow
 allowed defined es line i asks says_yes =
-    let decided : outcome line.rule true ≡ Allow = ap (λ (b : Bool). outcome (record line.rule { nopasswd = b }) true) asks in
+    let decided : outcome line.rule true ≡ Allow = ap (λ (tags : Tags). outcome (record line.rule { tags = tags }) true) asks in
     let P : Decision → Type 0 = λ d. DecidesBy defined (es ++ entry_of line ∷ []) i d in
     subst P decided (decides_rule_last defined es line.rule i true says_yes)
 
@@ -106,7 +107,7 @@ one_says_yes defined i (first ∷ lines) each =
 module _ (f : RosterFields Cmnd) (defined : List Entry) (messages : List Message) (i : Invocation) where
   pub line_grants : (line : Line) → IsLine f messages i.host line → Grants defined line i
   line_grants line l =
-      let P : Rule → Type 0 = λ r. (r.nopasswd ≡ false) × ((says defined r i ≡ Some true) ⊎ (says defined r i ≡ None)) in
+      let P : Rule → Type 0 = λ r. (r.tags ≡ grant_tags) × ((says defined r i ≡ Some true) ⊎ (says defined r i ≡ None)) in
       subst P (sym l.rule_is) (refl, grant_answers defined i.host l.request l.first l.last l.cmnd i)
 
   pub covers_from_yes : (line : Line) → IsLine f messages i.host line → says defined line.rule i ≡ Some true → Covers f messages i

@@ -1,6 +1,6 @@
 -- Worked case: what ann asks at the small site and bob approves, and an approval whose request has
 -- not come.
-use Rattle.std.specs.Prelude.{false, List, [], ◌∷◌, codes, None}
+use Rattle.std.specs.Prelude.{List, [], ◌∷◌, codes, None}
 use Rattle.sudo_words.specs.declared.cmnd.Cmnd.TheVariants.{All}
 use Rattle.sudo_policy.specs.declared.entry.Entry.{Entry}
 use Rattle.sudo_policy.specs.declared.entry.Entry.TheVariants.{Rule}
@@ -9,6 +9,7 @@ use Rattle.messages.specs.Names.{name_of}
 use Rattle.messages.specs.WorkedTexts.{ann_asks_for, bob_approves, ls}
 use Rattle.messages.specs.declared.message.Message.{Message}
 use Rattle.messages.specs.declared.message.Message.TheVariants.{Request, Verdict}
+use Rattle.sudo_policy.specs.Tags.{no_tags}
 use Rattle.grants.specs.GrantRules.{plain_rule}
 use Rattle.outcomes.specs.Outcomes.{LiveGrant}
 
@@ -34,4 +35,4 @@ grant = record {
 
 -- a base of one rule, `bob db1 = ALL`
 abbrev pub base : List Entry
-base = Rule (plain_rule (codes "bob") (codes "db1") (codes "root") None None false All) ∷ []
+base = Rule (plain_rule (codes "bob") (codes "db1") (codes "root") None None no_tags All) ∷ []

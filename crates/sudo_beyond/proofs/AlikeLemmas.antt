@@ -234,7 +234,7 @@ module _ (p : List Entry) (i j : Invocation) (alike : Alike p i j) where
     runas = says_alike (by_name i.runas) (by_name j.runas) (runas_defs (reverse p)) r.runas targets_defs runas;
     cmnd = ap (signed_answer r.cmnd.negated) (item_alike (by_run i.path i.args) (by_run j.path j.args) (cmnd_defs (reverse p)) r.cmnd commands_defs cmnd);
     dates = dates;
-    nopasswd = refl;
+    tags = refl;
   }
 
   rules_alike : (es : List Entry) → Each (by_name i.user) (by_name j.user) users_of es → Each (by_name i.host) (by_name j.host) hosts_of es

@@ -6,6 +6,7 @@ use Rattle.sudo_policy.specs.declared.entry.CmndItem.TheVariants as cmnds
 use Rattle.sudo_policy.specs.declared.entry.Entry.{Entry}
 use Rattle.sudo_policy.specs.declared.entry.Entry.TheVariants as entries
 use Rattle.sudo_policy.specs.Text.{Names}
+use Rattle.sudo_policy.specs.Tags.{no_tags}
 use Rattle.sudo_decide.specs.declared.invocation.Invocation.{Invocation}
 use Rattle.sudo_decide.specs.declared.scope.Scope.{Scope}
 
@@ -21,7 +22,7 @@ all_commands_for users = entries.Rule (record {
   runas = only (codes "root");
   not_before = None;
   not_after = None;
-  nopasswd = false;
+  tags = no_tags;
   cmnd = record { negated = false; item = cmnds.Cmnd commands.All };
 }) ∷ []
 

@@ -6,6 +6,7 @@ use Rattle.std.proofs.lemmas.List.{map_push}
 use Rattle.sudo_policy.specs.declared.entry.Rule.{Rule}
 use Rattle.sudo_policy.specs.declared.entry.Entry.{Entry}
 use Rattle.sudo_policy.specs.declared.entry.Entry.TheVariants as entries
+use Rattle.sudo_policy.specs.declared.tags.Tags.{Tags}
 use Rattle.sudo_decide.specs.declared.decision.Decision.{Decision}
 use Rattle.sudo_decide.specs.declared.decision.Decision.TheVariants.{Deny}
 use Rattle.sudo_decide.specs.declared.invocation.Invocation.{Invocation}
@@ -49,7 +50,7 @@ written_says by r w i is =
     ∙ ap (says_from (defined.takes_part r i.at) (defined.is_about by r i)) (is.cmnd i)
 
 written_outcome : (by : List Entry) (r : Rule) (w : PlainRule) (b : Bool) → IsWritten by r w → outcome w b ≡ defined.outcome r b
-written_outcome by r w b is = ap (λ (tag : Bool). defined.decision_of tag b) is.nopasswd
+written_outcome by r w b is = ap (λ (tags : Tags). defined.decision_of tags b) is.tags
 
 by_what_is_said : (by es : List Entry) (r : Rule) (w : PlainRule) (rules : List PlainRule) (i : Invocation) (o : Option Bool) → IsWritten by r w
     → says w i ≡ o → DecidesBy by es i (answer rules i) → DecidesBy by (es ++ entries.Rule r ∷ []) i (answer (rules ++ w ∷ []) i)

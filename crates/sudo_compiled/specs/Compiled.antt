@@ -44,7 +44,7 @@ abbrev pub says : PlainRule → Invocation → Option Bool
 says r i = if takes_part r i.at && is_about r i then cmnds_say i.path i.args r.cmnds else None
 
 abbrev pub outcome : PlainRule → Bool → Decision
-outcome r answer = decision_of r.nopasswd answer
+outcome r answer = decision_of r.tags answer
 
 -- what a rule decides, where it speaks
 abbrev pub spoken : Invocation → PlainRule → Option Decision

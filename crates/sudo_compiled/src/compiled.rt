@@ -52,7 +52,7 @@ fn written_rule(alloc: Global, known: &Aliases, rule: &Rule) -> Result<PlainRule
         runas,
         not_before: rule.not_before,
         not_after: rule.not_after,
-        nopasswd: rule.nopasswd,
+        tags: rule.tags,
         cmnds,
     })
 }

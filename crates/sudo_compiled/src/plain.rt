@@ -5,6 +5,7 @@ ghost use Rattle.std.specs.Prelude.{◌≡◌, IfOk};
 use crate::few::Few;
 use crate::short::Short;
 use std::alloc::Global;
+use sudo_policy::Tags;
 use sudo_words::{Cmnd, Moment, NoMemory};
 
 /// An item of a list of users, hosts or targets that is not an alias.
@@ -42,8 +43,8 @@ pub struct PlainRule {
     pub not_before: Option<Moment>,
     /// The last moment at which it takes part; absent, there is no bound.
     pub not_after: Option<Moment>,
-    /// Whether no password is asked for.
-    pub nopasswd: bool,
+    /// The tags that the rule has.
+    pub tags: Tags,
     /// The commands that it allows, or denies where they are negated.
     pub cmnds: Few<Cmnd>,
 }

@@ -42,6 +42,6 @@ pub(crate) fn spoken(rule: &PlainRule, i: &Invocation) -> Option<Decision>
 {
     match says(rule, i) {
         None => None,
-        Some(answer) => Some(Decision::of(rule.nopasswd, answer)),
+        Some(answer) => Some(Decision::of(rule.tags, answer)),
     }
 }

@@ -1,4 +1,4 @@
--- A decision depends only on what each rule's lists and command answer, its dates and its tag; and on the definitions only through those answers.
+-- A decision depends only on what each rule's lists and command answer, its dates and its tags; and on the definitions only through those answers.
 use Rattle.std.proofs.Common.{◌≡◌, Bool, ◌&&◌, if◌then◌else◌, Option, None, List, [], ◌∷◌, ◌++◌, map, reverse, refl, sym, ap, ◌∙◌}
 use Rattle.std.specs.List.{flat_map}
 use Rattle.std.specs.Option.{option_map, option_or}
@@ -8,10 +8,10 @@ use Rattle.sudo_policy.specs.declared.entry.CmndItem.{CmndItem}
 use Rattle.sudo_policy.specs.declared.entry.Rule.{Rule}
 use Rattle.sudo_policy.specs.declared.entry.Entry.{Entry}
 use Rattle.sudo_policy.specs.declared.entry.Entry.TheVariants as entries
+use Rattle.sudo_policy.specs.declared.tags.Tags.{Tags}
 use Rattle.sudo_policy.specs.declared.tree.Definition.{Definition}
 use Rattle.sudo_policy.specs.Alias.{user_def, host_def, runas_def, cmnd_def, user_defs, host_defs, runas_defs, cmnd_defs}
 use Rattle.sudo_decide.specs.declared.decision.Decision.{Decision}
-use Rattle.sudo_decide.specs.declared.decision.Decision.TheVariants.{Deny, Allow, AllowNoPassword}
 use Rattle.sudo_decide.specs.declared.invocation.Invocation.{Invocation}
 use Rattle.sudo_decide.specs.Decision.{is_yes, signed_answer, cmnd_answer, cmnd_alias_says, names_say}
 use Rattle.sudo_decide.specs.Decision.{takes_part, cmnd_says, says, outcome, decision_of, DecidesBy}
@@ -78,9 +78,9 @@ says_alike p q r s alike =
 
 spoken_alike : (p q : Question) (r s : Rule) → AnswersAlike p q r s → spoken p.defined p.asked (entries.Rule r) ≡ spoken q.defined q.asked (entries.Rule s)
 spoken_alike p q r s alike =
-    let by_tag : option_map (outcome r) (says p.defined r p.asked) ≡ option_map (outcome s) (says p.defined r p.asked) =
-    ap (λ (tag : Bool). option_map (decision_of tag) (says p.defined r p.asked)) alike.nopasswd in
-    by_tag ∙ ap (option_map (outcome s)) (says_alike p q r s alike)
+    let by_tags : option_map (outcome r) (says p.defined r p.asked) ≡ option_map (outcome s) (says p.defined r p.asked) =
+    ap (λ (tags : Tags). option_map (decision_of tags) (says p.defined r p.asked)) alike.tags in
+    by_tags ∙ ap (option_map (outcome s)) (says_alike p q r s alike)
 
 rules_spoken_alike : (p q : Question) (rs ss : List Rule) → AllAnswerAlike p q rs ss
     → last_rule_spoken p.defined p.asked rs ≡ last_rule_spoken q.defined q.asked ss
@@ -126,7 +126,7 @@ same_answers p q i r same = record {
   runas = ap (λ (ds : _). names_say ds i.runas r.runas) same.runas;
   cmnd = ap (λ (ds : _). cmnd_says_by ds r i) same.cmnds;
   dates = refl;
-  nopasswd = refl;
+  tags = refl;
 }
 
 all_same_answers : (p q : List Entry) (i : Invocation) (rs : List Rule) → SameDefinitions p q

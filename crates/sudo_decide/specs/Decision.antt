@@ -14,6 +14,7 @@ use Rattle.sudo_policy.specs.declared.entry.CmndItem.TheVariants as cmnds
 use Rattle.sudo_policy.specs.declared.entry.Rule.{Rule}
 use Rattle.sudo_policy.specs.declared.entry.Entry.{Entry}
 use Rattle.sudo_policy.specs.declared.entry.Entry.TheVariants as entries
+use Rattle.sudo_policy.specs.declared.tags.Tags.{Tags}
 use Rattle.sudo_policy.specs.declared.tree.Definition.{Definition}
 use Rattle.sudo_policy.specs.Alias.{by_definition, user_defs, host_defs, runas_defs, cmnd_defs}
 use Rattle.sudo_policy.specs.Text.{Names}
@@ -113,13 +114,14 @@ entry_says defined alias i = None
 
 -- ---- policies: the last rule that speaks decides, and silence denies
 
--- what this answer decides, with the tag NOPASSWD and without it
-abbrev pub decision_of : (nopasswd answer : Bool) → Decision
-decision_of nopasswd answer = if answer then (if nopasswd then AllowNoPassword else Allow) else Deny
+-- what this answer decides, with these tags
+abbrev pub decision_of : Tags → Bool → Decision
+decision_of tags answer =
+    if answer then (if tags.nopasswd then AllowNoPassword else Allow) else Deny
 
 -- what a rule decides with this answer
 abbrev pub outcome : Rule → Bool → Decision
-outcome r answer = decision_of r.nopasswd answer
+outcome r answer = decision_of r.tags answer
 
 abbrev pub AllSilent : List Entry → List Entry → Invocation → Type 0
 AllSilent defined es i = AllByRecursion (λ e. entry_says defined e i ≡ None) es

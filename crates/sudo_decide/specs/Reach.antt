@@ -1,5 +1,5 @@
 -- What a decision depends on: for each rule, what its lists and its command answer, whether it
--- takes part, and its tag; and nothing more.
+-- takes part, and its tags; and nothing more.
 use Rattle.std.specs.Prelude.{◌≡◌, List, [], ◌∷◌, reverse}
 use Rattle.std.specs.List.{flat_map}
 use Rattle.sudo_policy.specs.declared.entry.Rule.{Rule}
@@ -23,7 +23,7 @@ pub record Question : Type 0 where
   pub asked : Invocation
 
 -- two rules answer two questions alike: in each list, in the command, in taking part, and in the
--- tag
+-- tags
 pub record AnswersAlike (p q : Question) (r s : Rule) : Type 0 where
   pub users : names_say (user_defs p.defined) p.asked.user r.users
       ≡ names_say (user_defs q.defined) q.asked.user s.users
@@ -33,7 +33,7 @@ pub record AnswersAlike (p q : Question) (r s : Rule) : Type 0 where
       ≡ names_say (runas_defs q.defined) q.asked.runas s.runas
   pub cmnd : cmnd_says p.defined r p.asked ≡ cmnd_says q.defined s q.asked
   pub dates : takes_part r p.asked.at ≡ takes_part s q.asked.at
-  pub nopasswd : r.nopasswd ≡ s.nopasswd
+  pub tags : r.tags ≡ s.tags
 
 -- the lists are equally long, and the two rules at each place answer alike
 abbrev pub AllAnswerAlike : Question → Question → List Rule → List Rule → Type 0

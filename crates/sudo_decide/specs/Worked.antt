@@ -11,6 +11,7 @@ use Rattle.sudo_policy.specs.declared.entry.Entry.TheVariants as entries
 use Rattle.sudo_policy.specs.declared.entry.Rule.{Rule}
 use Rattle.sudo_policy.specs.Alias.{cmnd_defs}
 use Rattle.sudo_policy.specs.Text.{Names}
+use Rattle.sudo_policy.specs.Tags.{no_tags}
 use Rattle.sudo_decide.specs.declared.invocation.Invocation.{Invocation}
 use Rattle.sudo_decide.specs.Decision.{signed_answer, cmnd_answer, cmnd_alias_says}
 
@@ -36,7 +37,7 @@ rule_for nopasswd negated = record {
   runas = everyone;
   not_before = Some 100;
   not_after = Some 200;
-  nopasswd = nopasswd;
+  tags = record no_tags { nopasswd = nopasswd };
   cmnd = record { negated = negated; item = cmnds.Cmnd (commands.Path (codes "/bin/ls") Any) };
 }
 

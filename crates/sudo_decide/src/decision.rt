@@ -4,6 +4,7 @@ ghost use Rattle.std.specs.Prelude.{◌≡◌};
 ghost use Rattle.sudo_decide.specs.Decision.{decision_of};
 
 use std::fmt;
+use sudo_policy::Tags;
 
 /// The answer to an invocation.
 ///
@@ -19,13 +20,13 @@ pub enum Decision {
 }
 
 impl Decision {
-    /// What a rule decides with this answer, by whether it has the tag NOPASSWD.
-    pub fn of(nopasswd: bool, answer: bool) -> Decision
-        ensures { result ≡ decision_of nopasswd answer }
+    /// What a rule with these tags decides with this answer.
+    pub fn of(tags: Tags, answer: bool) -> Decision
+        ensures { result ≡ decision_of tags answer }
     {
         if !answer {
             Decision::Deny
-        } else if nopasswd {
+        } else if tags.nopasswd {
             Decision::AllowNoPassword
         } else {
             Decision::Allow

@@ -75,7 +75,7 @@ pub fn last_speaks()
         Decides (es ++ entries.Rule r ∷ []) i (outcome r answer) }
 {}
 
-/// A decision depends on what the lists and the command of each rule answer, and on its tag and
+/// A decision depends on what the lists and the command of each rule answer, and on its tags and
 /// whether it takes part, and on nothing else: where these agree, rule by rule, for two policies
 /// and two invocations, the decisions are the same.
 pub fn answers_decide()

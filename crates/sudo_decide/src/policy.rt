@@ -18,7 +18,7 @@ fn decision_after(p: &Policy, before: Decision, entry: &Entry, i: &Invocation) -
     match entry {
         Entry::Rule(rule) => match says(p, rule, i) {
             None => before,
-            Some(answer) => Decision::of(rule.nopasswd, answer),
+            Some(answer) => Decision::of(rule.tags, answer),
         },
         _ => before,
     }

@@ -1,7 +1,7 @@
 -- The line of a rule is read as tokens that spell the rule.
 use Rattle.std.proofs.Common.{◌≡◌, ℕ, ◌≤◌, Bool, true, false, List, [], ◌∷◌, ◌++◌, length, Option, Some}
 use Rattle.std.proofs.Common.{None, refl, sym, ap, subst, ◌∙◌, inl, inr, append_assoc, append-nil, arith}
-use Rattle.std.specs.Prelude.{codes, IfSome, unwrap_or}
+use Rattle.std.specs.Prelude.{codes, IfSome}
 use Rattle.std.specs.Option.{option_or}
 use Rattle.sudo_words.specs.Bytes.{space, equals, colon, opening, closing}
 use Rattle.sudo_words.specs.Word.{is_name, is_host_name}
@@ -12,14 +12,18 @@ use Rattle.sudo_policy.specs.declared.entry.Item.{Item}
 use Rattle.sudo_policy.specs.declared.entry.CmndItem.{CmndItem}
 use Rattle.sudo_policy.specs.declared.entry.Rule.{Rule}
 use Rattle.sudo_policy.specs.declared.entry.Entry.TheVariants as entries
+use Rattle.sudo_policy.specs.declared.tags.Tag.{Tag}
+use Rattle.sudo_policy.specs.declared.tags.Tag.TheVariants.{Passwd, NoPasswd}
+use Rattle.sudo_policy.specs.declared.tags.Tags.{Tags}
 use Rattle.sudo_policy.specs.declared.tree.CmndSpec.{CmndSpec}
 use Rattle.sudo_policy.specs.declared.tree.Part.{Part}
 use Rattle.sudo_policy.specs.declared.tree.Line.TheVariants as lines
 use Rattle.sudo_policy.specs.Lex.{Tok, word, mark, Lexes}
-use Rattle.sudo_policy.specs.Printing.{item_text, cmnd_item_text, signed_text, names_text, date_text, tag_text, rule_text}
+use Rattle.sudo_policy.specs.Printing.{item_text, cmnd_item_text, signed_text, names_text, date_text, rule_text}
 use Rattle.sudo_policy.specs.Policy.{IsItem, IsList, IsRule}
 use Rattle.sudo_policy.specs.Grammar.{Date, Bounds, Users, Hosts, begins_spaced, SpellsItem, SpellsDates}
-use Rattle.sudo_policy.specs.Grammar.{SpellsTags, SpellsCmndSpec, SpellsPart, SpellsTree, last_tag}
+use Rattle.sudo_policy.specs.Grammar.{SpellsTags, SpellsCmndSpec, SpellsPart, SpellsTree}
+use Rattle.sudo_policy.specs.Tags.{tag_word, tag_text, tags_text, given_by, no_tags, with_tags}
 use Rattle.sudo_policy.specs.Inheritance.{entries_of}
 use Rattle.sudo_policy.proofs.SpecTexts.{BeginsWord}
 use Rattle.sudo_policy.proofs.PrintedWords.{IsWord, name_word, host_word, literal, stamp_word}
@@ -104,53 +108,78 @@ dates_spelled before after rest b a spaced =
 
 -- ---- tags
 
-tag_toks : Bool → List Tok
-tag_toks true = word true 0 (codes "NOPASSWD") ∷ mark false colon ∷ []
-tag_toks false = []
+tag_toks : Tag → Bool → List Tok
+tag_toks tag true = word true 0 (tag_word tag) ∷ mark false colon ∷ []
+tag_toks tag false = []
 
-tags_of : Bool → List Bool
-tags_of true = true ∷ []
-tags_of false = []
+tag_if : Tag → Bool → List Tag
+tag_if tag true = tag ∷ []
+tag_if tag false = []
 
-lex_tag : (t : Bool) (rest : List ℕ) (ts : List Tok) → Lexes (space ∷ rest) ts → Lexes (space ∷ (tag_text t ++ rest)) (tag_toks t ++ ts)
+tags_toks : Tags → List Tok
+tags_toks t = tag_toks NoPasswd t.nopasswd
+
+tags_of : Tags → List Tag
+tags_of t = tag_if NoPasswd t.nopasswd
+
+lex_tag : (tag : Tag) (t : Bool) (rest : List ℕ) (ts : List Tok) → Lexes (space ∷ rest) ts → Lexes (space ∷ (tag_text tag t ++ rest)) (tag_toks tag t ++ ts)
 unfolding tag_toks
-lex_tag true rest ts h =
+lex_tag Passwd true rest ts h =
+    lex_word true 0 (codes "PASSWD") (colon ∷ space ∷ rest) (mark false colon ∷ ts) (literal (codes "PASSWD") (omega arith) refl)
+    (stop colon (space ∷ rest) refl refl) (lex_mark false colon (space ∷ rest) ts refl h)
+lex_tag NoPasswd true rest ts h =
     lex_word true 0 (codes "NOPASSWD") (colon ∷ space ∷ rest) (mark false colon ∷ ts) (literal (codes "NOPASSWD") (omega arith) refl)
     (stop colon (space ∷ rest) refl refl) (lex_mark false colon (space ∷ rest) ts refl h)
-lex_tag false rest ts h = h
+lex_tag tag false rest ts h = h
 
-tag_spelled : (t : Bool) (rest : List Tok) → SpellsTags (tag_toks t ++ rest) (tags_of t) rest
-unfolding tag_toks tags_of
-tag_spelled true rest = (true, false, rest, refl, refl)
-tag_spelled false rest = refl
+lex_tags : (t : Tags) (rest : List ℕ) (ts : List Tok) → Lexes (space ∷ rest) ts → Lexes (space ∷ (tags_text t ++ rest)) (tags_toks t ++ ts)
+unfolding tags_toks
+lex_tags t rest ts h = lex_tag NoPasswd t.nopasswd rest ts h
 
-tag_spaced : (t : Bool) (rest : List Tok) → begins_spaced rest ≡ true → begins_spaced (tag_toks t ++ rest) ≡ true
+tag_spelled : (tag : Tag) (t : Bool) (rest : List Tok) → SpellsTags (tag_toks tag t ++ rest) (tag_if tag t) rest
+unfolding tag_toks tag_if
+tag_spelled tag true rest = (true, false, rest, refl, refl)
+tag_spelled tag false rest = refl
+
+tags_spelled : (t : Tags) (rest : List Tok) → SpellsTags (tags_toks t ++ rest) (tags_of t) rest
+unfolding tags_toks tags_of
+tags_spelled t rest = tag_spelled NoPasswd t.nopasswd rest
+
+tag_spaced : (tag : Tag) (t : Bool) (rest : List Tok) → begins_spaced rest ≡ true → begins_spaced (tag_toks tag t ++ rest) ≡ true
 unfolding tag_toks
-tag_spaced true rest h = refl
-tag_spaced false rest h = h
+tag_spaced tag true rest h = refl
+tag_spaced tag false rest h = h
 
-tag_given : (t : Bool) → unwrap_or (last_tag (tags_of t)) false ≡ t
+tags_spaced : (t : Tags) (rest : List Tok) → begins_spaced rest ≡ true → begins_spaced (tags_toks t ++ rest) ≡ true
+unfolding tags_toks
+tags_spaced t rest h = tag_spaced NoPasswd t.nopasswd rest h
+
+nopasswd_given : (t : Bool) → with_tags no_tags (given_by (tag_if NoPasswd t)) ≡ record { nopasswd = t }
+unfolding tag_if
+nopasswd_given true = refl
+nopasswd_given false = refl
+
+tags_given : (t : Tags) → with_tags no_tags (given_by (tags_of t)) ≡ t
 unfolding tags_of
-tag_given true = refl
-tag_given false = refl
+tags_given t = nopasswd_given t.nopasswd
 
 -- ---- the line
 
 -- what is printed after the targets, and how it is read
 what_toks : Rule → List Tok
-what_toks r = date_toks (codes "NOTBEFORE") r.not_before ++ (date_toks (codes "NOTAFTER") r.not_after ++ (tag_toks r.nopasswd ++ (cmnd_toks true r.cmnd ++ [])))
+what_toks r = date_toks (codes "NOTBEFORE") r.not_before ++ (date_toks (codes "NOTAFTER") r.not_after ++ (tags_toks r.tags ++ (cmnd_toks true r.cmnd ++ [])))
 
 lex_what : (r : Rule) → IsRule r → Lexes (space ∷ (date_text (codes "NOTBEFORE") r.not_before
-    ++ (date_text (codes "NOTAFTER") r.not_after ++ (tag_text r.nopasswd ++ (signed_text cmnd_item_text r.cmnd ++ []))))) (what_toks r)
+    ++ (date_text (codes "NOTAFTER") r.not_after ++ (tags_text r.tags ++ (signed_text cmnd_item_text r.cmnd ++ []))))) (what_toks r)
 unfolding what_toks
 lex_what r is =
     let cmnd_text = signed_text cmnd_item_text r.cmnd ++ [] in
     let cmnd = lex_cmnd true r.cmnd [] [] is.cmnd refl tt in
-    let tagged = lex_tag r.nopasswd cmnd_text (cmnd_toks true r.cmnd ++ []) cmnd in
-    let dated = lex_option (codes "NOTAFTER") r.not_after (tag_text r.nopasswd ++ cmnd_text) (tag_toks r.nopasswd
+    let tagged = lex_tags r.tags cmnd_text (cmnd_toks true r.cmnd ++ []) cmnd in
+    let dated = lex_option (codes "NOTAFTER") r.not_after (tags_text r.tags ++ cmnd_text) (tags_toks r.tags
     ++ (cmnd_toks true r.cmnd ++ [])) (literal (codes "NOTAFTER") (omega arith) refl) is.not_after tagged in
-    lex_option (codes "NOTBEFORE") r.not_before (date_text (codes "NOTAFTER") r.not_after ++ (tag_text r.nopasswd ++ cmnd_text)) (date_toks (codes "NOTAFTER")
-    r.not_after ++ (tag_toks r.nopasswd ++ (cmnd_toks true r.cmnd ++ []))) (literal (codes "NOTBEFORE") (omega arith) refl) is.not_before dated
+    lex_option (codes "NOTBEFORE") r.not_before (date_text (codes "NOTAFTER") r.not_after ++ (tags_text r.tags ++ cmnd_text)) (date_toks (codes "NOTAFTER")
+    r.not_after ++ (tags_toks r.tags ++ (cmnd_toks true r.cmnd ++ []))) (literal (codes "NOTBEFORE") (omega arith) refl) is.not_before dated
 
 behind_users : Rule → List Tok
 behind_users r =
@@ -184,14 +213,14 @@ rule_front users hosts runas before after tag cmnd = simp (append_assoc, append-
 pub rule_lexes : (r : Rule) → IsRule r → Lexes (rule_text r) (line_toks r)
 rule_lexes r is =
     subst (λ (x : List ℕ). Lexes x (line_toks r)) (sym (rule_front (names_text r.users) (names_text r.hosts) (names_text r.runas)
-    (date_text (codes "NOTBEFORE") r.not_before) (date_text (codes "NOTAFTER") r.not_after) (tag_text r.nopasswd) (signed_text cmnd_item_text r.cmnd)))
+    (date_text (codes "NOTBEFORE") r.not_before) (date_text (codes "NOTAFTER") r.not_after) (tags_text r.tags) (signed_text cmnd_item_text r.cmnd)))
     (who_lexes r (date_text (codes "NOTBEFORE") r.not_before
-    ++ (date_text (codes "NOTAFTER") r.not_after ++ (tag_text r.nopasswd ++ (signed_text cmnd_item_text r.cmnd ++ [])))) is (lex_what r is))
+    ++ (date_text (codes "NOTAFTER") r.not_after ++ (tags_text r.tags ++ (signed_text cmnd_item_text r.cmnd ++ [])))) is (lex_what r is))
 
 -- ---- the tree
 
 spec_of : Rule → CmndSpec
-spec_of r = record { runas = Some r.runas; not_before = r.not_before; not_after = r.not_after; nopasswd = last_tag (tags_of r.nopasswd); cmnd = r.cmnd }
+spec_of r = record { runas = Some r.runas; not_before = r.not_before; not_after = r.not_after; tags = given_by (tags_of r.tags); cmnd = r.cmnd }
 
 pub part_of : Rule → Part
 part_of r = record { hosts = r.hosts; specs = spec_of r ∷ [] }
@@ -204,8 +233,8 @@ spec_spelled r is =
     record {
       after_runas = what_toks r;
       dates = dates_of r.not_before r.not_after;
-      after_dates = tag_toks r.nopasswd ++ cmnd;
-      tags = tags_of r.nopasswd;
+      after_dates = tags_toks r.tags ++ cmnd;
+      tags = tags_of r.tags;
       after_tags = cmnd;
       runas = (
         true,
@@ -216,10 +245,10 @@ spec_spelled r is =
         users_spelled false r.runas (mark false closing ∷ what_toks r) is.runas,
         refl,
       );
-      dated = dates_spelled r.not_before r.not_after (tag_toks r.nopasswd ++ cmnd) is.not_before is.not_after (tag_spaced r.nopasswd cmnd refl);
+      dated = dates_spelled r.not_before r.not_after (tags_toks r.tags ++ cmnd) is.not_before is.not_after (tags_spaced r.tags cmnd refl);
       bounds = dates_bounds r.not_before r.not_after;
-      tagged = tag_spelled r.nopasswd cmnd;
-      passwd = refl;
+      tagged = tags_spelled r.tags cmnd;
+      given = refl;
       cmnd = cmnd_spelled true r.cmnd [] is.cmnd;
     }
 
@@ -242,9 +271,9 @@ rule_begins r is = items_word false r.users (behind_users r) is.users.0
 -- ---- its one entry is the rule
 
 rule_of_parts : List (Signed (Item (List ℕ))) → List (Signed (Item (List ℕ)))
-    → List (Signed (Item (List ℕ))) → Option ℕ → Option ℕ → Bool → Signed CmndItem → Rule
-rule_of_parts users hosts runas not_before not_after nopasswd cmnd =
-    record { users = users; hosts = hosts; runas = runas; not_before = not_before; not_after = not_after; nopasswd = nopasswd; cmnd = cmnd }
+    → List (Signed (Item (List ℕ))) → Option ℕ → Option ℕ → Tags → Signed CmndItem → Rule
+rule_of_parts users hosts runas not_before not_after tags cmnd =
+    record { users = users; hosts = hosts; runas = runas; not_before = not_before; not_after = not_after; tags = tags; cmnd = cmnd }
 
 or_none : (o : Option ℕ) → o ≡ option_or o None
 or_none None = refl
@@ -253,10 +282,10 @@ or_none (Some n) = refl
 pub rule_entries : (r : Rule) → entries.Rule r ∷ [] ≡ entries_of (lines.UserSpec r.users (part_of r ∷ []))
 unfolding part_of spec_of rule_of_parts
 rule_entries r =
-    let same : rule_of_parts r.users r.hosts r.runas r.not_before r.not_after r.nopasswd r.cmnd
+    let same : rule_of_parts r.users r.hosts r.runas r.not_before r.not_after r.tags r.cmnd
     ≡ rule_of_parts r.users r.hosts r.runas (option_or r.not_before None)
-    (option_or r.not_after None) (unwrap_or (last_tag (tags_of r.nopasswd)) false) r.cmnd =
-    ap (λ (x : Option ℕ). rule_of_parts r.users r.hosts r.runas x r.not_after r.nopasswd r.cmnd) (or_none r.not_before)
-    ∙ ap (λ (x : Option ℕ). rule_of_parts r.users r.hosts r.runas (option_or r.not_before None) x r.nopasswd r.cmnd) (or_none r.not_after) ∙ ap
-    (λ (x : Bool). rule_of_parts r.users r.hosts r.runas (option_or r.not_before None) (option_or r.not_after None) x r.cmnd) (sym (tag_given r.nopasswd)) in
+    (option_or r.not_after None) (with_tags no_tags (given_by (tags_of r.tags))) r.cmnd =
+    ap (λ (x : Option ℕ). rule_of_parts r.users r.hosts r.runas x r.not_after r.tags r.cmnd) (or_none r.not_before)
+    ∙ ap (λ (x : Option ℕ). rule_of_parts r.users r.hosts r.runas (option_or r.not_before None) x r.tags r.cmnd) (or_none r.not_after) ∙ ap
+    (λ (x : Tags). rule_of_parts r.users r.hosts r.runas (option_or r.not_before None) (option_or r.not_after None) x r.cmnd) (sym (tags_given r.tags)) in
     ap (λ (x : Rule). entries.Rule x ∷ []) same

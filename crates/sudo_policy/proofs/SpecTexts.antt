@@ -1,5 +1,5 @@
 -- A command of a user specification is read in one way: its targets, dates, tags and the command.
-use Rattle.std.proofs.Common.{◌≡◌, ℕ, Bool, true, false, List, [], ◌∷◌, ◌++◌, Option, Some, None, refl, sym, ap, subst, ◌∙◌, inl, inr, arith}
+use Rattle.std.proofs.Common.{◌≡◌, ℕ, Bool, false, List, [], ◌∷◌, ◌++◌, Option, Some, None, refl, sym, ap, subst, ◌∙◌, inl, inr, arith}
 use Rattle.std.specs.Prelude.{codes}
 use Rattle.std.proofs.lemmas.Bool.{false≢true}
 use Rattle.sudo_words.specs.Bytes.{equals, comma, colon, closing}
@@ -14,11 +14,15 @@ use Rattle.sudo_policy.specs.declared.entry.Signed.{Signed}
 use Rattle.sudo_policy.specs.declared.entry.Item.{Item}
 use Rattle.sudo_policy.specs.declared.entry.CmndItem.{CmndItem}
 use Rattle.sudo_policy.specs.declared.entry.CmndItem.TheVariants as cmnds
+use Rattle.sudo_policy.specs.declared.tags.Tag.{Tag}
+use Rattle.sudo_policy.specs.declared.tags.Tag.TheVariants.{Passwd, NoPasswd}
+use Rattle.sudo_policy.specs.declared.tags.GivenTags.{GivenTags}
 use Rattle.sudo_policy.specs.declared.tree.CmndSpec.{CmndSpec}
 use Rattle.sudo_policy.specs.Lex.{Tok, word, mark}
 use Rattle.sudo_policy.specs.Policy.{IsCmndItem}
 use Rattle.sudo_policy.specs.Grammar.{Date, GivesBound, Bounds, Listed, Users, SpellsItem, SpellsCmnd, SpellsRunas}
-use Rattle.sudo_policy.specs.Grammar.{SpellsDates, SpellsTags, SpellsCmndSpec, rule_toks, head_of, args_of, tag_word, last_tag}
+use Rattle.sudo_policy.specs.Grammar.{SpellsDates, SpellsTags, SpellsCmndSpec, rule_toks, head_of, args_of}
+use Rattle.sudo_policy.specs.Tags.{tag_word, given_by}
 use Rattle.sudo_policy.proofs.ListTexts.{IsOne, listed_one}
 use Rattle.sudo_policy.proofs.ItemTexts.{IsForm, user_form, spelled_item_one, EndsCmnd, spelled_cmnd_one}
 
@@ -46,7 +50,7 @@ NotDate ts = (a : Bool) (w : List ℕ) (next : List Tok) → ts ≡ word a 0 w �
 
 -- not with the word of a tag
 abbrev pub NotTag : List Tok → Type 0
-NotTag ts = (a t : Bool) (next : List Tok) → ts ≡ word a 0 (tag_word t) ∷ next → ⊥
+NotTag ts = (a : Bool) (t : Tag) (next : List Tok) → ts ≡ word a 0 (tag_word t) ∷ next → ⊥
 
 -- ---- lists of items
 
@@ -113,11 +117,12 @@ bounds_one before after (d ∷ ds) b a c e g h =
 
 -- ---- tags
 
-tag_one : (s t : Bool) → tag_word s ≡ tag_word t → s ≡ t
-tag_one true true e = refl
-tag_one true false e = absurd cc
-tag_one false true e = absurd cc
-tag_one false false e = refl
+-- two tags have different words
+pub tag_one : (s t : Tag) → tag_word s ≡ tag_word t → s ≡ t
+tag_one Passwd Passwd e = refl
+tag_one Passwd NoPasswd e = absurd cc
+tag_one NoPasswd Passwd e = absurd cc
+tag_one NoPasswd NoPasswd e = refl
 
 tags_one : IsOne SpellsTags NotTag
 tags_one ts [] [] r s g h n k = (refl, sym g ∙ h)
@@ -128,7 +133,7 @@ tags_one ts (t ∷ us) (v ∷ vs) r s g h n k =
     let name : tag_word t ≡ tag_word v = cc in
     let left : g.2 ≡ h.2 = cc in
     let more = tags_one h.2 us vs r s (subst (λ (x : List Tok). SpellsTags x us r) left g.4) h.4 n k in
-    (ap (λ (z : Bool). z ∷ us) (tag_one t v name) ∙ ap (λ (zs : List Bool). v ∷ zs) more.0, more.1)
+    (ap (λ (z : Tag). z ∷ us) (tag_one t v name) ∙ ap (λ (zs : List Tag). v ∷ zs) more.0, more.1)
 
 -- ---- what stands in front of a command, of tags and of dates
 
@@ -145,10 +150,10 @@ no_head w not_head (cmnds.Cmnd commands.All) h e = not_head.all e
 no_head w not_head (cmnds.Cmnd (commands.Path file rule)) h e = false≢true (sym not_head.file ∙ ap is_file_path (sym e) ∙ h.head.0)
 no_head w not_head (cmnds.Cmnd (commands.Dir dir)) h e = false≢true (sym not_head.dir ∙ ap is_dir_path (sym e) ∙ h.head.0)
 
-tag_no_head : (t : Bool) → IsNoHead (tag_word t)
+tag_no_head : (t : Tag) → IsNoHead (tag_word t)
 unfolding is_reserved
-tag_no_head true = record { alias = refl; all = λ e. absurd cc; file = refl; dir = refl }
-tag_no_head false = record { alias = refl; all = λ e. absurd cc; file = refl; dir = refl }
+tag_no_head Passwd = record { alias = refl; all = λ e. absurd cc; file = refl; dir = refl }
+tag_no_head NoPasswd = record { alias = refl; all = λ e. absurd cc; file = refl; dir = refl }
 
 equals_no_end : (ts next : List Tok) → EndsCmnd ts → ts ≡ mark false equals ∷ next → ⊥
 equals_no_end [] next h e = absurd cc
@@ -182,7 +187,7 @@ cmnd_no_tag ts s r g a t next e =
     let head : head_of s.item ≡ tag_word t = cc in
     no_head (tag_word t) (tag_no_head t) s.item g.item head
 
-tags_word : (ts : List Tok) (tags : List Bool) (r : List Tok) → SpellsTags ts tags r → BeginsWord r → BeginsWord ts
+tags_word : (ts : List Tok) (tags : List Tag) (r : List Tok) → SpellsTags ts tags r → BeginsWord r → BeginsWord ts
 tags_word ts [] r g n = subst BeginsWord (sym g) n
 tags_word ts (t ∷ tags) r g n = subst BeginsWord (sym g.3) tt
 
@@ -190,7 +195,7 @@ tags_word ts (t ∷ tags) r g n = subst BeginsWord (sym g.3) tt
 colon_no_equals : (a b : Bool) (ts us : List Tok) → mark a colon ∷ ts ≡ mark b equals ∷ us → ⊥
 colon_no_equals a b ts us e = let same : ◌≡◌ {A = ℕ} colon equals = cc in absurd (omega arith)
 
-tags_no_date : (ts : List Tok) (tags : List Bool) (r : List Tok) → SpellsTags ts tags r → NotDate r → NotDate ts
+tags_no_date : (ts : List Tok) (tags : List Tag) (r : List Tok) → SpellsTags ts tags r → NotDate r → NotDate ts
 tags_no_date ts [] r g n = subst NotDate (sym g) n
 tags_no_date ts (t ∷ tags) r g n = λ a w next e.
     let both = sym g.3 ∙ e in
@@ -203,16 +208,16 @@ dates_word ts (d ∷ dates) r g n = subst BeginsWord (sym g.4) tt
 
 -- ---- the whole
 
-spec_of : Option (List (Signed (Item (List ℕ)))) → Option ℕ → Option ℕ → Option Bool → Signed CmndItem → CmndSpec
-spec_of runas not_before not_after nopasswd cmnd = record { runas = runas; not_before = not_before; not_after = not_after; nopasswd = nopasswd; cmnd = cmnd }
+spec_of : Option (List (Signed (Item (List ℕ)))) → Option ℕ → Option ℕ → GivenTags → Signed CmndItem → CmndSpec
+spec_of runas not_before not_after tags cmnd = record { runas = runas; not_before = not_before; not_after = not_after; tags = tags; cmnd = cmnd }
 
-same_spec : (s t : CmndSpec) → s.runas ≡ t.runas → s.not_before ≡ t.not_before → s.not_after ≡ t.not_after → s.nopasswd ≡ t.nopasswd → s.cmnd ≡ t.cmnd → s ≡ t
+same_spec : (s t : CmndSpec) → s.runas ≡ t.runas → s.not_before ≡ t.not_before → s.not_after ≡ t.not_after → s.tags ≡ t.tags → s.cmnd ≡ t.cmnd → s ≡ t
 unfolding spec_of
 same_spec s t a b c d e =
-    let same : spec_of s.runas s.not_before s.not_after s.nopasswd s.cmnd ≡ spec_of t.runas t.not_before t.not_after t.nopasswd t.cmnd =
-    ap (λ x. spec_of x s.not_before s.not_after s.nopasswd s.cmnd) a
-    ∙ ap (λ x. spec_of t.runas x s.not_after s.nopasswd s.cmnd) b ∙ ap (λ x. spec_of t.runas t.not_before x s.nopasswd s.cmnd) c
-    ∙ ap (λ x. spec_of t.runas t.not_before t.not_after x s.cmnd) d ∙ ap (λ x. spec_of t.runas t.not_before t.not_after t.nopasswd x) e in
+    let same : spec_of s.runas s.not_before s.not_after s.tags s.cmnd ≡ spec_of t.runas t.not_before t.not_after t.tags t.cmnd =
+    ap (λ x. spec_of x s.not_before s.not_after s.tags s.cmnd) a
+    ∙ ap (λ x. spec_of t.runas x s.not_after s.tags s.cmnd) b ∙ ap (λ x. spec_of t.runas t.not_before x s.tags s.cmnd) c
+    ∙ ap (λ x. spec_of t.runas t.not_before t.not_after x s.cmnd) d ∙ ap (λ x. spec_of t.runas t.not_before t.not_after t.tags x) e in
     same
 
 pub spec_one : IsOne SpellsCmndSpec EndsCmnd
@@ -233,4 +238,4 @@ spec_one ts s t r q g h n k =
     let cmnd = spelled_cmnd_one h.after_tags s.cmnd t.cmnd r q (subst (λ (x : List Tok). SpellsCmnd x s.cmnd r) tags.1 g.cmnd) h.cmnd n k in
     let bounds = bounds_one None None h.dates s.not_before s.not_after t.not_before t.not_after
     (subst (λ (x : List Date). Bounds None None x s.not_before s.not_after) dates.0 g.bounds) h.bounds in
-    (same_spec s t runas.0 bounds.0 bounds.1 (g.passwd ∙ ap last_tag tags.0 ∙ sym h.passwd) cmnd.0, cmnd.1)
+    (same_spec s t runas.0 bounds.0 bounds.1 (g.given ∙ ap given_by tags.0 ∙ sym h.given) cmnd.0, cmnd.1)

@@ -3,8 +3,7 @@
 -- it. A token's Bool says whether blanks stand before it: a variable where they may, true where
 -- they must, false where they may not.
 use Rattle.std.specs.Prelude.{◌≡◌, ℕ, ◌%◌, ◌==◌, Bool, true, false, ◌⊎◌, List, [], ◌∷◌}
-use Rattle.std.specs.Prelude.{◌++◌, map, Option, Some, None, if◌then◌else◌, codes}
-use Rattle.std.specs.Option.{option_or}
+use Rattle.std.specs.Prelude.{◌++◌, map, Option, Some, None, codes}
 use Rattle.sudo_words.specs.Bytes.{equals, comma, colon, opening, closing, quote}
 use Rattle.sudo_words.specs.Word.{is_name, is_host_name, is_alias_name}
 use Rattle.sudo_words.specs.Moment as moments
@@ -15,6 +14,7 @@ use Rattle.sudo_policy.specs.declared.entry.Signed.{Signed}
 use Rattle.sudo_policy.specs.declared.entry.Item.{Item}
 use Rattle.sudo_policy.specs.declared.entry.CmndItem.{CmndItem}
 use Rattle.sudo_policy.specs.declared.entry.CmndItem.TheVariants as cmnds
+use Rattle.sudo_policy.specs.declared.tags.Tag.{Tag}
 use Rattle.sudo_policy.specs.declared.tree.Definition.{Definition}
 use Rattle.sudo_policy.specs.declared.tree.CmndSpec.{CmndSpec}
 use Rattle.sudo_policy.specs.declared.tree.Part.{Part}
@@ -23,6 +23,7 @@ use Rattle.sudo_policy.specs.declared.tree.Line.TheVariants as lines
 use Rattle.sudo_policy.specs.Text.{Names}
 use Rattle.sudo_policy.specs.Lex.{Tok, word, mark, is_spaced}
 use Rattle.sudo_policy.specs.Policy.{IsItem, IsCmndItem}
+use Rattle.sudo_policy.specs.Tags.{tag_word, given_by}
 use Rattle.sudo_policy.specs.Printing.{item_text}
 
 -- whether blanks stand before the first token
@@ -127,31 +128,24 @@ Bounds before after (date ∷ dates) not_before not_after =
     (new_before new_after : Option ℕ) × GivesBound before after date new_before new_after
     × Bounds new_before new_after dates not_before not_after
 
--- the tags, with `:` after each; the last one holds
-abbrev pub tag_word : Bool → List ℕ
-tag_word nopasswd = if nopasswd then codes "NOPASSWD" else codes "PASSWD"
-
-abbrev pub SpellsTags : List Tok → List Bool → List Tok → Type 0
+-- the tags, with `:` after each
+abbrev pub SpellsTags : List Tok → List Tag → List Tok → Type 0
 SpellsTags ts [] rest = ts ≡ rest
 SpellsTags ts (tag ∷ tags) rest =
     (a b : Bool) × (next : List Tok)
     × (ts ≡ word a 0 (tag_word tag) ∷ mark b colon ∷ next) × SpellsTags next tags rest
 
-abbrev pub last_tag : List Bool → Option Bool
-last_tag [] = None
-last_tag (tag ∷ tags) = option_or (last_tag tags) (Some tag)
-
 pub record SpellsCmndSpec (ts : List Tok) (s : CmndSpec) (rest : List Tok) : Type 0 where
   pub after_runas : List Tok
   pub dates : List Date
   pub after_dates : List Tok
-  pub tags : List Bool
+  pub tags : List Tag
   pub after_tags : List Tok
   pub runas : SpellsRunas ts s.runas after_runas
   pub dated : SpellsDates after_runas dates after_dates
   pub bounds : Bounds None None dates s.not_before s.not_after
   pub tagged : SpellsTags after_dates tags after_tags
-  pub passwd : s.nopasswd ≡ last_tag tags
+  pub given : s.tags ≡ given_by tags
   pub cmnd : SpellsCmnd after_tags s.cmnd rest
 
 abbrev pub CmndSpecs : List Tok → List CmndSpec → List Tok → Type 0

@@ -16,14 +16,15 @@ use Rattle.sudo_policy.specs.declared.tree.Settings.{Settings}
 use Rattle.sudo_policy.specs.declared.tree.Line.{Line}
 use Rattle.sudo_policy.specs.declared.tree.Line.TheVariants as lines
 use Rattle.sudo_policy.specs.Text.{Names}
+use Rattle.sudo_policy.specs.Tags.{no_tags, with_tags}
 
 -- without targets, `root` alone
 abbrev pub root : Names
 root = record { negated = false; item = items.Name (codes "root") } ∷ []
 
--- what holds before the first command of a list: as `root`, at any time, with a password
+-- what holds before the first command of a list: as `root`, at any time, without tags
 abbrev pub first_settings : Settings
-first_settings = record { runas = root; not_before = None; not_after = None; nopasswd = false }
+first_settings = record { runas = root; not_before = None; not_after = None; tags = no_tags }
 
 -- what a command gives of its own overrides what held before it
 abbrev pub with_spec : Settings → CmndSpec → Settings
@@ -31,7 +32,7 @@ with_spec before s = record {
   runas = unwrap_or s.runas before.runas;
   not_before = option_or s.not_before before.not_before;
   not_after = option_or s.not_after before.not_after;
-  nopasswd = unwrap_or s.nopasswd before.nopasswd;
+  tags = with_tags before.tags s.tags;
 }
 
 abbrev pub rule_with : Names → Names → Settings → Signed CmndItem → Rule
@@ -41,7 +42,7 @@ rule_with users hosts held cmnd = record {
   runas = held.runas;
   not_before = held.not_before;
   not_after = held.not_after;
-  nopasswd = held.nopasswd;
+  tags = held.tags;
   cmnd = cmnd;
 }
 

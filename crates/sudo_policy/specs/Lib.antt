@@ -1,6 +1,7 @@
 -- what a policy is made of, and its text
 pub mod Text
 pub mod Limits
+pub mod Tags
 pub mod Printing
 pub mod Alias
 pub mod Policy

@@ -1,6 +1,6 @@
 -- The canonical text of a policy: one entry a line, in order, each line ended by a newline, without
 -- comments.
-use Rattle.std.specs.Prelude.{ℕ, Bool, List, [], ◌∷◌, ◌++◌, Option}
+use Rattle.std.specs.Prelude.{ℕ, List, [], ◌∷◌, ◌++◌, Option}
 use Rattle.std.specs.Prelude.{Some, None, if◌then◌else◌, codes}
 use Rattle.std.specs.List.{flat_map}
 use Rattle.sudo_words.specs.Bytes.{newline, bang}
@@ -15,6 +15,7 @@ use Rattle.sudo_policy.specs.declared.entry.Rule.{Rule}
 use Rattle.sudo_policy.specs.declared.entry.Entry.{Entry}
 use Rattle.sudo_policy.specs.declared.entry.Entry.TheVariants as entries
 use Rattle.sudo_policy.specs.Text.{Text, Names}
+use Rattle.sudo_policy.specs.Tags.{tags_text}
 
 -- an item of users, hosts or targets; names are seen as their bytes
 abbrev pub item_text : Item Text → Text
@@ -46,14 +47,11 @@ names_text xs = list_text (signed_text item_text) xs
 abbrev pub cmnds_text : List (Signed CmndItem) → Text
 cmnds_text xs = list_text (signed_text cmnd_item_text) xs
 
--- ---- rules: `USERS HOSTS = (RUNAS) [NOTBEFORE=M ][NOTAFTER=M ][NOPASSWD: ]COMMAND`
+-- ---- rules: `USERS HOSTS = (RUNAS) [NOTBEFORE=M ][NOTAFTER=M ][TAG: ]COMMAND`
 
 abbrev pub date_text : Text → Option ℕ → Text
 date_text option None = []
 date_text option (Some moment) = option ++ codes "=" ++ stamp moment ++ codes " "
-
-abbrev pub tag_text : Bool → Text
-tag_text nopasswd = if nopasswd then codes "NOPASSWD: " else []
 
 -- what stands before the dates and the command: the users, the hosts, and the targets in
 -- parentheses
@@ -64,7 +62,7 @@ who_text r = names_text r.users ++ codes " " ++ names_text r.hosts
 abbrev pub what_text : Rule → Text
 what_text r =
     date_text (codes "NOTBEFORE") r.not_before ++ date_text (codes "NOTAFTER") r.not_after
-    ++ tag_text r.nopasswd ++ signed_text cmnd_item_text r.cmnd
+    ++ tags_text r.tags ++ signed_text cmnd_item_text r.cmnd
 
 abbrev pub rule_text : Rule → Text
 rule_text r = who_text r ++ what_text r

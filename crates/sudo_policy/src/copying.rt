@@ -72,7 +72,7 @@ impl Clone for Rule {
             runas,
             not_before: self.not_before,
             not_after: self.not_after,
-            nopasswd: self.nopasswd,
+            tags: self.tags,
             cmnd: copy_cmnd(&self.cmnd)?,
         })
     }

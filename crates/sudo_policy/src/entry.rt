@@ -1,5 +1,6 @@
 //! What a policy is made of, in normal form (sudoers(5), "Aliases" and "User specification").
 
+use crate::tags::Tags;
 use sudo_words::{AliasName, Cmnd, HostName, Items, Moment, Name};
 
 /// An item of a list, or its negation.
@@ -45,8 +46,8 @@ pub struct Rule {
     pub not_before: Option<Moment>,
     /// The last moment at which it takes part; `None` means no bound.
     pub not_after: Option<Moment>,
-    /// Whether no password is asked for.
-    pub nopasswd: bool,
+    /// The tags that the command has.
+    pub tags: Tags,
     /// The command that it allows, or denies where it is negated.
     pub cmnd: Signed<CmndItem>,
 }

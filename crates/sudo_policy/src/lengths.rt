@@ -125,9 +125,8 @@ fn rule_line_len(rule: &Rule) -> usize
     ensures { result ≡ stopped (length (line_text (entries.Rule rule.now))) }
 {
     let dates = date_len("NOTBEFORE", rule.not_before) + date_len("NOTAFTER", rule.not_after);
-    let tag = if rule.nopasswd { 10 } else { 0 };
     plus(
-        plus(who_len(rule), dates + tag),
+        plus(who_len(rule), dates + rule.tags.len()),
         plus(signed_len(&rule.cmnd), 1),
     )
 }

@@ -14,6 +14,7 @@ pub mod laws;
 mod lengths;
 mod policy;
 mod printing;
+mod tags;
 mod tree;
 
 pub use copying::{copy_lists, copy_names};
@@ -24,4 +25,5 @@ pub use fault::{FaultKind, LineFault, ReadFault};
 pub use lengths::MOST_TEXT_BYTES;
 pub use policy::Policy;
 pub use printing::{print_owned, print_policy, push_command, push_moment};
+pub use tags::{GivenTags, Tag, Tags};
 pub use tree::{CmndSpec, Definition, Line, Part, Settings};

@@ -8,7 +8,7 @@ ghost use Rattle.sudo_words.specs.Moment.{stamp};
 ghost use Rattle.sudo_policy.specs.Spelling.{Spells};
 ghost use Rattle.sudo_policy.specs.Policy.{IsEntry, IsRule, IsCmndItem};
 ghost use Rattle.sudo_policy.specs.Printing.{alias_text, canon, cmnds_text, date_text};
-ghost use Rattle.sudo_policy.specs.Printing.{tag_text, item_text, cmnd_item_text};
+ghost use Rattle.sudo_policy.specs.Printing.{item_text, cmnd_item_text};
 ghost use Rattle.sudo_policy.specs.Printing.{entry_text, line_text, names_text, rule_text};
 ghost use Rattle.sudo_policy.specs.Printing.{signed_text, tail_text, what_text, who_text};
 
@@ -93,15 +93,6 @@ fn push_date(out: &mut String, option: &str, date: Option<Moment>) -> Result<(),
             out.push_str(" ")
         }
     }
-}
-
-fn push_tag(out: &mut String, nopasswd: bool) -> Result<(), AllocError>
-    ensures { OnOk result (string_bytes out.new ≡ string_bytes out.old ++ tag_text nopasswd) }
-{
-    if nopasswd {
-        out.push_str("NOPASSWD: ")?;
-    }
-    Ok(())
 }
 
 /// Adds a command's text. A command without a rule for its arguments is its head alone, for which
@@ -219,7 +210,7 @@ fn push_rule(alloc: Global, out: &mut String, rule: &Rule) -> Result<(), NoMemor
     push_who(out, rule)?;
     push_date(out, "NOTBEFORE", rule.not_before)?;
     push_date(out, "NOTAFTER", rule.not_after)?;
-    push_tag(out, rule.nopasswd)?;
+    rule.tags.push(out)?;
     push_cmnd(alloc, out, &rule.cmnd)
 }
 

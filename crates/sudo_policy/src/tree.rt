@@ -1,6 +1,7 @@
 //! What a line says, before what a command inherits is filled in.
 
 use crate::entry::{CmndItem, Item, Signed};
+use crate::tags::{GivenTags, Tags};
 use sudo_words::{AliasName, HostName, Items, Moment, Name};
 
 /// A definition of an alias: `NAME = LIST`.
@@ -21,8 +22,8 @@ pub struct CmndSpec {
     pub not_before: Option<Moment>,
     /// The date of `NOTAFTER`, if it has that option.
     pub not_after: Option<Moment>,
-    /// Whether its last tag is `NOPASSWD`, if it has any.
-    pub nopasswd: Option<bool>,
+    /// What its own tags say.
+    pub tags: GivenTags,
     /// The command, or its alias.
     pub cmnd: Signed<CmndItem>,
 }
@@ -45,8 +46,8 @@ pub struct Settings {
     pub not_before: Option<Moment>,
     /// The date of `NOTAFTER` that was given last.
     pub not_after: Option<Moment>,
-    /// Whether the last tag was `NOPASSWD`.
-    pub nopasswd: bool,
+    /// The tags that hold.
+    pub tags: Tags,
 }
 
 /// A line: definitions of aliases of one kind, or a user specification.

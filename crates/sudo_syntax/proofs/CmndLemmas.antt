@@ -1,5 +1,5 @@
 -- Commands at the front of tokens are read in one way.
-use Rattle.std.proofs.Common.{◌≡◌, ◌≢◌, ℕ, zero, suc, ◌-◌, ◌≤◌, ◌==◌, Bool, true, false, ◌&&◌, nat_le, List}
+use Rattle.std.proofs.Common.{◌≡◌, ◌≢◌, ℕ, zero, suc, ◌-◌, ◌≤◌, ◌==◌, true, false, ◌&&◌, nat_le, List}
 use Rattle.std.proofs.Common.{[], ◌∷◌, ◌++◌, length, take, drop, refl, sym, ap, subst, ◌∙◌, inl, inr, arith}
 use Rattle.std.specs.Prelude.{codes}
 use Rattle.std.specs.Str.{bytes_eq}
@@ -13,9 +13,12 @@ use Rattle.sudo_words.specs.declared.cmnd.ArgRule.{ArgRule}
 use Rattle.sudo_words.specs.declared.cmnd.ArgRule.TheVariants as rules
 use Rattle.sudo_policy.specs.declared.entry.CmndItem.{CmndItem}
 use Rattle.sudo_policy.specs.declared.entry.CmndItem.TheVariants as cmnds
+use Rattle.sudo_policy.specs.declared.tags.Tag.{Tag}
+use Rattle.sudo_policy.specs.declared.tags.Tag.TheVariants.{Passwd, NoPasswd}
 use Rattle.sudo_policy.specs.Lex.{Tok, word, mark}
 use Rattle.sudo_policy.specs.Policy.{IsCmndItem}
-use Rattle.sudo_policy.specs.Grammar.{rule_toks, head_of, args_of, tag_word}
+use Rattle.sudo_policy.specs.Grammar.{rule_toks, head_of, args_of}
+use Rattle.sudo_policy.specs.Tags.{tag_word}
 use Rattle.sudo_syntax.specs.private.Fronts.{EndsBy, NoArg, NoMark, arg_toks, rule_from, begins_upper}
 use Rattle.sudo_syntax.proofs.ArgLemmas.{AreArgs}
 use Rattle.sudo_syntax.proofs.NameLemmas.{all_reserved}
@@ -59,14 +62,14 @@ no_alias_head commands.All is h = all_reserved h
 no_alias_head (commands.Path file rule) is h = slash_no_upper file (file_slash file is.0) (alias_upper file h)
 no_alias_head (commands.Dir dir) is h = slash_no_upper dir (dir_slash dir is.0) (alias_upper dir h)
 
-no_alias_tag : (tag : Bool) → is_alias_name (tag_word tag) ≡ true → ⊥
+no_alias_tag : (tag : Tag) → is_alias_name (tag_word tag) ≡ true → ⊥
 unfolding is_reserved
-no_alias_tag true h = false≢true h
-no_alias_tag false h = false≢true h
+no_alias_tag Passwd h = false≢true h
+no_alias_tag NoPasswd h = false≢true h
 
-no_all_tag : (tag : Bool) → codes "ALL" ≡ tag_word tag → ⊥
-no_all_tag true h = absurd cc
-no_all_tag false h = absurd cc
+no_all_tag : (tag : Tag) → codes "ALL" ≡ tag_word tag → ⊥
+no_all_tag Passwd h = absurd cc
+no_all_tag NoPasswd h = absurd cc
 
 no_slash_n : ◌≡◌ {A = ℕ} 78 47 → ⊥
 no_slash_n h = absurd (omega arith)
@@ -74,17 +77,17 @@ no_slash_n h = absurd (omega arith)
 no_slash_p : ◌≡◌ {A = ℕ} 80 47 → ⊥
 no_slash_p h = absurd (omega arith)
 
-no_slash_tag : (tag : Bool) → BeginsSlash (tag_word tag) → ⊥
-no_slash_tag true h = no_slash_n h
-no_slash_tag false h = no_slash_p h
+no_slash_tag : (tag : Tag) → BeginsSlash (tag_word tag) → ⊥
+no_slash_tag Passwd h = no_slash_p h
+no_slash_tag NoPasswd h = no_slash_n h
 
-head_no_tag : (c : Cmnd) (tag : Bool) → IsHead c → head_text c ≡ tag_word tag → ⊥
+head_no_tag : (c : Cmnd) (tag : Tag) → IsHead c → head_text c ≡ tag_word tag → ⊥
 head_no_tag commands.All tag is e = no_all_tag tag e
 head_no_tag (commands.Path file rule) tag is e = no_slash_tag tag (subst BeginsSlash e (file_slash file is.0))
 head_no_tag (commands.Dir dir) tag is e = no_slash_tag tag (subst BeginsSlash e (dir_slash dir is.0))
 
 -- a command does not begin with a tag's word
-pub cmnd_no_tag : (i : CmndItem) (tag : Bool) → IsCmndItem i → head_of i ≡ tag_word tag → ⊥
+pub cmnd_no_tag : (i : CmndItem) (tag : Tag) → IsCmndItem i → head_of i ≡ tag_word tag → ⊥
 cmnd_no_tag (cmnds.Alias name) tag is e = no_alias_tag tag (subst (λ (w : List ℕ). is_alias_name w ≡ true) e is)
 cmnd_no_tag (cmnds.Cmnd c) tag is e = head_no_tag c tag is.head e
 

@@ -27,6 +27,7 @@ use Rattle.sudo_policy.specs.Printing.{canon, item_text}
 use Rattle.sudo_policy.specs.Span.{Each}
 use Rattle.sudo_policy.specs.Lex.{Tok, word, mark, is_spaced, text_of, is_some_blank, is_blank, is_mark, is_word_text, goes_on, is_text_byte, IsTok, Lexes}
 use Rattle.sudo_policy.specs.Lines.{is_no_hash, ends_in_backslash, lines_of, IsBody, Joined}
+use Rattle.sudo_policy.specs.Tags.{none_given}
 use Rattle.sudo_policy.specs.Grammar.{SpellsItem, SpellsCmnd, SpellsCmndSpec, head_of, args_of, is_odd}
 use Rattle.sudo_policy.specs.Spelling.{SpellsLines, Spells}
 
@@ -111,7 +112,7 @@ cmnd {spaced} {n} {x} {rest} h = record { spaced = spaced; bangs = n; toks = ref
 
 -- a command with nothing before it
 abbrev pub only : Signed CmndItem → CmndSpec
-only c = record { runas = None; not_before = None; not_after = None; nopasswd = None; cmnd = c }
+only c = record { runas = None; not_before = None; not_after = None; tags = none_given; cmnd = c }
 
 pub only_spelled : {ts : List Tok} {c : Signed CmndItem} {rest : List Tok} → SpellsCmnd ts c rest → SpellsCmndSpec ts (only c) rest
 only_spelled {ts} {c} {rest} h = record {
@@ -124,7 +125,7 @@ only_spelled {ts} {c} {rest} h = record {
   dated = refl;
   bounds = (refl, refl);
   tagged = refl;
-  passwd = refl;
+  given = refl;
   cmnd = h;
 }
 

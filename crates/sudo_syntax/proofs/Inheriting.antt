@@ -50,10 +50,12 @@ unfolding behind last_of
 after_runas h [] = refl
 after_runas h (s ∷ specs) = after_runas (with_spec h s) specs ∙ unwrap_later (last_of (map (λ c. c.runas) specs)) s.runas h.runas
 
-behind_nopasswd : (h : Settings) (specs : List CmndSpec) → (behind h specs).nopasswd ≡ unwrap_or (last_of (map (λ s. s.nopasswd) specs)) h.nopasswd
+behind_nopasswd : (h : Settings) (specs : List CmndSpec)
+    → (behind h specs).tags.nopasswd ≡ unwrap_or (last_of (map (λ s. s.tags.nopasswd) specs)) h.tags.nopasswd
 unfolding behind last_of
 behind_nopasswd h [] = refl
-behind_nopasswd h (s ∷ specs) = behind_nopasswd (with_spec h s) specs ∙ unwrap_later (last_of (map (λ c. c.nopasswd) specs)) s.nopasswd h.nopasswd
+behind_nopasswd h (s ∷ specs) =
+    behind_nopasswd (with_spec h s) specs ∙ unwrap_later (last_of (map (λ c. c.tags.nopasswd) specs)) s.tags.nopasswd h.tags.nopasswd
 
 behind_not_before : (h : Settings) (specs : List CmndSpec) → (behind h specs).not_before ≡ option_or (last_of (map (λ s. s.not_before) specs)) h.not_before
 unfolding behind last_of
@@ -74,7 +76,7 @@ inherits users hosts specs s =
       runas = (last_of (map (λ c. c.runas) specs), last_is (map (λ c. c.runas) specs), after_runas first_settings specs);
       not_before = bound (map (λ c. c.not_before) specs) (behind first_settings specs).not_before (behind_not_before first_settings specs);
       not_after = bound (map (λ c. c.not_after) specs) (behind first_settings specs).not_after (behind_not_after first_settings specs);
-      nopasswd = (last_of (map (λ c. c.nopasswd) specs), last_is (map (λ c. c.nopasswd) specs), behind_nopasswd first_settings specs);
+      nopasswd = (last_of (map (λ c. c.tags.nopasswd) specs), last_is (map (λ c. c.tags.nopasswd) specs), behind_nopasswd first_settings specs);
     }
 
 -- ---- the rule at a place

@@ -152,7 +152,7 @@ spec_grows ts s rest us g = record {
   dated = dates_grows g.after_runas g.dates g.after_dates us g.dated;
   bounds = g.bounds;
   tagged = tags_grows g.after_dates g.tags g.after_tags us g.tagged;
-  passwd = g.passwd;
+  given = g.given;
   cmnd = cmnd_grows g.after_tags s.cmnd rest us g.cmnd;
 }
 

@@ -13,6 +13,7 @@ use Rattle.sudo_policy.specs.declared.entry.Item.TheVariants as items
 use Rattle.sudo_policy.specs.declared.entry.CmndItem.{CmndItem}
 use Rattle.sudo_policy.specs.declared.entry.CmndItem.TheVariants as cmnds
 use Rattle.sudo_policy.specs.declared.entry.Entry.{Entry}
+use Rattle.sudo_policy.specs.declared.tags.Tag.{Tag}
 use Rattle.sudo_policy.specs.declared.tree.Line.{Line}
 use Rattle.sudo_policy.specs.declared.tree.Line.TheVariants as lines
 use Rattle.sudo_policy.specs.declared.tree.Part.{Part}
@@ -141,7 +142,7 @@ no_dates : (c a : List ℕ) (tail : List Tok) (dates : List Date) (behind : List
 no_dates c a tail [] behind h = sym h
 no_dates c a tail (d ∷ dates) behind h = let is = h.4 in absurd (cc)
 
-no_tags : (c a : List ℕ) (tail : List Tok) (tags : List Bool) (behind : List Tok) → SpellsTags (Path2 c a tail) tags behind → behind ≡ Path2 c a tail
+no_tags : (c a : List ℕ) (tail : List Tok) (tags : List Tag) (behind : List Tok) → SpellsTags (Path2 c a tail) tags behind → behind ≡ Path2 c a tail
 no_tags c a tail [] behind h = sym h
 no_tags c a tail (tag ∷ tags) behind h = let is = h.3 in absurd (cc)
 

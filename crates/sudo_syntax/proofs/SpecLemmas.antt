@@ -1,12 +1,15 @@
 -- What stands behind the targets, the dates and the tags of a command.
-use Rattle.std.proofs.Common.{◌≡◌, ℕ, Bool, false, List, [], ◌∷◌, ◌++◌, refl, sym, ap, subst, ◌∙◌, Option, arith}
+use Rattle.std.proofs.Common.{◌≡◌, ℕ, false, List, [], ◌∷◌, ◌++◌, refl, sym, ap, subst, ◌∙◌, Option, arith}
 use Rattle.sudo_words.specs.Bytes.{equals, comma, colon, opening}
 use Rattle.sudo_policy.specs.declared.entry.Signed.{Signed}
 use Rattle.sudo_policy.specs.declared.entry.CmndItem.{CmndItem}
 use Rattle.sudo_policy.specs.declared.entry.Item.{Item}
+use Rattle.sudo_policy.specs.declared.tags.Tag.{Tag}
+use Rattle.sudo_policy.specs.declared.tags.GivenTags.{GivenTags}
 use Rattle.sudo_policy.specs.declared.tree.CmndSpec.{CmndSpec}
 use Rattle.sudo_policy.specs.Lex.{Tok, word, mark}
-use Rattle.sudo_policy.specs.Grammar.{Date, SpellsCmnd, SpellsDates, SpellsTags, head_of, args_of, tag_word}
+use Rattle.sudo_policy.specs.Grammar.{Date, SpellsCmnd, SpellsDates, SpellsTags, head_of, args_of}
+use Rattle.sudo_policy.specs.Tags.{tag_word}
 use Rattle.sudo_syntax.specs.private.Fronts.{EndsBy, NoMark, NoTag, NoDate}
 use Rattle.sudo_syntax.proofs.ListLemmas.{no_mark}
 use Rattle.sudo_syntax.proofs.CmndLemmas.{cmnd_no_tag, args_no_equals}
@@ -35,22 +38,22 @@ second_byte (t ∷ mark a b ∷ ts) = b
 colon_no_equals : ◌≡◌ {A = ℕ} colon equals → ⊥
 colon_no_equals e = absurd (omega arith)
 
-pub tags_close_dates : (ts : List Tok) (tags : List Bool) (behind : List Tok) (s : Signed CmndItem) (rest : List Tok)
+pub tags_close_dates : (ts : List Tok) (tags : List Tag) (behind : List Tok) (s : Signed CmndItem) (rest : List Tok)
     → EndsBy comma rest → SpellsTags ts tags behind → SpellsCmnd behind s rest → NoDate ts
 tags_close_dates ts [] behind s rest f t h = subst NoDate (sym t) (cmnd_no_date behind s rest f h)
 tags_close_dates ts (tag ∷ tags) behind s rest f t h = λ a name time next e. colon_no_equals (ap second_byte (sym t.3 ∙ e))
 
-tags_begin_word : (ts : List Tok) (tags : List Bool) (behind : List Tok) (s : Signed CmndItem) (rest : List Tok)
+tags_begin_word : (ts : List Tok) (tags : List Tag) (behind : List Tok) (s : Signed CmndItem) (rest : List Tok)
     → SpellsTags ts tags behind → SpellsCmnd behind s rest → NoMark opening ts
 tags_begin_word ts [] behind s rest t h = subst (NoMark opening) (sym (t ∙ h.toks)) tt
 tags_begin_word ts (tag ∷ tags) behind s rest t h = subst (NoMark opening) (sym t.3) tt
 
-pub dates_close_runas : (ts : List Tok) (dates : List Date) (mid : List Tok) (tags : List Bool) (behind : List Tok) (s : Signed CmndItem) (rest : List Tok)
+pub dates_close_runas : (ts : List Tok) (dates : List Date) (mid : List Tok) (tags : List Tag) (behind : List Tok) (s : Signed CmndItem) (rest : List Tok)
     → SpellsDates ts dates mid → SpellsTags mid tags behind → SpellsCmnd behind s rest → NoMark opening ts
 dates_close_runas ts [] mid tags behind s rest d t h = subst (NoMark opening) (sym d) (tags_begin_word mid tags behind s rest t h)
 dates_close_runas ts (date ∷ dates) mid tags behind s rest d t h = subst (NoMark opening) (sym d.4) tt
 
-pub same_spec : (v : CmndSpec) (runas : Option (List (Signed (Item (List ℕ))))) (before after : Option ℕ) (nopasswd : Option Bool) (cmnd : Signed CmndItem)
-    → runas ≡ v.runas → before ≡ v.not_before → after ≡ v.not_after → nopasswd ≡ v.nopasswd → cmnd ≡ v.cmnd
-    → record { runas = runas; not_before = before; not_after = after; nopasswd = nopasswd; cmnd = cmnd } ≡ v
-same_spec v runas before after nopasswd cmnd a b c d e = rw (a, b, c, d, e) refl
+pub same_spec : (v : CmndSpec) (runas : Option (List (Signed (Item (List ℕ))))) (before after : Option ℕ) (tags : GivenTags) (cmnd : Signed CmndItem)
+    → runas ≡ v.runas → before ≡ v.not_before → after ≡ v.not_after → tags ≡ v.tags → cmnd ≡ v.cmnd
+    → record { runas = runas; not_before = before; not_after = after; tags = tags; cmnd = cmnd } ≡ v
+same_spec v runas before after tags cmnd a b c d e = rw (a, b, c, d, e) refl

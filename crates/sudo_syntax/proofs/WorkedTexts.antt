@@ -23,6 +23,7 @@ use Rattle.sudo_policy.specs.declared.tree.Part.{Part}
 use Rattle.sudo_policy.specs.declared.tree.CmndSpec.{CmndSpec}
 use Rattle.sudo_policy.specs.Lines.{is_no_hash, ends_in_backslash, Joined}
 use Rattle.sudo_policy.specs.Lex.{Tok, word, mark, Lexes}
+use Rattle.sudo_policy.specs.Tags.{none_given}
 use Rattle.sudo_policy.specs.Grammar.{SpellsTree}
 use Rattle.sudo_policy.specs.Inheritance.{entries_of}
 use Rattle.sudo_policy.specs.Spelling.{Spells, SpellsLine, SpellsLines}
@@ -217,7 +218,7 @@ parts_toks =
     ∷ mark true opening ∷ word false 0 (codes "ALL") ∷ mark false closing ∷ word true 0 (codes "ALL") ∷ []
 
 abbrev as_anyone : CmndSpec
-as_anyone = record { runas = Some (yes items.All ∷ []); not_before = None; not_after = None; nopasswd = None; cmnd = yes all }
+as_anyone = record { runas = Some (yes items.All ∷ []); not_before = None; not_after = None; tags = none_given; cmnd = yes all }
 
 abbrev parts_line : Line
 parts_line = user_spec (yes (items.Alias (codes "B"))) (part (codes "db1") (only (yes ls)) ∷ part (codes "db2") as_anyone ∷ [])
@@ -252,7 +253,7 @@ parts_tree = (
             dated = refl;
             bounds = (refl, refl);
             tagged = refl;
-            passwd = refl;
+            given = refl;
             cmnd = cmnd (cmnd_is all refl);
           },
           refl,
@@ -436,10 +437,10 @@ dates_toks =
     ∷ word true 0 (codes "/bin/cat") ∷ mark true colon ∷ word true 0 (codes "db2") ∷ mark true equals ∷ word true 0 (codes "/bin/ls") ∷ []
 
 abbrev until : CmndSpec
-until = record { runas = None; not_before = None; not_after = Some 1_767_610_800; nopasswd = None; cmnd = yes ls }
+until = record { runas = None; not_before = None; not_after = Some 1_767_610_800; tags = none_given; cmnd = yes ls }
 
 abbrev since : CmndSpec
-since = record { runas = None; not_before = Some 1_767_603_600; not_after = None; nopasswd = None; cmnd = yes cat }
+since = record { runas = None; not_before = Some 1_767_603_600; not_after = None; tags = none_given; cmnd = yes cat }
 
 abbrev dates_line : Line
 dates_line = user_spec (user (codes "ann")) (record { hosts = user (codes "db1") ∷ []; specs = until ∷ since ∷ [] } ∷ part (codes "db2") (only (yes ls)) ∷ [])
@@ -468,7 +469,7 @@ dates_tree = (
           dated = (true, codes "2026010511Z", _, eleven, refl, refl, refl);
           bounds = (None, Some 1_767_610_800, inr (refl, refl, refl, refl), (refl, refl));
           tagged = refl;
-          passwd = refl;
+          given = refl;
           cmnd = cmnd (cmnd_is ls refl);
         },
         (
@@ -486,7 +487,7 @@ dates_tree = (
             dated = (true, codes "2026010509Z", _, nine, refl, refl, refl);
             bounds = (Some 1_767_603_600, None, inl (refl, refl, refl, refl), (refl, refl));
             tagged = refl;
-            passwd = refl;
+            given = refl;
             cmnd = cmnd (cmnd_is cat refl);
           },
           refl,
@@ -520,7 +521,7 @@ ahead_toks =
 
 abbrev ahead_line : Line
 ahead_line = user_spec (user (codes "ann"))
-    (part (codes "db1") (record { runas = None; not_before = Some 1_767_603_600; not_after = None; nopasswd = None; cmnd = yes ls }) ∷ [])
+    (part (codes "db1") (record { runas = None; not_before = Some 1_767_603_600; not_after = None; tags = none_given; cmnd = yes ls }) ∷ [])
 
 ahead_tree : SpellsTree (word false 0 (codes "ann") ∷ ahead_toks) ahead_line
 unfolding is_keyword
@@ -546,7 +547,7 @@ ahead_tree = (
           dated = (true, codes "20260105100000+0100", _, ahead, refl, refl, refl);
           bounds = (Some 1_767_603_600, None, inl (refl, refl, refl, refl), (refl, refl));
           tagged = refl;
-          passwd = refl;
+          given = refl;
           cmnd = cmnd (cmnd_is ls refl);
         },
         refl,

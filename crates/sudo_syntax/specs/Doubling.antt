@@ -10,6 +10,7 @@ use Rattle.sudo_policy.specs.declared.entry.Rule.{Rule}
 use Rattle.sudo_policy.specs.declared.entry.Entry.{Entry}
 use Rattle.sudo_policy.specs.declared.entry.Entry.TheVariants as entries
 use Rattle.sudo_policy.specs.Text.{Text}
+use Rattle.sudo_policy.specs.Tags.{no_tags}
 use Rattle.sudo_policy.specs.Inheritance.{root}
 
 abbrev pub double_name : ℕ → Text
@@ -35,7 +36,7 @@ double_rule n = record {
   runas = root;
   not_before = None;
   not_after = None;
-  nopasswd = false;
+  tags = no_tags;
   cmnd = record { negated = false; item = cmnds.Cmnd commands.All };
 }
 

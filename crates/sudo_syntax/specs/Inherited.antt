@@ -1,10 +1,13 @@
 -- What holds for each command of a list, at any place (sudoers(5), "Cmnd_Spec_List").
-use Rattle.std.specs.Prelude.{◌≡◌, false, List, [], ◌∷◌, ◌++◌, length}
+use Rattle.std.specs.Prelude.{◌≡◌, true, false, List, [], ◌∷◌, ◌++◌, length}
 use Rattle.std.specs.Prelude.{map, Option, Some, None, unwrap_or}
 use Rattle.std.specs.List.{AllByRecursion}
 use Rattle.sudo_policy.specs.declared.entry.Rule.{Rule}
 use Rattle.sudo_policy.specs.declared.entry.Entry.{Entry}
 use Rattle.sudo_policy.specs.declared.entry.Entry.TheVariants as entries
+use Rattle.sudo_policy.specs.declared.tags.Tag.{Tag}
+use Rattle.sudo_policy.specs.declared.tags.Tag.TheVariants.{Passwd, NoPasswd}
+use Rattle.sudo_policy.specs.declared.tags.GivenTags.{GivenTags}
 use Rattle.sudo_policy.specs.declared.tree.CmndSpec.{CmndSpec}
 use Rattle.sudo_policy.specs.declared.tree.Part.{Part}
 use Rattle.sudo_policy.specs.Text.{Names}
@@ -24,13 +27,18 @@ abbrev pub LastGivenOr : {X : Type 0} → X → List (Option X) → X → Type 0
 LastGivenOr {X} default given held =
     (last : Option X) × LastGiven given last × (held ≡ unwrap_or last default)
 
+-- what a tag means: the command gives this, and not the opposite
+abbrev pub Gives : GivenTags → Tag → Type 0
+Gives given Passwd = given.nopasswd ≡ Some false
+Gives given NoPasswd = given.nopasswd ≡ Some true
+
 -- What the rule has is the last one given by these commands; where none gives one, it is `root`, no
 -- bound, and a password.
 pub record Inherits (specs : List CmndSpec) (rule : Rule) : Type 0 where
   pub runas : LastGivenOr root (map (λ s. s.runas) specs) rule.runas
   pub not_before : LastGiven (map (λ s. s.not_before) specs) rule.not_before
   pub not_after : LastGiven (map (λ s. s.not_after) specs) rule.not_after
-  pub nopasswd : LastGivenOr false (map (λ s. s.nopasswd) specs) rule.nopasswd
+  pub nopasswd : LastGivenOr false (map (λ s. s.tags.nopasswd) specs) rule.tags.nopasswd
 
 -- The command that comes after these in a part has a rule at its own place among the part's
 -- entries: with the part's users and hosts and the command itself, and what it inherits from the

@@ -6,6 +6,7 @@ use Rattle.sudo_policy.specs.declared.entry.CmndItem.TheVariants as cmnds
 use Rattle.sudo_policy.specs.declared.entry.Entry.{Entry}
 use Rattle.sudo_policy.specs.declared.entry.Entry.TheVariants as entries
 use Rattle.sudo_policy.specs.Text.{Text}
+use Rattle.sudo_policy.specs.Tags.{no_tags}
 use Rattle.sudo_policy.specs.Inheritance.{root}
 use Rattle.sudo_policy.specs.Printing.{canon}
 use Rattle.sudo_policy.specs.Spelling.{Spells}
@@ -25,6 +26,6 @@ may_run cmnd = entries.Rule (record {
   runas = root;
   not_before = None;
   not_after = None;
-  nopasswd = false;
+  tags = no_tags;
   cmnd = record { negated = false; item = cmnds.Cmnd cmnd };
 }) ∷ []

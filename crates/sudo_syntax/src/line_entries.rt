@@ -11,7 +11,7 @@ ghost use Rattle.sudo_policy.specs.private.AliasKinds.{Adds, IsDraft};
 use std::alloc::{AllocError, Global};
 use sudo_policy::{
     CmndItem, CmndSpec, Definition, Draft, Entry, Item, Line, LineFault, Part, Rule, Settings,
-    Signed, copy_lists, copy_names,
+    Signed, Tags, copy_lists, copy_names,
 };
 use sudo_words::{HostName, Items, Name};
 
@@ -41,7 +41,7 @@ fn first_settings(alloc: Global) -> Result<Settings, LineFault>
         runas: root(alloc)?,
         not_before: None,
         not_after: None,
-        nopasswd: false,
+        tags: Tags::none(),
     })
 }
 
@@ -54,7 +54,7 @@ fn with_spec(held: Settings, spec: CmndSpec) -> (Settings, Signed<CmndItem>)
         runas: spec.runas.unwrap_or(held.runas),
         not_before: spec.not_before.or(held.not_before),
         not_after: spec.not_after.or(held.not_after),
-        nopasswd: spec.nopasswd.unwrap_or(held.nopasswd),
+        tags: held.tags.with(spec.tags),
     };
     (settings, spec.cmnd)
 }
@@ -75,7 +75,7 @@ fn copy_rule(
         runas,
         not_before: held.not_before,
         not_after: held.not_after,
-        nopasswd: held.nopasswd,
+        tags: held.tags,
         cmnd,
     })
 }
@@ -95,7 +95,7 @@ fn rule_with(
         runas: held.runas,
         not_before: held.not_before,
         not_after: held.not_after,
-        nopasswd: held.nopasswd,
+        tags: held.tags,
         cmnd,
     }
 }
@@ -125,14 +125,14 @@ fn first_spec(alloc: Global, spec: CmndSpec) -> Result<(Settings, Signed<CmndIte
         runas,
         not_before,
         not_after,
-        nopasswd,
+        tags,
         cmnd,
     } = spec;
     let settings = Settings {
         runas: targets_of(alloc, runas)?,
         not_before,
         not_after,
-        nopasswd: nopasswd.unwrap_or(false),
+        tags: Tags::none().with(tags),
     };
     Ok((settings, cmnd))
 }

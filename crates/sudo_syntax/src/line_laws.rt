@@ -1,6 +1,6 @@
 //! Laws of what lines stand for, each the contract of a function that does nothing.
 
-ghost use Rattle.std.specs.Prelude.{◌≡◌, ℕ, ◌+◌, Bool, Some, List, [], ◌∷◌, ◌++◌, length, codes};
+ghost use Rattle.std.specs.Prelude.{◌≡◌, ℕ, ◌+◌, Bool, List, [], ◌∷◌, ◌++◌, length, codes};
 ghost use Rattle.sudo_words.specs.Bytes.{space, backslash, hash};
 ghost use Rattle.sudo_policy.specs.declared.entry.CmndItem.{CmndItem as AnyCmnd};
 ghost use Rattle.sudo_policy.specs.declared.entry.Item.{Item as AnyItem};
@@ -8,16 +8,17 @@ ghost use Rattle.sudo_policy.specs.declared.entry.Signed.{Signed as AnySigned};
 ghost use Rattle.sudo_words.specs.Word.{is_name, is_host_name};
 ghost use Rattle.sudo_policy.specs.declared.tree.Definition.{Definition as AnyDefinition};
 ghost use Rattle.sudo_policy.specs.declared.tree.Part.{Part};
+ghost use Rattle.sudo_policy.specs.declared.tags.Tag.{Tag};
 ghost use Rattle.sudo_policy.specs.declared.tree.CmndSpec.{CmndSpec};
 ghost use Rattle.sudo_syntax.specs.Alike.{SpellAlike, DifferIn, MayHaveNote, GoesOnWith};
 ghost use Rattle.sudo_syntax.specs.Apart.{AreUsers, AreParts, AreDefs, SpellsBoth};
 ghost use Rattle.sudo_policy.specs.Grammar.{SpellsItem, SpellsCmnd, SpellsCmndSpec};
 ghost use Rattle.sudo_policy.specs.Inheritance.{part_rules};
-ghost use Rattle.sudo_syntax.specs.Inherited.{HasRule};
+ghost use Rattle.sudo_syntax.specs.Inherited.{Gives, HasRule};
 ghost use Rattle.sudo_policy.specs.Lex.{Tok, word};
 ghost use Rattle.sudo_policy.specs.Text.{Names};
 
-/// Each command of a list has one rule, at its own place, with the target, the bounds and the tag
+/// Each command of a list has one rule, at its own place, with the target, the bounds and the tags
 /// that were given last in the list up to and including it (sudoers(5), "Cmnd_Spec_List").
 pub fn inheritance()
     ensures rule { (users : Names) (part : Part) (before after : List CmndSpec) (s : CmndSpec) →
@@ -57,8 +58,8 @@ pub fn signs()
 /// If a command has several tags before it, only the last counts.
 pub fn tags()
     ensures { (ts : List Tok) (s : CmndSpec) (rest : List Tok)
-        (spelled : SpellsCmndSpec ts s rest) (before : List Bool) (tag : Bool)
-        → spelled.tags ≡ before ++ tag ∷ [] → s.nopasswd ≡ Some tag }
+        (spelled : SpellsCmndSpec ts s rest) (before : List Tag) (tag : Tag)
+        → spelled.tags ≡ before ++ tag ∷ [] → Gives s.tags tag }
 {}
 
 /// A specification joined by `:` spells what specifications of the same users spell on lines of

@@ -1,7 +1,7 @@
 //! The faults of words and marks that the grammar does not allow where they are.
 
 use crate::token::{Mark, Token, TokenKind};
-use sudo_policy::LineFault;
+use sudo_policy::{LineFault, Tag};
 use sudo_words::{AliasForm, Form, is_keyword, is_sudoedit};
 
 /// Whether the word begins a line that sudoers has and the desk leaves out.
@@ -53,8 +53,10 @@ pub(crate) fn bad_word(text: &str) -> LineFault {
     }
 }
 
-/// The options and tags that the desk has.
-const KNOWN: [&str; 4] = ["NOTBEFORE", "NOTAFTER", "PASSWD", "NOPASSWD"];
+/// Whether the desk has this option or tag.
+fn is_known(text: &str) -> bool {
+    text == "NOTBEFORE" || text == "NOTAFTER" || Tag::of_word(text).is_some()
+}
 
 /// Whether the word is not a command that the desk has: it begins a digest, or names one of sudo's
 /// own commands, by its bare name or by a path.
@@ -65,7 +67,7 @@ fn is_no_file(text: &str) -> bool {
 
 /// What is wrong with a word that does not begin a command.
 pub(crate) fn bad_cmnd(text: &str) -> LineFault {
-    if KNOWN.contains(&text) {
+    if is_known(text) {
         LineFault::Unexpected
     } else if is_no_file(text) || (is_reserved(text.as_bytes()) && text != "ALL") {
         LineFault::LeftOut
@@ -76,7 +78,7 @@ pub(crate) fn bad_cmnd(text: &str) -> LineFault {
 
 /// What is wrong with an option that is neither of the two dates, or is given twice.
 pub(crate) fn bad_option(name: &str) -> LineFault {
-    if KNOWN.contains(&name) || !is_reserved(name.as_bytes()) {
+    if is_known(name) || !is_reserved(name.as_bytes()) {
         LineFault::Unexpected
     } else {
         LineFault::LeftOut

@@ -8,7 +8,9 @@ ghost use Rattle.sudo_words.specs.Moment.{Spells};
 ghost use Rattle.sudo_policy.specs.declared.fault.LineFault.TheVariants.{NoMemory};
 ghost use Rattle.sudo_syntax.specs.private.Fronts.{AddsBound, Dated, NoDate, NoTag};
 ghost use Rattle.sudo_syntax.specs.private.Fronts.{Tagged, EndsBy, NoMark, NoWord};
-ghost use Rattle.sudo_policy.specs.Grammar.{tag_word, SpellsRunas, SpellsCmndSpec};
+ghost use Rattle.sudo_policy.specs.Grammar.{SpellsRunas, SpellsCmndSpec};
+ghost use Rattle.sudo_policy.specs.Tags.{tag_word};
+ghost use Rattle.sudo_policy.specs.declared.tags.GivenTags.{GivenTags as Given};
 ghost use Rattle.sudo_policy.specs.Lex.{Tok, word, mark};
 ghost use Rattle.sudo_syntax.specs.private.Tokens.{toks};
 ghost use Rattle.sudo_policy.specs.Text.{Names};
@@ -18,7 +20,7 @@ use crate::items::{Spelled, list_at};
 use crate::misplaced::{bad_option, unclosed};
 use crate::token::{Mark, Token};
 use std::alloc::Global;
-use sudo_policy::{CmndItem, CmndSpec, Item, LineFault, Signed};
+use sudo_policy::{CmndItem, CmndSpec, GivenTags, Item, LineFault, Signed, Tag};
 use sudo_words::{Items, Moment, Name};
 
 /// The first and the last moment at which a command may run.
@@ -92,40 +94,28 @@ pub(crate) fn bounds_at<'a, 'b>(
     Ok(read)
 }
 
-/// Whether a tag's word says that no password is asked for; `None` if the word is not a tag's.
-fn tag_of(name: &str) -> Option<bool>
-    ensures { MatchOption result ((tag : Bool) → name.now ≡ tag_word tag
-        → ⊥) (λ tag. name.now ≡ tag_word tag) }
-{
-    match name {
-        "NOPASSWD" => Some(true),
-        "PASSWD" => Some(false),
-        _ => None,
-    }
-}
-
 /// The tag at the front, and what follows it.
-fn tag_at<'a, 'b>(tokens: &'b [Token<'a>]) -> Option<(bool, &'b [Token<'a>])>
+fn tag_at<'a, 'b>(tokens: &'b [Token<'a>]) -> Option<(Tag, &'b [Token<'a>])>
     ensures found { MatchOption result (NoTag (toks tokens.now)) (λ x. (a b : Bool)
         × (toks tokens.now ≡ word a 0 (tag_word x.0) ∷ mark b colon ∷ toks x.1.now)) }
     ensures shorter { IfSome result (λ x. length x.1.now < length tokens.now) }
 {
     let (name, rest) = head_at(Mark::Colon, tokens)?;
-    let tag = tag_of(name)?;
+    let tag = Tag::of_word(name)?;
     Some((tag, rest))
 }
 
-/// What the last of the tags at the front says, if there is one, and what follows them.
-pub(crate) fn tags_at<'a, 'b>(tokens: &'b [Token<'a>]) -> (Option<bool>, &'b [Token<'a>])
+/// What the tags at the front say, and what follows them.
+pub(crate) fn tags_at<'a, 'b>(tokens: &'b [Token<'a>]) -> (GivenTags, &'b [Token<'a>])
     ensures found { Tagged (toks tokens.now) result.0 (toks result.1.now) }
     ensures shorter { length result.1.now ≤ length tokens.now }
-    ensures only { (nopasswd : Option Bool) (rest : List Tok)
-        → NoTag rest → Tagged (toks tokens.now) nopasswd rest
-        → (result.0 ≡ nopasswd) × (toks result.1.now ≡ rest) }
+    ensures only { (given : Given) (rest : List Tok)
+        → NoTag rest → Tagged (toks tokens.now) given rest
+        → (result.0 ≡ given) × (toks result.1.now ≡ rest) }
 {
-    let mut read = (None, tokens);
+    let mut read = (GivenTags::none(), tokens);
     while let Some((tag, after)) = tag_at(read.1) {
-        read = (Some(tag), after);
+        read = (read.0.with(tag), after);
     }
     read
 }
@@ -175,13 +165,13 @@ impl Spelled for CmndSpec {
             Ok(read) => read,
             Err(fault) => return Err(fault),
         };
-        let (nopasswd, rest) = tags_at(rest);
+        let (tags, rest) = tags_at(rest);
         let (cmnd, rest) = Signed::<CmndItem>::at(alloc, rest)?;
         let spec = CmndSpec {
             runas,
             not_before: bounds.not_before,
             not_after: bounds.not_after,
-            nopasswd,
+            tags,
             cmnd,
         };
         Ok((spec, rest))

@@ -102,4 +102,4 @@ pub record IsWritten (defined_by : List Entry) (r : Rule) (w : PlainRule) : Type
   pub dates : (at : ℕ) → takes_part w at ≡ defined.takes_part r at
   pub about : (i : Invocation) → is_about w i ≡ defined.is_about defined_by r i
   pub cmnd : (i : Invocation) → cmnds_say i.path i.args w.cmnds ≡ defined.cmnd_says defined_by r i
-  pub nopasswd : w.nopasswd ≡ r.nopasswd
+  pub tags : w.tags ≡ r.tags

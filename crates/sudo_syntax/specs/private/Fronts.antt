@@ -6,9 +6,12 @@ use Rattle.sudo_words.specs.Moment as moments
 use Rattle.sudo_words.specs.Command.{arg_text}
 use Rattle.sudo_words.specs.declared.cmnd.ArgRule.{ArgRule}
 use Rattle.sudo_words.specs.declared.cmnd.ArgRule.TheVariants as rules
+use Rattle.sudo_policy.specs.declared.tags.Tag.{Tag}
+use Rattle.sudo_policy.specs.declared.tags.GivenTags.{GivenTags}
 use Rattle.sudo_policy.specs.Lex.{Tok, word, mark}
 use Rattle.sudo_policy.specs.Grammar.{Date, GivesBound, Bounds, SpellsDates, SpellsTags}
-use Rattle.sudo_policy.specs.Grammar.{tag_word, last_tag, begins_spaced, Listed}
+use Rattle.sudo_policy.specs.Grammar.{begins_spaced, Listed}
+use Rattle.sudo_policy.specs.Tags.{tag_word, given_by}
 
 abbrev pub NoWord : List Tok → Type 0
 NoWord [] = Unit {0}
@@ -43,7 +46,7 @@ NoHead m ts = (a b : Bool) (name : List ℕ) (next : List Tok) → ts ≢ word a
 -- what does not begin with a tag
 abbrev pub NoTag : List Tok → Type 0
 NoTag ts =
-    (a b : Bool) (tag : Bool) (next : List Tok) → ts ≢ word a 0 (tag_word tag) ∷ mark b colon ∷ next
+    (a b : Bool) (tag : Tag) (next : List Tok) → ts ≢ word a 0 (tag_word tag) ∷ mark b colon ∷ next
 
 -- arguments, each after blanks
 abbrev pub arg_toks : List (List ℕ) → List Tok
@@ -72,9 +75,9 @@ abbrev pub Dated : (before after : Option ℕ) → List Tok
 Dated before after ts new_before new_after rest =
     (dates : List Date) × SpellsDates ts dates rest × Bounds before after dates new_before new_after
 
--- tags, the last of which says this
-abbrev pub Tagged : List Tok → Option Bool → List Tok → Type 0
-Tagged ts nopasswd rest = (tags : List Bool) × SpellsTags ts tags rest × (nopasswd ≡ last_tag tags)
+-- tags that give this
+abbrev pub Tagged : List Tok → GivenTags → List Tok → Type 0
+Tagged ts given rest = (tags : List Tag) × SpellsTags ts tags rest × (given ≡ given_by tags)
 
 -- what does not begin with this word
 abbrev pub NoKind : List ℕ → List Tok → Type 0

@@ -25,5 +25,5 @@ returns c = λ by covers.
           c.as_slice-3.ensures ∙ covers.runas i);
       cmnd = λ i. c.in_ok-cmnds.ensures i ∙ ap (λ (list : List (Signed CmndItem)).
           list_answer (cmnd_answer (known_says (match_answer i.path i.args) aliases.cmnds) i.path i.args) list) c.from_ref.ensures.value ∙ covers.cmnd i;
-      nopasswd = refl;
+      tags = refl;
     }

@@ -1,4 +1,5 @@
-use Rattle.std.proofs.Common.{Some, arith}
+use Rattle.std.proofs.Common.{arith}
+use Rattle.sudo_policy.specs.Tags.{with_tag}
 use Rattle.sudo_syntax.specs.private.Tokens.{toks}
 use Rattle.sudo_syntax.specs.private.Fronts.{Tagged}
 use Rattle.sudo_syntax.proofs.Leads.{leads_on}
@@ -11,8 +12,8 @@ loop-tag-preserved c =
     let said = c.loop-tag.read.0 in
     let next = tag_read said (toks c.loop-tag.read.1.now) d.0 d.1 c.in-Some.tag (toks c.in-Some.after.now) d.2 in
     record {
-      leads = leads_on Ends (Tagged (toks c.args.tokens.now)) (Left said (toks c.loop-tag.read.1.now))
-          (Left (Some c.in-Some.tag) (toks c.in-Some.after.now)) c.loop-tag.invariant.leads next;
+      leads = rw c.with.ensures (leads_on Ends (Tagged (toks c.args.tokens.now)) (Left said (toks c.loop-tag.read.1.now))
+          (Left (with_tag said c.in-Some.tag) (toks c.in-Some.after.now)) c.loop-tag.invariant.leads next);
       shorter = omega (arith, c.loop-tag.invariant.shorter, c.in-Some.ensures.shorter);
     }
 

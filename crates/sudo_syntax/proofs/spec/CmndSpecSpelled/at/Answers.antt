@@ -27,7 +27,7 @@ returns-in_err-cmnd-clause-only c = λ v r f h.
     let bounds = c.in-Ok.ensures.only v.not_before v.not_after h.after_dates
     (tags_close_dates h.after_dates h.tags h.after_tags v.cmnd r f h.tagged h.cmnd) (h.dates, dated, h.bounds) in
     let tagged = subst (λ (t : List Tok). SpellsTags t h.tags h.after_tags) (sym bounds.2) h.tagged in
-    let tags = c.tags_at-nopasswd.ensures.only v.nopasswd h.after_tags (cmnd_closes_tags h.after_tags v.cmnd r h.cmnd) (h.tags, tagged, h.passwd) in
+    let tags = c.tags_at.ensures.only v.tags h.after_tags (cmnd_closes_tags h.after_tags v.cmnd r h.cmnd) (h.tags, tagged, h.given) in
     let cmnd = subst (λ (t : List Tok). SpellsCmnd t v.cmnd r) (sym tags.1) h.cmnd in
     let p = err_from_is_err_and c.from_residual-in_err-cmnd.result c.from_residual-in_err-cmnd.ensures.1 in
     rw (p.1, p.2) (c.in_err-cmnd.ensures.only v.cmnd r f cmnd)
@@ -40,7 +40,7 @@ returns-clause-only c = λ v r f h.
     let bounds = c.in-Ok.ensures.only v.not_before v.not_after h.after_dates
     (tags_close_dates h.after_dates h.tags h.after_tags v.cmnd r f h.tagged h.cmnd) (h.dates, dated, h.bounds) in
     let tagged = subst (λ (t : List Tok). SpellsTags t h.tags h.after_tags) (sym bounds.2) h.tagged in
-    let tags = c.tags_at-nopasswd.ensures.only v.nopasswd h.after_tags (cmnd_closes_tags h.after_tags v.cmnd r h.cmnd) (h.tags, tagged, h.passwd) in
+    let tags = c.tags_at.ensures.only v.tags h.after_tags (cmnd_closes_tags h.after_tags v.cmnd r h.cmnd) (h.tags, tagged, h.given) in
     let cmnd = subst (λ (t : List Tok). SpellsCmnd t v.cmnd r) (sym tags.1) h.cmnd in
     let last = c.in_ok-cmnd.ensures.only v.cmnd r f cmnd in
     (same_spec v _ _ _ _ _ first.0 bounds.0 bounds.1 tags.0 last.0, last.1)
