@@ -5,6 +5,7 @@ ghost use Rattle.std.specs.Prelude.{◌≡◌, ◌⊎◌, ◌↔◌, ◌<◌, �
 ghost use Rattle.std.specs.Prelude.{IfOk, IfErr, MatchResult, Err, string_bytes};
 ghost use Rattle.messages.specs.declared.message.Message.{Message as AnyMessage};
 ghost use Rattle.roster.specs.Rules.{is_among};
+ghost use Rattle.grants.specs.HostFaults.{most_lines};
 ghost use Rattle.store_tables.specs.Sets.{Lists, SameSet};
 ghost use Rattle.outcomes.specs.About.{AreTold};
 ghost use Rattle.outcomes.specs.HostFile.{Line, AreLines, IsHostFile, IsHostFileAfter, lines_after};
@@ -192,10 +193,10 @@ impl<K: Keeper> Desk<K> {
             ↔ (is_among self.old.roster.says.hosts host.now ≡ false) }
         ensures few { (set : List AnyMessage) (ls : List Line) → K.is_up self.new.keeper
             → Lists (K.holds self.old.keeper) set → AreLines self.old.roster.says set host.now ls
-            → length ls ≤ 8_192 → IfErr result (λ e. (e ≡ refusal.UnknownHost) ⊎ IsWant e) }
+            → length ls ≤ most_lines → IfErr result (λ e. (e ≡ refusal.UnknownHost) ⊎ IsWant e) }
         ensures many { (set : List AnyMessage) (ls : List Line)
             → K.is_up self.new.keeper → Lists (K.holds self.old.keeper) set
-            → AreLines self.old.roster.says set host.now ls → 8_192 < length ls → MatchResult result
+            → AreLines self.old.roster.says set host.now ls → most_lines < length ls → MatchResult result
             (λ _. ⊥) (λ e. (e ≡ refusal.UnknownHost) ⊎ (e ≡ refusal.TooManyRules) ⊎ IsWant e) }
         ensures err { IfErr result
             (λ e. (e ≡ refusal.UnknownHost) ⊎ (e ≡ refusal.TooManyRules) ⊎ IsWant e) }
@@ -226,11 +227,11 @@ impl<K: Keeper> Desk<K> {
             ↔ (is_among self.old.roster.says.hosts host.now ≡ false) }
         ensures few { (set : List AnyMessage) (ls : List Line)
             → K.is_up self.new.keeper → Lists (K.holds self.old.keeper) set
-            → AreLines self.old.roster.says set host.now ls → length (lines_after moment ls) ≤ 8_192
+            → AreLines self.old.roster.says set host.now ls → length (lines_after moment ls) ≤ most_lines
             → IfErr result (λ e. (e ≡ refusal.UnknownHost) ⊎ IsWant e) }
         ensures many { (set : List AnyMessage) (ls : List Line) → K.is_up self.new.keeper
             → Lists (K.holds self.old.keeper) set → AreLines self.old.roster.says set host.now ls
-            → 8_192 < length (lines_after moment ls) → MatchResult result (λ _. ⊥)
+            → most_lines < length (lines_after moment ls) → MatchResult result (λ _. ⊥)
             (λ e. (e ≡ refusal.UnknownHost) ⊎ (e ≡ refusal.TooManyRules) ⊎ IsWant e) }
         ensures err { IfErr result
             (λ e. (e ≡ refusal.UnknownHost) ⊎ (e ≡ refusal.TooManyRules) ⊎ IsWant e) }
@@ -253,11 +254,11 @@ impl<K: Keeper> Desk<K> {
             ↔ (is_among self.old.roster.says.hosts host.now ≡ false) }
         ensures few { (set : List AnyMessage) (ls : List Line) → K.is_up self.new.keeper
             → Lists (K.holds self.old.keeper) set → AreLines self.old.roster.says set host.now ls
-            → length (left.lines_left after ls) ≤ 8_192
+            → length (left.lines_left after ls) ≤ most_lines
             → IfErr result (λ e. (e ≡ refusal.UnknownHost) ⊎ IsWant e) }
         ensures many { (set : List AnyMessage) (ls : List Line) → K.is_up self.new.keeper
             → Lists (K.holds self.old.keeper) set → AreLines self.old.roster.says set host.now ls
-            → 8_192 < length (left.lines_left after ls) → MatchResult result (λ _. ⊥)
+            → most_lines < length (left.lines_left after ls) → MatchResult result (λ _. ⊥)
             (λ e. (e ≡ refusal.UnknownHost) ⊎ (e ≡ refusal.TooManyRules) ⊎ IsWant e) }
         ensures err { IfErr result
             (λ e. (e ≡ refusal.UnknownHost) ⊎ (e ≡ refusal.TooManyRules) ⊎ IsWant e) }

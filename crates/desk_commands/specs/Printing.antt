@@ -5,6 +5,7 @@ use Rattle.sudo_policy.specs.declared.entry.Entry.{Entry}
 use Rattle.sudo_words.specs.declared.cmnd.Cmnd.{Cmnd}
 use Rattle.roster.specs.Fields.{RosterFields}
 use Rattle.roster.specs.Rules.{is_among}
+use Rattle.grants.specs.HostFaults.{most_lines}
 use Rattle.desk_store.specs.Sets.{Lists, SameSet}
 use Rattle.outcomes.specs.HostFile.{AreLines, IsHostFile, IsHostFileAfter, Line, lines_after}
 use Rattle.outcomes.specs.Rights.{GivesRights, GivesRightsAfter}
@@ -63,7 +64,7 @@ pub record HasManyLines (roster : RosterFields Cmnd) (store : Store) (host : Lis
   pub known : is_among roster.hosts host ≡ true
   pub many : Up → (messages : List Message) (printed : List Line)
       → Lists (HeldWith roster lines old) messages
-      → AreLines roster messages host printed → 8_192 < length (lines_printed after printed)
+      → AreLines roster messages host printed → most_lines < length (lines_printed after printed)
 
 -- `print` may be refused for this. A line that is refused does not end it.
 abbrev pub EndsPrinting : (roster_file base_file : List ℕ) (store : Store) (host : List ℕ)

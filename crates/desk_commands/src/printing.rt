@@ -5,6 +5,7 @@ ghost use Rattle.std.specs.Prelude.{map, Err, IfErr, IfOk, IsErrAnd, string_byte
 ghost use Rattle.std.specs.Io.KnownBytes.{Appends};
 ghost use Rattle.messages.specs.declared.message.Message.{Message};
 ghost use Rattle.roster.specs.Rules.{is_among};
+ghost use Rattle.grants.specs.HostFaults.{most_lines};
 ghost use Rattle.desk_store.specs.Keeping.{HasFailed};
 ghost use Rattle.desk_store.specs.Serves.{Serves};
 ghost use Rattle.desk_store.specs.Sets.{Lists};
@@ -49,7 +50,7 @@ fn file_of<K: Keeper>(
         ↔ (is_among desk.old.roster.says.hosts host.now ≡ false) }
     ensures few { (set : List Message) (lines : List Line) → K.is_up desk.new.keeper
         → Lists (K.holds desk.old.keeper) set → AreLines desk.old.roster.says set host.now lines
-        → length (lines_printed after lines) ≤ 8_192
+        → length (lines_printed after lines) ≤ most_lines
         → IfErr result (λ e. (e ≡ refusal.UnknownHost) ⊎ IsWant e) }
     ensures err { IfErr result
         (λ e. (e ≡ refusal.UnknownHost) ⊎ (e ≡ refusal.TooManyRules) ⊎ IsWant e) }

@@ -28,7 +28,7 @@ pub use admission::admit;
 pub use base::fits_base;
 pub use denial::Denial;
 pub use host_fault::HostFault;
-pub use host_file::host_policy;
+pub use host_file::{MOST_LINES, host_policy};
 pub use lines::push_lines;
 pub use marks::Mark;
 pub use outcome::{Status, Window};

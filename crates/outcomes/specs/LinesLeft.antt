@@ -7,6 +7,7 @@ use Rattle.sudo_policy.specs.Spelling.{Spells}
 use Rattle.messages.specs.declared.message.Message.{Message}
 use Rattle.roster.specs.Fields.{RosterFields}
 use Rattle.grants.specs.GrantLines.{stays}
+use Rattle.grants.specs.HostFaults.{most_lines}
 use Rattle.grants.specs.declared.host_fault.HostFault.{HostFault}
 use Rattle.grants.specs.declared.host_fault.HostFault.TheVariants.{TooManyRules, NoMemory}
 use Rattle.outcomes.specs.HostFile.{Line, AreLines, with_lines}
@@ -27,4 +28,4 @@ pub record IsFileLeft (f : RosterFields Cmnd) (base : List Entry) (messages : Li
 abbrev pub IsPast : RosterFields Cmnd → List Message → List ℕ → Option ℕ → HostFault → Type 0
 IsPast f messages host after e =
     (e ≡ NoMemory) ⊎ ((e ≡ TooManyRules) × ((lines : List Line)
-    → AreLines f messages host lines → 8_192 < length (lines_left after lines)))
+    → AreLines f messages host lines → most_lines < length (lines_left after lines)))

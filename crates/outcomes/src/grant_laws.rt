@@ -21,6 +21,7 @@ ghost use Rattle.grants.specs.GrantLines.{lasts_until};
 ghost use Rattle.grants.specs.Statuses.{InWindow, IsStatus};
 ghost use Rattle.grants.specs.Summaries.{Kept};
 ghost use Rattle.grants.specs.Verdicts.{IsComplete, IsGiven, StandsAlone};
+ghost use Rattle.grants.specs.HostFaults.{most_lines};
 ghost use Rattle.grants.specs.declared.outcome.Status.{Status};
 ghost use Rattle.grants.specs.declared.outcome.Status.TheVariants.{Disputed, Refused};
 ghost use Rattle.outcomes.specs.HostFile.{IsHostFile, IsHostFileAfter, Line, IsLine, lines_after};
@@ -92,7 +93,7 @@ pub fn file_gives_rights()
     ensures { (f : RosterFields Cmnd) (base : List Entry) (set : List Message) (host text : List ℕ)
         → FitsBase base → ((m : Message) → Contains set m → IsMessage m)
         → (file : IsHostFile f base set host text)
-        → length file.lines ≤ 8_192 → GivesRights f base set host text }
+        → length file.lines ≤ most_lines → GivesRights f base set host text }
 {}
 
 /// A line is left after a moment exactly if it is one of the host's lines and the last moment of
@@ -119,7 +120,7 @@ pub fn ended_lines_give_nothing()
     ensures rights { (f : RosterFields Cmnd) (base : List Entry) (set : List Message)
         (host : List ℕ) (moment : ℕ) (text : List ℕ) → FitsBase base → ((m : Message)
         → Contains set m → IsMessage m) → (file : IsHostFileAfter f base set host moment text)
-        → length (lines_after moment file.lines) ≤ 8_192
+        → length (lines_after moment file.lines) ≤ most_lines
         → GivesRightsAfter f base set host moment text }
 {}
 

@@ -6,6 +6,7 @@ ghost use Rattle.std.specs.List.Sorted.{IsStrictlySortedBy};
 ghost use Rattle.messages.specs.Names.{name_cmp};
 ghost use Rattle.messages.specs.declared.message.Message.{Message as AnyMessage};
 ghost use Rattle.grants.specs.Bases.{FitsBase};
+ghost use Rattle.grants.specs.HostFaults.{most_lines};
 ghost use Rattle.grants.specs.declared.host_fault.HostFault.TheVariants as fault;
 ghost use Rattle.outcomes.specs.Gathered.{AreGathered};
 ghost use Rattle.outcomes.specs.HostFile.{Line, AreLines};
@@ -16,15 +17,12 @@ ghost use Rattle.outcomes.specs.private.Index.{kept_of, names_lent};
 
 use crate::base::Base;
 use crate::gathering::Gathered;
-use grants::{HostFault, Summary, push_lines};
+use grants::{HostFault, MOST_LINES, Summary, push_lines};
 use messages::RequestName;
 use roster::Roster;
 use std::alloc::Global;
 use std::collections::BTreeMap;
 use sudo_words::{HostName, Moment, NoMemory};
-
-/// The most lines of a host's file after those of the base.
-const MOST_LINES: usize = 8_192;
 
 /// Adds the lines that the request of a name gives the host and that are left, and answers how many
 /// they are: none if nobody asks under the name.
@@ -108,9 +106,9 @@ pub fn host_file_in(
     // With at most 8,192 lines the only error is want of memory, and with more there is no file.
     ensures few { (set : List AnyMessage) (ls : List Line)
         → AreGathered set gathered.now → AreLines roster.now.says set host.now ls
-        → length (left.lines_left after ls) ≤ 8_192 → IfErr result (λ e. e ≡ fault.NoMemory) }
+        → length (left.lines_left after ls) ≤ most_lines → IfErr result (λ e. e ≡ fault.NoMemory) }
     ensures many { (set : List AnyMessage) (ls : List Line) → AreGathered set gathered.now
-        → AreLines roster.now.says set host.now ls → 8_192 < length (left.lines_left after ls)
+        → AreLines roster.now.says set host.now ls → most_lines < length (left.lines_left after ls)
         → MatchResult result (λ _. ⊥) (λ e. (e ≡ fault.TooManyRules) ⊎ (e ≡ fault.NoMemory)) }
     ensures err { (set : List AnyMessage) → AreGathered set gathered.now
         → IfErr result (left.IsPast roster.now.says set host.now after) }

@@ -15,6 +15,7 @@ use Rattle.messages.specs.Wire.{IsMessage, wire}
 use Rattle.messages.specs.declared.message.Message.{Message}
 use Rattle.roster.specs.Fields.{Reading, RosterFields}
 use Rattle.roster.specs.Rules.{is_among}
+use Rattle.grants.specs.HostFaults.{most_lines}
 use Rattle.grants.specs.declared.outcome.Window.{Window}
 use Rattle.desk_store.specs.Sets.{SameSet}
 use Rattle.desk.specs.Delivery.{Answers, Delivery}
@@ -132,9 +133,9 @@ abbrev pub IsFileResponse : (left : List Line → List Line) → RosterFields Cm
 IsFileResponse left f base set host response =
     ((is_known_host f host ≡ false) × (response ≡ refusal UnknownHost))
     ⊎ ((is_known_host f host ≡ true) × ((lines : List Line) × AreLines f set host lines
-    × (length (left lines) ≤ 8192) × (response ≡ done (canon (with_lines base (left lines))))))
+    × (length (left lines) ≤ most_lines) × (response ≡ done (canon (with_lines base (left lines))))))
     ⊎ ((is_known_host f host ≡ true) × ((lines : List Line) → AreLines f set host lines
-    → 8192 < length (left lines)) × (response ≡ refusal TooManyRules))
+    → most_lines < length (left lines)) × (response ≡ refusal TooManyRules))
 
 -- The response to an action, by a roster, a base and the messages of a set, where memory lasts and
 -- the storage holds: at most one, by a law.

@@ -11,6 +11,7 @@ use Rattle.roster.specs.Fields.{RosterFields}
 use Rattle.grants.specs.GrantLines.{AreWritten, rules_left}
 use Rattle.grants.specs.GrantRules.{IsGrantRule}
 use Rattle.grants.specs.Summaries.{Kept}
+use Rattle.grants.specs.HostFaults.{most_lines}
 use Rattle.outcomes.specs.private.InTurn.{Give}
 
 -- After the text come the lines that are left of the summaries' requests, in turn: each is the line
@@ -20,7 +21,7 @@ pub record AreBehind (f : RosterFields Cmnd) (messages : List Message) (host : L
   pub rules : List Rule
   pub given : Give f messages (rules_left after host) summaries rules
   pub grants : AllByRecursion IsGrantRule rules
-  pub few : length rules ≤ 8_192
+  pub few : length rules ≤ most_lines
   pub text_is : new ≡ old ++ canon (map entries.Rule rules)
 
 -- What was written for a name: the lines that are left of the request that its summary keeps, and
