@@ -1,6 +1,6 @@
 -- What a crash leaves after calls, one after the other, also where the keeper is not up.
-use Rattle.std.proofs.Common.{◌≡◌, ◌⊎◌, inl, inr, List, ℕ, [], ◌∷◌, ◌++◌, Option, Some, None, Result, Ok, Err, refl, sym, subst}
-use Rattle.std.specs.Prelude.{IfErr, MatchResult, IsErrAnd, IsOk, OnErr, OnOk}
+use Rattle.std.proofs.Common.{◌≡◌, ◌⊎◌, inl, inr, List, ℕ, [], ◌∷◌, ◌++◌, Option, Some, None, Result, Ok, Err, Global, refl, sym, subst, ◌∙◌}
+use Rattle.std.specs.Prelude.{Contains, IfErr, MatchResult, IsErrAnd, IsOk, OnErr, OnOk}
 use Rattle.std.proofs.lemmas.List.Elements.{Contains-append_left, Contains-push}
 use Rattle.sudo_words.specs.declared.cmnd.Cmnd.{Cmnd}
 use Rattle.messages.specs.declared.message.Message.{Message}
@@ -21,7 +21,8 @@ use Rattle.desk.specs.Refusals.{IsWant, refusal_of_error}
 use Rattle.desk.specs.declared.ack.Ack.{Ack}
 use Rattle.desk.specs.declared.refusal.Refusal.{Refusal}
 use Rattle.desk.specs.declared.refusal.Refusal.TheVariants.{UnknownHost}
-use Rattle.desk.specs.Serving.{OnlyAsks}
+use Rattle.desk.specs.Serving.{KeepsSettings, OnlyAsks, ServesAnswer}
+use Rattle.desk.specs.State.{DeskState}
 use Rattle.desk.specs.declared.loading.Known.{Known}
 use Rattle.desk.specs.private.Known.{IsKnownOfUp}
 use Rattle.desk.proofs.DeliveryLemmas.{among_before, among_cases, among_last}
@@ -197,30 +198,17 @@ module _ (f : RosterFields Cmnd) (roster : List ℕ) (S : Message
 
 -- ---- questions
 
-module _ {K A : Type 0} (g : Ghosts K) (a b : K) (r : Result A Refusal) where
-  -- a want is told
-  pub asks_want : IsErrAnd r IsWant → (g.is_clean b → AddsOnly (g.may_leave a) (g.may_leave b) (λ _. ⊥)) → OnlyAsks g a b r
-  asks_want want leaves = record { live = λ clean. go r want; leaves = leaves }
-    where
-      go : (r : Result A Refusal) → IsErrAnd r IsWant → MatchResult r (λ _. g.is_up b) (λ e. IsWant e ⊎ (e ≡ UnknownHost) ⊎ g.is_up b)
-      go (Ok x) is = absurd is
-      go (Err e) is = inl is
+-- what stays over each of two calls stays over both
+pub settings_both : {K : Type 0} (a b c : DeskState K) → KeepsSettings a b → KeepsSettings b c → KeepsSettings a c
+settings_both a b c first second = record { roster = second.roster ∙ first.roster; base = second.base ∙ first.base }
 
-  -- the keeper is up, whatever is told
-  pub asks_up : (g.is_clean b → g.is_up b) → (g.is_clean b → AddsOnly (g.may_leave a) (g.may_leave b) (λ _. ⊥)) → OnlyAsks g a b r
-  asks_up up leaves = record { live = λ clean. go r (up clean); leaves = leaves }
-    where
-      go : (r : Result A Refusal) → g.is_up b → MatchResult r (λ _. g.is_up b) (λ e. IsWant e ⊎ (e ≡ UnknownHost) ⊎ g.is_up b)
-      go (Ok x) is = is
-      go (Err e) is = inr (inr is)
-
--- what is made of an answer, where nothing but a want is refused then
-pub asks_more : {K A B : Type 0} (g : Ghosts K) (a b : K) (r : Result A Refusal) (s : Result B Refusal)
-    → OnlyAsks g a b r → IsOk r → (IfErr s IsWant) → OnlyAsks g a b s
-asks_more {K} {A} {B} g a b r s asks is err = record { live = λ clean. go r s is (asks.live clean) err; leaves = asks.leaves }
+-- a want is told
+pub asks_want : {K A : Type 0} (g : Ghosts K) (a b : DeskState K) (r : Result A Refusal) → IsErrAnd r IsWant
+    → KeepsSettings a b → (g.is_up b.keeper → g.is_same a.keeper b.keeper) → ServesAnswer g a.keeper b.keeper r
+    → (g.is_clean b.keeper → AddsOnly (g.may_leave a.keeper) (g.may_leave b.keeper) (λ _. ⊥)) → OnlyAsks g a b r
+asks_want {K} {A} g a b r want settings unchanged served leaves =
+    record { settings = settings; unchanged = unchanged; served = served; live = λ clean. go r want; leaves = leaves }
   where
-    go : (r : Result A Refusal) (s : Result B Refusal) → IsOk r → MatchResult r (λ _. g.is_up b) (λ e. IsWant e ⊎ (e ≡ UnknownHost) ⊎ g.is_up b)
-        → IfErr s IsWant → MatchResult s (λ _. g.is_up b) (λ e. IsWant e ⊎ (e ≡ UnknownHost) ⊎ g.is_up b)
-    go (Ok x) (Ok y) is up err = up
-    go (Ok x) (Err e) is up err = inl err
-    go (Err e) s is up err = absurd cc
+    go : (r : Result A Refusal) → IsErrAnd r IsWant → MatchResult r (λ _. g.is_up b.keeper) (λ e. IsWant e ⊎ (e ≡ UnknownHost) ⊎ g.is_up b.keeper)
+    go (Ok x) is = absurd is
+    go (Err e) is = inl is

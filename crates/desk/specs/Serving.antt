@@ -1,4 +1,5 @@
--- What storage does to calls of a keeper that a contract is generic over, by the desk's answer.
+-- What a call leaves of a desk, and what storage does to the calls of its keeper, by the desk's
+-- answer; the contracts are generic over the keeper.
 use Rattle.std.specs.Prelude.{◌≡◌, ◌⊎◌, Result, Err, IsErrAnd, MatchResult}
 use Rattle.desk_store.specs.declared.keeper.Keeper.{Ghosts}
 use Rattle.desk_store.specs.Serves.{Serves}
@@ -6,6 +7,7 @@ use Rattle.desk.specs.declared.refusal.Refusal.{Refusal}
 use Rattle.desk.specs.declared.refusal.Refusal.TheVariants.{Storage, UnknownHost}
 use Rattle.desk_store.specs.Left.{AddsOnly}
 use Rattle.desk.specs.Refusals.{IsWant}
+use Rattle.desk.specs.State.{DeskState}
 
 -- The answer tells of a failed storage where it is the refusal `Storage`, and of a want where it is
 -- `Storage` or `NoMemory`.
@@ -13,11 +15,21 @@ abbrev pub ServesAnswer : {K T : Type 0} → Ghosts K → (before after : K) →
 ServesAnswer g before after result =
     Serves g before after (result ≡ Err Storage) (IsErrAnd result IsWant)
 
--- What a question does to a keeper whose disk has been honest. After an answer it is up, and also
--- after each refusal but a want, and but an unknown host, of which the roster tells alone. It
--- commits nothing.
-pub record OnlyAsks {K T : Type 0} (g : Ghosts K) (before after : K) (result : Result T Refusal)
-    : Type 0 where
-  pub live : g.is_clean after → MatchResult result (λ _. g.is_up after)
-      (λ e. IsWant e ⊎ (e ≡ UnknownHost) ⊎ g.is_up after)
-  pub leaves : g.is_clean after → AddsOnly (g.may_leave before) (g.may_leave after) (λ _. ⊥)
+-- The roster and the base, which the desk was opened with, stay.
+pub record KeepsSettings {K : Type 0} (before after : DeskState K) : Type 0 where
+  pub roster : after.roster ≡ before.roster
+  pub base : after.base ≡ before.base
+
+-- A question changes nothing of a desk. The roster and the base stay, and while the keeper is up it
+-- keeps what it kept. The answer tells what storage did. Over a disk that has been honest the
+-- keeper is up after an answer, and also after each refusal but a want, and but an unknown host, of
+-- which the roster tells alone; and nothing is committed.
+pub record OnlyAsks {K T : Type 0} (g : Ghosts K) (before after : DeskState K)
+    (result : Result T Refusal) : Type 0 where
+  pub settings : KeepsSettings before after
+  pub unchanged : g.is_up after.keeper → g.is_same before.keeper after.keeper
+  pub served : ServesAnswer g before.keeper after.keeper result
+  pub live : g.is_clean after.keeper → MatchResult result (λ _. g.is_up after.keeper)
+      (λ e. IsWant e ⊎ (e ≡ UnknownHost) ⊎ g.is_up after.keeper)
+  pub leaves : g.is_clean after.keeper
+      → AddsOnly (g.may_leave before.keeper) (g.may_leave after.keeper) (λ _. ⊥)

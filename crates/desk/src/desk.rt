@@ -14,7 +14,7 @@ ghost use Rattle.desk.specs.Delivery.{HeldAfter, HeldAfterAll, IsBodyOf, IsDeliv
 ghost use Rattle.desk.specs.Delivery.{WasWantingAmong, delivery_of, storage_failures};
 ghost use Rattle.desk.specs.Opening.{IsOpeningRefusal, IsUnseen, Opens, Refuses};
 ghost use Rattle.desk.specs.Refusals.{IsWant};
-ghost use Rattle.desk.specs.Serving.{ServesAnswer};
+ghost use Rattle.desk.specs.Serving.{KeepsSettings, ServesAnswer};
 ghost use Rattle.desk.specs.declared.refusal.Refusal.TheVariants as refusal;
 
 use crate::ack::Ack;
@@ -164,8 +164,7 @@ impl<K: Keeper> Desk<K> {
             → K.holds self.old.keeper m → OnOk result (K.is_same self.old.keeper self.new.keeper) }
         ensures unchanged { K.is_up self.new.keeper
             → OnErr result (K.is_same self.old.keeper self.new.keeper) }
-        ensures roster { self.new.roster ≡ self.old.roster }
-        ensures base { self.new.base ≡ self.old.base }
+        ensures settings { KeepsSettings self.old self.new }
         // Over an honest disk the keeper is up after Ok; and a refusal that tells of no want does
         // not ask it.
         ensures live { K.is_clean self.new.keeper → OnOk result (K.is_up self.new.keeper) }
@@ -227,8 +226,7 @@ impl<K: Keeper> Desk<K> {
             (map delivery_of list.now) answers.items (K.holds self.new.keeper)) }
         ensures refused { OnErr result (self.new ≡ self.old) }
         ensures err { IfErr result (λ e. e ≡ refusal.NoMemory) }
-        ensures roster { self.new.roster ≡ self.old.roster }
-        ensures base { self.new.base ≡ self.old.base }
+        ensures settings { KeepsSettings self.old self.new }
         ensures served { Serves K.Keeper self.old.keeper self.new.keeper
             (IsOkAnd result (λ answers. Contains answers.items (Err refusal.Storage)))
             (IsOkAnd result (λ answers. WasWantingAmong answers.items)) }
@@ -275,8 +273,7 @@ impl<K: Keeper> Desk<K> {
             (map delivery_of list.now) answers.new.items }
         ensures held { K.is_up self.new.keeper → HeldAfterAll (K.holds self.old.keeper)
             (map delivery_of list.now) answers.new.items (K.holds self.new.keeper) }
-        ensures roster { self.new.roster ≡ self.old.roster }
-        ensures base { self.new.base ≡ self.old.base }
+        ensures settings { KeepsSettings self.old self.new }
         ensures served { Serves K.Keeper self.old.keeper self.new.keeper
             (Contains answers.new.items (Err refusal.Storage)) (WasWantingAmong answers.new.items) }
         ensures causes { HaveFailed (storage_failures answers.new.items)

@@ -13,7 +13,7 @@ ghost use Rattle.outcomes.specs.LinesLeft as left;
 ghost use Rattle.outcomes.specs.Outcomes.{AreLive, ComesTo};
 ghost use Rattle.outcomes.specs.Parked.{AreParked};
 ghost use Rattle.desk.specs.Refusals.{IsWant};
-ghost use Rattle.desk.specs.Serving.{OnlyAsks, ServesAnswer};
+ghost use Rattle.desk.specs.Serving.{OnlyAsks};
 ghost use Rattle.outcomes.specs.Rights.{GivesRights, GivesRightsAfter};
 ghost use Rattle.outcomes.specs.Summaries.{AreSummaries};
 ghost use Rattle.suspects.specs.LookedAt.{AreReviewed};
@@ -38,11 +38,7 @@ impl<K: Keeper> Desk<K> {
             → Lists (K.holds self.old.keeper) set
             → IfOk result (ComesTo self.old.roster.says set name.now) }
         ensures err { IfErr result IsWant }
-        ensures unchanged { K.is_up self.new.keeper → K.is_same self.old.keeper self.new.keeper }
-        ensures roster { self.new.roster ≡ self.old.roster }
-        ensures base { self.new.base ≡ self.old.base }
-        ensures served { ServesAnswer K.Keeper self.old.keeper self.new.keeper result }
-        ensures asks { OnlyAsks K.Keeper self.old.keeper self.new.keeper result }
+        ensures asks { OnlyAsks K.Keeper self.old self.new result }
     {
         let known = known_of(&self.roster, self.known.take(), &mut self.keeper)?;
         let status = status_in(&self.roster, &known.gathered, name);
@@ -59,11 +55,7 @@ impl<K: Keeper> Desk<K> {
             → IfOk result (AreTold set (record { by = asker.now; no = no })) }
         ensures err { IfErr result IsWant }
         ensures desk { K.is_up self.new.keeper → K.is_desk self.new.keeper }
-        ensures unchanged { K.is_up self.new.keeper → K.is_same self.old.keeper self.new.keeper }
-        ensures roster { self.new.roster ≡ self.old.roster }
-        ensures base { self.new.base ≡ self.old.base }
-        ensures served { ServesAnswer K.Keeper self.old.keeper self.new.keeper result }
-        ensures asks { OnlyAsks K.Keeper self.old.keeper self.new.keeper result }
+        ensures asks { OnlyAsks K.Keeper self.old self.new result }
     {
         let known = known_of(&self.roster, self.known.take(), &mut self.keeper)?;
         let list = messages_in(self.alloc, &known.gathered, asker, no);
@@ -77,11 +69,7 @@ impl<K: Keeper> Desk<K> {
             → Lists (K.holds self.old.keeper) set
             → IfOk result (λ list. AreLive self.old.roster.says set at list.items) }
         ensures err { IfErr result IsWant }
-        ensures unchanged { K.is_up self.new.keeper → K.is_same self.old.keeper self.new.keeper }
-        ensures roster { self.new.roster ≡ self.old.roster }
-        ensures base { self.new.base ≡ self.old.base }
-        ensures served { ServesAnswer K.Keeper self.old.keeper self.new.keeper result }
-        ensures asks { OnlyAsks K.Keeper self.old.keeper self.new.keeper result }
+        ensures asks { OnlyAsks K.Keeper self.old self.new result }
     {
         let known = known_of(&self.roster, self.known.take(), &mut self.keeper)?;
         let list = live_in(self.alloc, &self.roster, &known.gathered, at);
@@ -95,11 +83,7 @@ impl<K: Keeper> Desk<K> {
             → Lists (K.holds self.old.keeper) set
             → IfOk result (λ texts. AreParked set (map string_bytes texts.items)) }
         ensures err { IfErr result IsWant }
-        ensures unchanged { K.is_up self.new.keeper → K.is_same self.old.keeper self.new.keeper }
-        ensures roster { self.new.roster ≡ self.old.roster }
-        ensures base { self.new.base ≡ self.old.base }
-        ensures served { ServesAnswer K.Keeper self.old.keeper self.new.keeper result }
-        ensures asks { OnlyAsks K.Keeper self.old.keeper self.new.keeper result }
+        ensures asks { OnlyAsks K.Keeper self.old self.new result }
     {
         let known = known_of(&self.roster, self.known.take(), &mut self.keeper)?;
         let texts = parked_in(self.alloc, &known.gathered);
@@ -116,11 +100,7 @@ impl<K: Keeper> Desk<K> {
         ensures err { IfErr result IsWant }
         ensures held { K.is_up self.new.keeper
             → SameSet (K.holds self.old.keeper) (K.holds self.new.keeper) }
-        ensures unchanged { K.is_up self.new.keeper → K.is_same self.old.keeper self.new.keeper }
-        ensures roster { self.new.roster ≡ self.old.roster }
-        ensures base { self.new.base ≡ self.old.base }
-        ensures served { ServesAnswer K.Keeper self.old.keeper self.new.keeper result }
-        ensures asks { OnlyAsks K.Keeper self.old.keeper self.new.keeper result }
+        ensures asks { OnlyAsks K.Keeper self.old self.new result }
     {
         let known = known_of(&self.roster, self.known.take(), &mut self.keeper)?;
         let list = summaries_in(self.alloc, &known.gathered);
@@ -138,11 +118,7 @@ impl<K: Keeper> Desk<K> {
             → Lists (K.holds self.old.keeper) set
             → IfOk result (λ held. AreParked set (map string_bytes held.parked.items)) }
         ensures err { IfErr result IsWant }
-        ensures unchanged { K.is_up self.new.keeper → K.is_same self.old.keeper self.new.keeper }
-        ensures roster { self.new.roster ≡ self.old.roster }
-        ensures base { self.new.base ≡ self.old.base }
-        ensures served { ServesAnswer K.Keeper self.old.keeper self.new.keeper result }
-        ensures asks { OnlyAsks K.Keeper self.old.keeper self.new.keeper result }
+        ensures asks { OnlyAsks K.Keeper self.old self.new result }
     {
         let known = known_of(&self.roster, self.known.take(), &mut self.keeper)?;
         let held = holdings_in(self.alloc, &known.gathered);
@@ -161,11 +137,7 @@ impl<K: Keeper> Desk<K> {
             → Lists (K.holds self.old.keeper) set
             → IfOk result (λ held. AreParked set (map string_bytes held.parked.items)) }
         ensures err { IfErr result IsWant }
-        ensures unchanged { K.is_up self.new.keeper → K.is_same self.old.keeper self.new.keeper }
-        ensures roster { self.new.roster ≡ self.old.roster }
-        ensures base { self.new.base ≡ self.old.base }
-        ensures served { ServesAnswer K.Keeper self.old.keeper self.new.keeper result }
-        ensures asks { OnlyAsks K.Keeper self.old.keeper self.new.keeper result }
+        ensures asks { OnlyAsks K.Keeper self.old self.new result }
     {
         let mut known = known_of(&self.roster, self.known.take(), &mut self.keeper)?;
         let held = holdings_at(self.alloc, &self.roster, &mut known, at);
@@ -200,11 +172,7 @@ impl<K: Keeper> Desk<K> {
             (λ _. ⊥) (λ e. (e ≡ refusal.UnknownHost) ⊎ (e ≡ refusal.TooManyRules) ⊎ IsWant e) }
         ensures err { IfErr result
             (λ e. (e ≡ refusal.UnknownHost) ⊎ (e ≡ refusal.TooManyRules) ⊎ IsWant e) }
-        ensures unchanged { K.is_up self.new.keeper → K.is_same self.old.keeper self.new.keeper }
-        ensures roster { self.new.roster ≡ self.old.roster }
-        ensures base { self.new.base ≡ self.old.base }
-        ensures served { ServesAnswer K.Keeper self.old.keeper self.new.keeper result }
-        ensures asks { OnlyAsks K.Keeper self.old.keeper self.new.keeper result }
+        ensures asks { OnlyAsks K.Keeper self.old self.new result }
     {
         self.file_of(host, None)
     }
@@ -235,11 +203,7 @@ impl<K: Keeper> Desk<K> {
             (λ e. (e ≡ refusal.UnknownHost) ⊎ (e ≡ refusal.TooManyRules) ⊎ IsWant e) }
         ensures err { IfErr result
             (λ e. (e ≡ refusal.UnknownHost) ⊎ (e ≡ refusal.TooManyRules) ⊎ IsWant e) }
-        ensures unchanged { K.is_up self.new.keeper → K.is_same self.old.keeper self.new.keeper }
-        ensures roster { self.new.roster ≡ self.old.roster }
-        ensures base { self.new.base ≡ self.old.base }
-        ensures served { ServesAnswer K.Keeper self.old.keeper self.new.keeper result }
-        ensures asks { OnlyAsks K.Keeper self.old.keeper self.new.keeper result }
+        ensures asks { OnlyAsks K.Keeper self.old self.new result }
     {
         self.file_of(host, Some(moment))
     }
@@ -262,11 +226,7 @@ impl<K: Keeper> Desk<K> {
             (λ e. (e ≡ refusal.UnknownHost) ⊎ (e ≡ refusal.TooManyRules) ⊎ IsWant e) }
         ensures err { IfErr result
             (λ e. (e ≡ refusal.UnknownHost) ⊎ (e ≡ refusal.TooManyRules) ⊎ IsWant e) }
-        ensures unchanged { K.is_up self.new.keeper → K.is_same self.old.keeper self.new.keeper }
-        ensures roster { self.new.roster ≡ self.old.roster }
-        ensures base { self.new.base ≡ self.old.base }
-        ensures served { ServesAnswer K.Keeper self.old.keeper self.new.keeper result }
-        ensures asks { OnlyAsks K.Keeper self.old.keeper self.new.keeper result }
+        ensures asks { OnlyAsks K.Keeper self.old self.new result }
     {
         if !self.roster.has_host(host) {
             return Err(Refusal::UnknownHost);

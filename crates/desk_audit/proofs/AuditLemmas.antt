@@ -1,5 +1,5 @@
 -- The entries of an audit: all that a map has, each with what it comes to.
-use Rattle.std.proofs.Common.{◌≡◌, ℕ, List, [], ◌∷◌, ◌++◌, map, Option, Some, None, Result, ◌⊎◌, refl, sym, ap, ◌∙◌, subst, inl, inr}
+use Rattle.std.proofs.Common.{◌≡◌, ℕ, List, [], ◌∷◌, ◌++◌, map, Option, Some, None, Result, Ok, ◌⊎◌, refl, sym, ap, ◌∙◌, subst, inl, inr}
 use Rattle.std.specs.List.{AllByRecursion, Contains}
 use Rattle.std.specs.List.Sorted.{IsStrictlySortedBy}
 use Rattle.std.specs.Map.{keys_of}
@@ -22,8 +22,11 @@ use Rattle.roster.specs.Fields.{RosterFields}
 use Rattle.desk_store.specs.Left.{AddsOnly}
 use Rattle.desk_store.specs.Sets.{Lists, SameSet}
 use Rattle.desk_store.specs.declared.keeper.Keeper.{Ghosts}
+use Rattle.desk_store.proofs.ServingLemmas.{served_then}
 use Rattle.desk.specs.Serving.{OnlyAsks}
+use Rattle.desk.specs.State.{DeskState}
 use Rattle.desk.specs.declared.refusal.Refusal.{Refusal}
+use Rattle.desk.proofs.LeftLemmas.{settings_both}
 use Rattle.outcomes.specs.About.{AreAbout}
 use Rattle.outcomes.specs.Outcomes.{ComesTo}
 use Rattle.outcomes.specs.private.ByName.{at_name}
@@ -55,9 +58,17 @@ module _ {K : Type 0} (g : Ghosts K) (a b c : K) where
   adds_both was first second clean left may =
       elim (second clean left may) as (λ _. g.may_leave a left ⊎ ⊥) [ inl before ↦ first (was clean) left before | inr none ↦ absurd none ]
 
-  pub asks_both : {T : Type 0} (r : Result T Refusal) → (g.is_clean c → g.is_clean b)
-      → (g.is_clean b → AddsOnly (g.may_leave a) (g.may_leave b) (λ _. ⊥)) → OnlyAsks g b c r → OnlyAsks g a c r
-  asks_both r was first asks = record { live = asks.live; leaves = adds_both was first asks.leaves }
+-- a question that was answered, and then one that gives the answer
+pub asks_both : {K T U : Type 0} (g : Ghosts K) (a b c : DeskState K) {x : U} (r : Result T Refusal)
+    → (g.is_same a.keeper b.keeper → g.is_same b.keeper c.keeper → g.is_same a.keeper c.keeper)
+    → OnlyAsks g a b (Ok x) → OnlyAsks g b c r → OnlyAsks g a c r
+asks_both g a b c r same_on first second = record {
+  settings = settings_both a b c first.settings second.settings;
+  unchanged = λ up. same_on (first.unchanged (second.served.was_up up)) (second.unchanged up);
+  served = served_then (λ none. absurd none) first.served second.served;
+  live = second.live;
+  leaves = adds_both g a.keeper b.keeper c.keeper second.served.was_clean first.leaves second.leaves;
+}
 
 -- ---- as in the map
 

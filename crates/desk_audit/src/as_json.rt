@@ -1,10 +1,10 @@
 //! What an audit tells of a desk, as one JSON document.
 
-ghost use Rattle.std.specs.Prelude.{◌≡◌, List, IfOk, IfErr, string_bytes};
+ghost use Rattle.std.specs.Prelude.{List, IfOk, IfErr, string_bytes};
 ghost use Rattle.messages.specs.declared.message.Message.{Message as AnyMessage};
 ghost use Rattle.desk_store.specs.Sets.{Lists};
 ghost use Rattle.desk.specs.Refusals.{IsWant};
-ghost use Rattle.desk.specs.Serving.{OnlyAsks, ServesAnswer};
+ghost use Rattle.desk.specs.Serving.{OnlyAsks};
 ghost use Rattle.desk_audit.specs.Documents.{IsAuditText, IsNameText};
 
 use crate::entry::audit;
@@ -21,11 +21,7 @@ pub fn document<K: Keeper>(desk: &mut Desk<K>, pick: &Pick) -> Result<String, Re
         → Lists (K.holds desk.old.keeper) set → IfOk result
         (λ s. IsAuditText desk.old.roster.says set pick.now (string_bytes s)) }
     ensures err { IfErr result IsWant }
-    ensures unchanged { K.is_up desk.new.keeper → K.is_same desk.old.keeper desk.new.keeper }
-    ensures roster { desk.new.roster ≡ desk.old.roster }
-    ensures base { desk.new.base ≡ desk.old.base }
-    ensures served { ServesAnswer K.Keeper desk.old.keeper desk.new.keeper result }
-    ensures asks { OnlyAsks K.Keeper desk.old.keeper desk.new.keeper result }
+    ensures asks { OnlyAsks K.Keeper desk.old desk.new result }
 {
     let entries = pick.among(audit(desk)?);
     let alloc = *entries.allocator();
@@ -42,11 +38,7 @@ pub fn document_of<K: Keeper>(desk: &mut Desk<K>, asker: &str, no: u32) -> Resul
         (λ s. IsNameText desk.old.roster.says set
         (record { by = asker.now; no = no }) (string_bytes s)) }
     ensures err { IfErr result IsWant }
-    ensures unchanged { K.is_up desk.new.keeper → K.is_same desk.old.keeper desk.new.keeper }
-    ensures roster { desk.new.roster ≡ desk.old.roster }
-    ensures base { desk.new.base ≡ desk.old.base }
-    ensures served { ServesAnswer K.Keeper desk.old.keeper desk.new.keeper result }
-    ensures asks { OnlyAsks K.Keeper desk.old.keeper desk.new.keeper result }
+    ensures asks { OnlyAsks K.Keeper desk.old desk.new result }
 {
     let entries = entries_about(desk, asker, no)?;
     let alloc = *entries.allocator();

@@ -1,13 +1,11 @@
 //! What the audit tells about each name.
 
-ghost use Rattle.std.specs.Prelude.{◌≡◌, List, IfOk, IsErr, IfErr, Err};
+ghost use Rattle.std.specs.Prelude.{◌≡◌, List, IfOk, IfErr};
 ghost use Rattle.messages.specs.declared.message.Message.{Message as AnyMessage};
-ghost use Rattle.desk_store.specs.Serves.{Serves};
 ghost use Rattle.desk_store.specs.Sets.{Lists};
 ghost use Rattle.outcomes.specs.Outcomes.{ComesTo};
 ghost use Rattle.desk.specs.Refusals.{IsWant};
-ghost use Rattle.desk.specs.Serving.{OnlyAsks, ServesAnswer};
-ghost use Rattle.desk.specs.declared.refusal.Refusal.TheVariants as refusal;
+ghost use Rattle.desk.specs.Serving.{OnlyAsks};
 ghost use Rattle.desk_audit.specs.Audit.{IsAudit};
 ghost use Rattle.desk_audit.specs.private.ByName.{Gathers};
 ghost use Rattle.desk_audit.specs.private.Entries.{AreEntriesOf};
@@ -29,12 +27,7 @@ fn entry_of<K: Keeper>(
         → IfOk result (λ entry. ComesTo desk.old.roster.says set name entry.status) }
     ensures same { IfOk result (λ entry. (entry.name ≡ name) × (entry.about ≡ about)) }
     ensures err { IfErr result IsWant }
-    ensures unchanged { K.is_up desk.new.keeper → K.is_same desk.old.keeper desk.new.keeper }
-    ensures roster { desk.new.roster ≡ desk.old.roster }
-    ensures base { desk.new.base ≡ desk.old.base }
-    ensures served { Serves K.Keeper desk.old.keeper desk.new.keeper
-        (result ≡ Err refusal.Storage) (IsErr result) }
-    ensures asks { OnlyAsks K.Keeper desk.old.keeper desk.new.keeper result }
+    ensures asks { OnlyAsks K.Keeper desk.old desk.new result }
 {
     let status = desk.status_of(&name)?;
     Ok(AuditEntry {
@@ -54,13 +47,9 @@ pub(crate) fn entries_of<K: Keeper>(
         → K.is_desk desk.old.keeper → Lists (K.holds desk.old.keeper) set → Gathers list all
         → IfOk result (λ entries. AreEntriesOf desk.old.roster.says set list entries.items) }
     ensures err { IfErr result IsWant }
-    ensures unchanged { K.is_up desk.new.keeper → K.is_same desk.old.keeper desk.new.keeper }
-    ensures roster { desk.new.roster ≡ desk.old.roster }
-    ensures base { desk.new.base ≡ desk.old.base }
-    ensures served { Serves K.Keeper desk.old.keeper desk.new.keeper
-        (result ≡ Err refusal.Storage) (IsErr result) }
+    // Without a name the keeper is not asked, and so it is up only if it was.
     ensures asks { (K.is_clean desk.old.keeper → K.is_up desk.old.keeper)
-        → OnlyAsks K.Keeper desk.old.keeper desk.new.keeper result }
+        → OnlyAsks K.Keeper desk.old desk.new result }
 {
     let mut entries = Vec::new(alloc);
     for (name, about) in all {
@@ -80,11 +69,7 @@ pub fn audit<K: Keeper>(desk: &mut Desk<K>) -> Result<Vec<AuditEntry>, Refusal>
         → Lists (K.holds desk.old.keeper) set
         → IfOk result (λ entries. IsAudit desk.old.roster.says set entries.items) }
     ensures err { IfErr result IsWant }
-    ensures unchanged { K.is_up desk.new.keeper → K.is_same desk.old.keeper desk.new.keeper }
-    ensures roster { desk.new.roster ≡ desk.old.roster }
-    ensures base { desk.new.base ≡ desk.old.base }
-    ensures served { ServesAnswer K.Keeper desk.old.keeper desk.new.keeper result }
-    ensures asks { OnlyAsks K.Keeper desk.old.keeper desk.new.keeper result }
+    ensures asks { OnlyAsks K.Keeper desk.old desk.new result }
 {
     let list = desk.messages()?;
     let alloc = *list.allocator();

@@ -4,7 +4,7 @@ ghost use Rattle.std.specs.Prelude.{◌≡◌, List, IfOk, IfErr, filter};
 ghost use Rattle.messages.specs.declared.message.Message.{Message as AnyMessage};
 ghost use Rattle.desk_store.specs.Sets.{Lists};
 ghost use Rattle.desk.specs.Refusals.{IsWant};
-ghost use Rattle.desk.specs.Serving.{OnlyAsks, ServesAnswer};
+ghost use Rattle.desk.specs.Serving.{OnlyAsks};
 ghost use Rattle.desk_audit.specs.Documents.{AreOfName, is_named};
 
 use crate::entry::{audit, entries_of};
@@ -39,11 +39,7 @@ fn entries_in_audit<K: Keeper>(
         → IfOk result (λ entries. AreOfName desk.old.roster.says set
         (record { by = asker.now; no = no }) entries.items) }
     ensures err { IfErr result IsWant }
-    ensures unchanged { K.is_up desk.new.keeper → K.is_same desk.old.keeper desk.new.keeper }
-    ensures roster { desk.new.roster ≡ desk.old.roster }
-    ensures base { desk.new.base ≡ desk.old.base }
-    ensures served { ServesAnswer K.Keeper desk.old.keeper desk.new.keeper result }
-    ensures asks { OnlyAsks K.Keeper desk.old.keeper desk.new.keeper result }
+    ensures asks { OnlyAsks K.Keeper desk.old desk.new result }
 {
     Ok(named_among(audit(desk)?, asker, no))
 }
@@ -60,11 +56,7 @@ pub(crate) fn entries_about<K: Keeper>(
         → IfOk result (λ entries. AreOfName desk.old.roster.says set
         (record { by = asker.now; no = no }) entries.items) }
     ensures err { IfErr result IsWant }
-    ensures unchanged { K.is_up desk.new.keeper → K.is_same desk.old.keeper desk.new.keeper }
-    ensures roster { desk.new.roster ≡ desk.old.roster }
-    ensures base { desk.new.base ≡ desk.old.base }
-    ensures served { ServesAnswer K.Keeper desk.old.keeper desk.new.keeper result }
-    ensures asks { OnlyAsks K.Keeper desk.old.keeper desk.new.keeper result }
+    ensures asks { OnlyAsks K.Keeper desk.old desk.new result }
 {
     let told = desk.messages_about(asker, no)?;
     match told {

@@ -11,7 +11,7 @@ ghost use Rattle.desk_store.specs.Serves.{Serves};
 ghost use Rattle.desk_store.specs.Sets.{Lists};
 ghost use Rattle.outcomes.specs.HostFile.{AreLines, Line};
 ghost use Rattle.desk.specs.Refusals.{IsWant};
-ghost use Rattle.desk.specs.Serving.{ServesAnswer};
+ghost use Rattle.desk.specs.Serving.{OnlyAsks};
 ghost use Rattle.desk.specs.declared.refusal.Refusal.TheVariants as refusal;
 ghost use Rattle.desk_commands.specs.Kept.{kept_by};
 ghost use Rattle.desk_commands.specs.Leaving.{LeavesTaken, SaysTaking};
@@ -43,9 +43,7 @@ fn file_of<K: Keeper>(
     ensures rights { (set : List Message) → K.is_up desk.new.keeper
         → Lists (K.holds desk.old.keeper) set → IfOk result
         (λ s. HasRights desk.old.roster.says desk.old.base set host.now after (string_bytes s)) }
-    ensures same { K.is_up desk.new.keeper → K.is_same desk.old.keeper desk.new.keeper }
-    ensures roster { desk.new.roster ≡ desk.old.roster }
-    ensures served { ServesAnswer K.Keeper desk.old.keeper desk.new.keeper result }
+    ensures asks { OnlyAsks K.Keeper desk.old desk.new result }
     ensures unknown { (result ≡ Err refusal.UnknownHost)
         ↔ (is_among desk.old.roster.says.hosts host.now ≡ false) }
     ensures few { (set : List Message) (lines : List Line) → K.is_up desk.new.keeper

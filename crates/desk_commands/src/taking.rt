@@ -5,6 +5,7 @@ ghost use Rattle.std.specs.Prelude.{◌≡◌, ◌++◌, ℕ, List, Contains, Er
 ghost use Rattle.std.specs.Prelude.{IfOk, IsErrAnd, OnOk, string_bytes};
 ghost use Rattle.std.specs.Io.KnownBytes.{Appends};
 ghost use Rattle.desk.specs.Refusals.{IsWant};
+ghost use Rattle.desk.specs.Serving.{KeepsSettings};
 ghost use Rattle.desk.specs.declared.refusal.Refusal.TheVariants as refusals;
 ghost use Rattle.desk_store.specs.Keeping.{HasFailed};
 ghost use Rattle.desk_store.specs.Serves.{Serves};
@@ -111,8 +112,7 @@ fn take_lines<K: Keeper, R: Read, E: Write>(
         (R.remaining input.old) (E.contents err.old) (E.contents err.new)) }
     ensures left { K.is_up desk.new.keeper → AreSomeTaken desk.old.roster.says
         (R.remaining input.old) (K.holds desk.old.keeper) (K.holds desk.new.keeper) }
-    ensures roster { desk.new.roster ≡ desk.old.roster }
-    ensures base { desk.new.base ≡ desk.old.base }
+    ensures settings { KeepsSettings desk.old desk.new }
     ensures served { Serves K.Keeper desk.old.keeper desk.new.keeper ⊥ (IsErrAnd result IsWanting) }
 {
     let lines = read_lines(alloc, desk.roster().first_relay().as_str(), input)?;
@@ -143,8 +143,7 @@ pub fn take_input<K: Keeper, R: Read, E: Write>(
         (R.remaining input.old) (K.holds desk.old.keeper) (K.holds desk.new.keeper) }
     // For a desk that a database keeps, nothing is read.
     ensures unread { (store.now ≡ stores.Memory → ⊥) → input.new ≡ input.old }
-    ensures roster { desk.new.roster ≡ desk.old.roster }
-    ensures base { desk.new.base ≡ desk.old.base }
+    ensures settings { KeepsSettings desk.old desk.new }
     ensures served { Serves K.Keeper desk.old.keeper desk.new.keeper ⊥ (IsErrAnd result IsWanting) }
 {
     match store {

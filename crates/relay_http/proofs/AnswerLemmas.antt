@@ -19,7 +19,6 @@ use Rattle.desk_store.specs.Serving.{IsServed}
 use Rattle.desk_store.specs.declared.keeper.Keeper.{Ghosts}
 use Rattle.desk_store.proofs.ServingLemmas.{served_as}
 use Rattle.desk.specs.Refusals.{IsWant}
-use Rattle.desk.specs.Serving.{OnlyAsks}
 use Rattle.desk.specs.declared.ack.Ack.{Ack}
 use Rattle.desk.specs.declared.refusal.Refusal.{Refusal}
 use Rattle.desk.specs.declared.refusal.Refusal.TheVariants.{UnknownRelay, UnknownHost, TooLong, NotCanonical, BadField, Denied, TooManyRules}
@@ -168,11 +167,12 @@ not_done BaseTooLarge P is = absurd cc
 
 module _ {K : Type 0} (g : Ghosts K) (f : RosterFields Cmnd) (roster : List ℕ) (a b : K) where
   -- a question's response
-  pub text_lasts : (action : Action ℕ) (r : Result (String Global) Refusal) → OnlyAsks g a b r
+  pub text_lasts : (action : Action ℕ) (r : Result (String Global) Refusal)
+      → (g.is_clean b → MatchResult r (λ _. g.is_up b) (λ e. IsWant e ⊎ (e ≡ UnknownHost) ⊎ g.is_up b))
       → (g.is_clean b → AddsOnly (g.may_leave a) (g.may_leave b) (IsAddedBy (g.is_up a) f roster (g.holds a) action))
       → Lasts g f roster a b action (to_question r)
-  text_lasts action (Ok s) asks leaves = record { live = λ clean done. asks.live clean; leaves = leaves }
-  text_lasts action (Err e) asks leaves = record { live = λ clean done. not_done e (g.is_up b) done; leaves = leaves }
+  text_lasts action (Ok s) live leaves = record { live = λ clean done. live clean; leaves = leaves }
+  text_lasts action (Err e) live leaves = record { live = λ clean done. not_done e (g.is_up b) done; leaves = leaves }
 
   -- a delivery's response
   pub delivery_lasts : (relay body : List ℕ) (r : Result Ack Refusal) → (g.is_clean b → OnOk r (g.is_up b))

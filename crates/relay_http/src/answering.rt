@@ -1,7 +1,7 @@
 //! The desk's answers to the actions of requests.
 
-ghost use Rattle.std.specs.Prelude.{◌≡◌};
 ghost use Rattle.desk_store.specs.Serves.{Serves};
+ghost use Rattle.desk.specs.Serving.{KeepsSettings};
 ghost use Rattle.relay_http.specs.Request.{all_messages, action_of, count, deliver, grants};
 ghost use Rattle.relay_http.specs.Request.{host_file, host_file_after, named_request, parked};
 ghost use Rattle.relay_http.specs.Request.{report, requests, requests_after};
@@ -27,8 +27,7 @@ fn delivered<K: Keeper>(desk: &mut Desk<K>, relay: &str, body: &[u8]) -> Prepare
     ensures lasts { Lasts K.Keeper desk.old.roster.says desk.old.roster.text
         desk.old.keeper desk.new.keeper (deliver relay.now body.now) (response_of result) }
     ensures told { TellsRefusal result.refusal (response_of result) }
-    ensures roster { desk.new.roster ≡ desk.old.roster }
-    ensures base { desk.new.base ≡ desk.old.base }
+    ensures settings { KeepsSettings desk.old desk.new }
 {
     to_delivery(desk.deliver(relay, body))
 }
@@ -41,8 +40,7 @@ fn all_messages<K: Keeper>(alloc: Global, desk: &mut Desk<K>) -> Result<String, 
         (Serves K.Keeper desk.old.keeper desk.new.keeper) all_messages (to_question result) }
     ensures lasts { Lasts K.Keeper desk.old.roster.says desk.old.roster.text
         desk.old.keeper desk.new.keeper all_messages (to_question result) }
-    ensures roster { desk.new.roster ≡ desk.old.roster }
-    ensures base { desk.new.base ≡ desk.old.base }
+    ensures settings { KeepsSettings desk.old desk.new }
 {
     match desk.texts() {
         Ok(texts) => match lines_text(alloc, &texts) {
@@ -61,8 +59,7 @@ fn count<K: Keeper>(alloc: Global, desk: &mut Desk<K>) -> Result<String, Refusal
         (Serves K.Keeper desk.old.keeper desk.new.keeper) count (to_question result) }
     ensures lasts { Lasts K.Keeper desk.old.roster.says desk.old.roster.text
         desk.old.keeper desk.new.keeper count (to_question result) }
-    ensures roster { desk.new.roster ≡ desk.old.roster }
-    ensures base { desk.new.base ≡ desk.old.base }
+    ensures settings { KeepsSettings desk.old desk.new }
 {
     match desk.count() {
         Ok(messages) => match count_text(alloc, messages, desk.roster().text(), desk.base()) {
@@ -81,8 +78,7 @@ fn requests<K: Keeper>(desk: &mut Desk<K>) -> Result<String, Refusal>
         (Serves K.Keeper desk.old.keeper desk.new.keeper) requests (to_question result) }
     ensures lasts { Lasts K.Keeper desk.old.roster.says desk.old.roster.text
         desk.old.keeper desk.new.keeper requests (to_question result) }
-    ensures roster { desk.new.roster ≡ desk.old.roster }
-    ensures base { desk.new.base ≡ desk.old.base }
+    ensures settings { KeepsSettings desk.old desk.new }
 {
     desk_audit::document(desk, &Pick::all())
 }
@@ -95,8 +91,7 @@ fn requests_after<K: Keeper>(desk: &mut Desk<K>, at: Moment) -> Result<String, R
         (Serves K.Keeper desk.old.keeper desk.new.keeper) (requests_after at) (to_question result) }
     ensures lasts { Lasts K.Keeper desk.old.roster.says desk.old.roster.text
         desk.old.keeper desk.new.keeper (requests_after at) (to_question result) }
-    ensures roster { desk.new.roster ≡ desk.old.roster }
-    ensures base { desk.new.base ≡ desk.old.base }
+    ensures settings { KeepsSettings desk.old desk.new }
 {
     desk_audit::document(desk, &Pick::after(at))
 }
@@ -109,8 +104,7 @@ fn named_request<K: Keeper>(desk: &mut Desk<K>, asker: &str, no: u32) -> Result<
         desk.new.keeper) (named_request asker.now no) (to_question result) }
     ensures lasts { Lasts K.Keeper desk.old.roster.says desk.old.roster.text
         desk.old.keeper desk.new.keeper (named_request asker.now no) (to_question result) }
-    ensures roster { desk.new.roster ≡ desk.old.roster }
-    ensures base { desk.new.base ≡ desk.old.base }
+    ensures settings { KeepsSettings desk.old desk.new }
 {
     desk_audit::document_of(desk, asker, no)
 }
@@ -123,8 +117,7 @@ fn live<K: Keeper>(alloc: Global, desk: &mut Desk<K>, at: Moment) -> Result<Stri
         (Serves K.Keeper desk.old.keeper desk.new.keeper) (grants at) (to_question result) }
     ensures lasts { Lasts K.Keeper desk.old.roster.says desk.old.roster.text
         desk.old.keeper desk.new.keeper (grants at) (to_question result) }
-    ensures roster { desk.new.roster ≡ desk.old.roster }
-    ensures base { desk.new.base ≡ desk.old.base }
+    ensures settings { KeepsSettings desk.old desk.new }
 {
     match desk.live_at(at) {
         Ok(list) => match live_text(alloc, &list) {
@@ -143,8 +136,7 @@ fn parked<K: Keeper>(alloc: Global, desk: &mut Desk<K>) -> Result<String, Refusa
         (Serves K.Keeper desk.old.keeper desk.new.keeper) parked (to_question result) }
     ensures lasts { Lasts K.Keeper desk.old.roster.says desk.old.roster.text
         desk.old.keeper desk.new.keeper parked (to_question result) }
-    ensures roster { desk.new.roster ≡ desk.old.roster }
-    ensures base { desk.new.base ≡ desk.old.base }
+    ensures settings { KeepsSettings desk.old desk.new }
 {
     match desk.parked() {
         Ok(texts) => match lines_text(alloc, &texts) {
@@ -163,8 +155,7 @@ fn host_file<K: Keeper>(alloc: Global, desk: &mut Desk<K>, host: &str) -> Result
         desk.old.keeper desk.new.keeper) (host_file host.now) (to_question result) }
     ensures lasts { Lasts K.Keeper desk.old.roster.says desk.old.roster.text
         desk.old.keeper desk.new.keeper (host_file host.now) (to_question result) }
-    ensures roster { desk.new.roster ≡ desk.old.roster }
-    ensures base { desk.new.base ≡ desk.old.base }
+    ensures settings { KeepsSettings desk.old desk.new }
 {
     match HostName::read(alloc, host) {
         Ok(host) => desk.host_file(&host),
@@ -186,8 +177,7 @@ fn host_file_after<K: Keeper>(
         desk.new.keeper) (host_file_after host.now at) (to_question result) }
     ensures lasts { Lasts K.Keeper desk.old.roster.says desk.old.roster.text
         desk.old.keeper desk.new.keeper (host_file_after host.now at) (to_question result) }
-    ensures roster { desk.new.roster ≡ desk.old.roster }
-    ensures base { desk.new.base ≡ desk.old.base }
+    ensures settings { KeepsSettings desk.old desk.new }
 {
     match HostName::read(alloc, host) {
         Ok(host) => desk.host_file_after(&host, at),
@@ -204,8 +194,7 @@ fn report<K: Keeper>(desk: &mut Desk<K>, at: Moment) -> Result<String, Refusal>
         (Serves K.Keeper desk.old.keeper desk.new.keeper) (report at) (to_question result) }
     ensures lasts { Lasts K.Keeper desk.old.roster.says desk.old.roster.text
         desk.old.keeper desk.new.keeper (report at) (to_question result) }
-    ensures roster { desk.new.roster ≡ desk.old.roster }
-    ensures base { desk.new.base ≡ desk.old.base }
+    ensures settings { KeepsSettings desk.old desk.new }
 {
     review::report(desk, at)
 }
@@ -224,8 +213,7 @@ pub fn answered<K: Keeper>(
     ensures lasts { Lasts K.Keeper desk.old.roster.says desk.old.roster.text
         desk.old.keeper desk.new.keeper (action_of action.entry) (response_of result) }
     ensures told { TellsRefusal result.refusal (response_of result) }
-    ensures roster { desk.new.roster ≡ desk.old.roster }
-    ensures base { desk.new.base ≡ desk.old.base }
+    ensures settings { KeepsSettings desk.old desk.new }
 {
     match action {
         Action::Deliver { relay, body } => delivered(desk, relay, body),

@@ -2,6 +2,7 @@
 
 ghost use Rattle.std.specs.Prelude.{◌≡◌, ℕ};
 ghost use Rattle.desk_store.specs.Serves.{Serves};
+ghost use Rattle.desk.specs.Serving.{KeepsSettings};
 ghost use Rattle.relay_http.specs.Request.{Request};
 ghost use Rattle.relay_http.specs.Exchange.{IsPrepared};
 ghost use Rattle.relay_http.specs.Lasting.{LastsWith};
@@ -43,8 +44,7 @@ impl Exchange {
         ensures lasts { (request : Request ℕ) × IsHttpRequest self.now.bytes request
             × LastsWith K.Keeper desk.old.roster.says desk.old.roster.text desk.old.keeper
             desk.new.keeper (λ bytes. result.rest ≡ bytes) request }
-        ensures roster { desk.new.roster ≡ desk.old.roster }
-        ensures base { desk.new.base ≡ desk.old.base }
+        ensures settings { KeepsSettings desk.old desk.new }
     {
         let request = self.request(routes);
         let answer = answered(alloc, desk, request.action);

@@ -4,6 +4,7 @@ ghost use Rattle.std.specs.Prelude.{◌≡◌, ◌≢◌, ◌⊎◌, ℕ, Err, I
 ghost use Rattle.httparse.specs.Grammar.{RequestHead};
 ghost use Rattle.desk_store.specs.Keeping.{HasFailed};
 ghost use Rattle.desk_store.specs.Serves.{Serves};
+ghost use Rattle.desk.specs.Serving.{KeepsSettings};
 ghost use Rattle.relay_http.specs.Request.{Request};
 ghost use Rattle.relay_http.specs.Counting.{one_failure};
 ghost use Rattle.relay_http.specs.Exchange.{HasResponded, IsAcknowledged, IsExchange};
@@ -76,8 +77,7 @@ fn respond_to<K: Keeper, W: Write>(
         (W.contents writer.new.inner) result response) request }
     ensures counted { MatchResult result (λ _. writer.new.failures ≡ writer.old.failures)
         (λ _. writer.new.failures ≡ one_failure writer.old.failures) }
-    ensures roster { desk.new.roster ≡ desk.old.roster }
-    ensures base { desk.new.base ≡ desk.old.base }
+    ensures settings { KeepsSettings desk.old desk.new }
 {
     let mut response = exchange.answer(alloc, routes, desk);
     send_all(&mut response.rest, writer, buffer)
@@ -130,8 +130,7 @@ pub fn serve_one<K: Keeper, R: Read, W: Write>(
     // At Ok no read and no write failed, not even one that was tried again.
     ensures unfailing { OnOk result ((reader.new.failures ≡ reader.old.failures)
         × (writer.new.failures ≡ writer.old.failures)) }
-    ensures roster { desk.new.roster ≡ desk.old.roster }
-    ensures base { desk.new.base ≡ desk.old.base }
+    ensures settings { KeepsSettings desk.old desk.new }
     // The keeper is up then, unless a response of K4 or K5 was written, or a beginning of it.
     ensures served { Serves K.Keeper desk.old.keeper desk.new.keeper ⊥ (WritesServerFailure
         (λ bytes. Sends (W.contents writer.old.inner) (W.contents writer.new.inner) result bytes)) }

@@ -1,10 +1,10 @@
 //! The report of a desk.
 
-ghost use Rattle.std.specs.Prelude.{◌≡◌, List, IfOk, IfErr, string_bytes};
+ghost use Rattle.std.specs.Prelude.{List, IfOk, IfErr, string_bytes};
 ghost use Rattle.messages.specs.declared.message.Message.{Message as AnyMessage};
 ghost use Rattle.desk_store.specs.Sets.{Lists};
 ghost use Rattle.desk.specs.Refusals.{IsWant};
-ghost use Rattle.desk.specs.Serving.{OnlyAsks, ServesAnswer};
+ghost use Rattle.desk.specs.Serving.{OnlyAsks};
 ghost use Rattle.review.specs.Report.{IsReport};
 
 use crate::reporting::report_of;
@@ -22,11 +22,7 @@ pub fn report<K: Keeper>(desk: &mut Desk<K>, at: Moment) -> Result<String, Refus
         → Lists (K.holds desk.old.keeper) set
         → IfOk result (λ s. IsReport desk.old.roster.says desk.old.base set at (string_bytes s)) }
     ensures err { IfErr result IsWant }
-    ensures unchanged { K.is_up desk.new.keeper → K.is_same desk.old.keeper desk.new.keeper }
-    ensures roster { desk.new.roster ≡ desk.old.roster }
-    ensures base { desk.new.base ≡ desk.old.base }
-    ensures served { ServesAnswer K.Keeper desk.old.keeper desk.new.keeper result }
-    ensures asks { OnlyAsks K.Keeper desk.old.keeper desk.new.keeper result }
+    ensures asks { OnlyAsks K.Keeper desk.old desk.new result }
 {
     let Holdings { summaries, parked } = desk.holdings_at(at)?;
     let alloc = *summaries.allocator();

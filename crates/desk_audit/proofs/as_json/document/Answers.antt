@@ -13,7 +13,7 @@ returns-clause-document g c = λ set up lists.
     let pick = c.args.pick.now in
     let text = string_bytes c.in_ok-json.field-0 in
     let told = c.deref.ensures.value ∙ c.among-entries.ensures.told in
-    let roster = c.roster.ensures ∙ answer.roster in
+    let roster = c.roster.ensures ∙ answer.asks.settings.roster in
     record {
       entries = entries;
       audit = answer.audit set up lists;

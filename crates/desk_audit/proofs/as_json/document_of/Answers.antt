@@ -11,7 +11,7 @@ returns-clause-document g c = λ set up lists.
     let answer = c.in_ok-entries.ensures in
     let entries = c.in_ok-entries.entries.items in
     let text = string_bytes c.in_ok-json.field-0 in
-    let roster = c.roster.ensures ∙ answer.roster in
+    let roster = c.roster.ensures ∙ answer.asks.settings.roster in
     record {
       entries = entries;
       of_name = answer.of_name set up lists;

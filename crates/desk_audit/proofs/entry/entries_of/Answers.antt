@@ -1,12 +1,12 @@
-use Rattle.std.proofs.Common.{◌≡◌, ◌∙◌, List, ◌++◌, inl, map, refl, rules, subst, sym}
+use Rattle.std.proofs.Common.{◌≡◌, List, ◌++◌, inl, map, refl, rules, subst, sym}
 use Rattle.std.specs.List.{AllByRecursion}
 use Rattle.messages.specs.declared.request_name.RequestName.{RequestName}
 use Rattle.roster.specs.Fields.{Reading}
 use Rattle.desk_store.proofs.OutcomeLemmas.{ok_no_err}
-use Rattle.desk_store.proofs.ServingLemmas.{served_as, served_at_ok, served_by_none, served_then}
+use Rattle.desk_store.proofs.ServingLemmas.{served_as, served_by_none, served_then}
 use Rattle.outcomes.specs.Outcomes.{ComesTo}
 use Rattle.findings.specs.declared.entry.AuditEntry.{AuditEntry}
-use Rattle.desk.proofs.LeftLemmas.{asks_want}
+use Rattle.desk.proofs.LeftLemmas.{asks_want, settings_both}
 use Rattle.desk_audit.proofs.AuditLemmas.{adds_both, are_entries, keyed, keyed_is, lists_same, one_status_more, split_ends, split_once_more}
 use Rattle.desk_audit.proofs.entry.entries_of.Goals as goal
 
@@ -22,8 +22,7 @@ loop-name-init g c =
       same = λ up. g.met.K.Keeper.same_itself old.keeper;
       live = λ live. live;
       leaves = λ clean left may. inl may;
-      roster = refl;
-      base = refl;
+      settings = record { roster = refl; base = refl };
       served = served_by_none old.keeper ⊥ ⊥ (λ none. none);
     }
 
@@ -42,19 +41,18 @@ loop-name-preserved g c =
       split = split_once_more entries c.push.new.self.items entry _ c.loop-name.name-iterator c.next.new.self c.args.all.entries c.in_ok-push.ensures.items
           (keyed_is entry _ _ done.same.0 done.same.1) c.in-Some.ensures.steps kept.split;
       told = λ set up first_desk lists.
-          let was_up = done.served.was_up up in
+          let was_up = done.asks.served.was_up up in
           let same = kept.same was_up in
           let still = lists_same (K.holds old.keeper) (K.holds mid.keeper) set (law.stays_set old.keeper mid.keeper same first_desk) lists in
           let P : AuditEntry → Type 0 = λ e. ComesTo old.roster.says set e.name e.status in
           let F : Reading → Type 0 = λ r. ComesTo r.says set entry.name entry.status in
           one_status_more P entries c.push.new.self.items entry c.in_ok-push.ensures.items (kept.told set was_up first_desk lists)
-          (subst F kept.roster (subst (λ (n : RequestName). ComesTo mid.roster.says set n entry.status) (sym done.same.0) (done.status set up still)));
-      same = λ up. law.same_on old.keeper mid.keeper new.keeper (kept.same (done.served.was_up up)) (done.unchanged up);
+          (subst F kept.settings.roster (subst (λ (n : RequestName). ComesTo mid.roster.says set n entry.status) (sym done.same.0) (done.status set up still)));
+      same = λ up. law.same_on old.keeper mid.keeper new.keeper (kept.same (done.asks.served.was_up up)) (done.asks.unchanged up);
       live = λ live. done.asks.live;
-      leaves = adds_both K old.keeper mid.keeper new.keeper done.served.was_clean kept.leaves done.asks.leaves;
-      roster = done.roster ∙ kept.roster;
-      base = done.base ∙ kept.base;
-      served = served_then (λ none. none) kept.served (served_at_ok ⊥ ⊥ (λ none. none) done.served);
+      leaves = adds_both K old.keeper mid.keeper new.keeper done.asks.served.was_clean kept.leaves done.asks.leaves;
+      settings = settings_both old mid new kept.settings done.asks.settings;
+      served = served_then (λ none. none) kept.served (served_as ⊥ ⊥ (λ none. absurd none) (λ none. none) done.asks.served);
     }
 
 pub returns-in_err-entry : goal.returns-in_err-entry
@@ -65,16 +63,13 @@ returns-in_err-entry g c =
     let new = c.entry_of.new.desk in
     let kept = c.loop-name.invariant in
     let done = c.in_err-entry.ensures in
-    let served = served_then (λ none. absurd none) kept.served done.served in
+    let served = served_then (λ none. absurd none) kept.served done.asks.served in
     record {
       told = search rules;
       err = search rules;
-      unchanged = λ up. g.met.K.Keeper.same_on old.keeper mid.keeper new.keeper (kept.same (done.served.was_up up)) (done.unchanged up);
-      roster = done.roster ∙ kept.roster;
-      base = done.base ∙ kept.base;
-      served = search rules;
-      asks = λ live. asks_want K old.keeper new.keeper _ (search rules)
-          (adds_both K old.keeper mid.keeper new.keeper done.served.was_clean kept.leaves done.asks.leaves);
+      asks = λ live. asks_want K old new _ (search rules) (settings_both old mid new kept.settings done.asks.settings)
+          (λ up. g.met.K.Keeper.same_on old.keeper mid.keeper new.keeper (kept.same (done.asks.served.was_up up)) (done.asks.unchanged up))
+          (search rules) (adds_both K old.keeper mid.keeper new.keeper done.asks.served.was_clean kept.leaves done.asks.leaves);
     }
 
 pub returns-in_err-push : goal.returns-in_err-push
@@ -85,16 +80,13 @@ returns-in_err-push g c =
     let new = c.entry_of.new.desk in
     let kept = c.loop-name.invariant in
     let done = c.in_ok-entry.ensures in
-    let served = served_then (λ none. none) kept.served (served_at_ok ⊥ ⊥ (λ none. none) done.served) in
+    let served = served_then (λ none. none) kept.served (served_as ⊥ ⊥ (λ none. absurd none) (λ none. none) done.asks.served) in
     record {
       told = search rules;
       err = search rules;
-      unchanged = λ up. g.met.K.Keeper.same_on old.keeper mid.keeper new.keeper (kept.same (done.served.was_up up)) (done.unchanged up);
-      roster = done.roster ∙ kept.roster;
-      base = done.base ∙ kept.base;
-      served = search rules;
-      asks = λ live. asks_want K old.keeper new.keeper _ (search rules)
-          (adds_both K old.keeper mid.keeper new.keeper done.served.was_clean kept.leaves done.asks.leaves);
+      asks = λ live. asks_want K old new _ (search rules) (settings_both old mid new kept.settings done.asks.settings)
+          (λ up. g.met.K.Keeper.same_on old.keeper mid.keeper new.keeper (kept.same (done.asks.served.was_up up)) (done.asks.unchanged up))
+          (search rules) (adds_both K old.keeper mid.keeper new.keeper done.asks.served.was_clean kept.leaves done.asks.leaves);
     }
 
 pub returns : goal.returns
@@ -104,9 +96,11 @@ returns g c =
       told = λ set list up is_desk lists gathers. are_entries c.args.desk.now.roster.says set list c.args.all gathers c.loop-name.entries.items (split_ends
           c.loop-name.entries.items c.loop-name.name-iterator c.args.all.entries c.in-None.ensures.steps.0 kept.split) (kept.told set up is_desk lists);
       err = search rules;
-      unchanged = kept.same;
-      roster = kept.roster;
-      base = kept.base;
-      served = served_as _ _ (λ is. ok_no_err _ _ is) (λ none. absurd none) kept.served;
-      asks = λ live. record { live = kept.live live; leaves = kept.leaves };
+      asks = λ live. record {
+        settings = kept.settings;
+        unchanged = kept.same;
+        served = served_as _ _ (λ is. ok_no_err _ _ is) (λ none. absurd none) kept.served;
+        live = kept.live live;
+        leaves = kept.leaves;
+      };
     }

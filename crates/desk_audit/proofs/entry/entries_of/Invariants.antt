@@ -5,6 +5,7 @@ use Rattle.desk_store.specs.Left.{AddsOnly}
 use Rattle.desk_store.specs.Serving.{IsServed}
 use Rattle.desk_store.specs.Sets.{Lists}
 use Rattle.outcomes.specs.Outcomes.{ComesTo}
+use Rattle.desk.specs.Serving.{KeepsSettings}
 use Rattle.desk_audit.proofs.AuditLemmas.{keyed}
 use Rattle.desk_audit.proofs.entry.entries_of.Given as goal
 
@@ -16,7 +17,6 @@ invariant-loop-name g l = record {
   same : g.K.Keeper.is_up l.desk.keeper → g.K.Keeper.is_same l.fn.desk.keeper l.desk.keeper;
   live : (g.K.Keeper.is_clean l.fn.desk.keeper → g.K.Keeper.is_up l.fn.desk.keeper) → g.K.Keeper.is_clean l.desk.keeper → g.K.Keeper.is_up l.desk.keeper;
   leaves : g.K.Keeper.is_clean l.desk.keeper → AddsOnly (g.K.Keeper.may_leave l.fn.desk.keeper) (g.K.Keeper.may_leave l.desk.keeper) (λ _. ⊥);
-  roster : l.desk.roster ≡ l.fn.desk.roster;
-  base : l.desk.base ≡ l.fn.desk.base;
+  settings : KeepsSettings l.fn.desk l.desk;
   served : IsServed g.K.Keeper.is_up g.K.Keeper.is_clean g.K.Keeper.failures g.K.Keeper.beside l.fn.desk.keeper l.desk.keeper ⊥ ⊥;
 }

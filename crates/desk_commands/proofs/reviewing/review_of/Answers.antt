@@ -22,17 +22,17 @@ returns-in-Ok-clause-found g c =
     let mid = c.take_input.new.desk in
     let new = c.report.new.desk in
     let taking = c.in_ok-take_input.ensures.taken in
-    let same_roster : mid.roster ≡ old.roster = c.in_ok-take_input.ensures.roster in
-    let same_base : mid.base ≡ old.base = c.in_ok-take_input.ensures.base in
+    let same_roster : mid.roster ≡ old.roster = c.in_ok-take_input.ensures.settings.roster in
+    let same_base : mid.base ≡ old.base = c.in_ok-take_input.ensures.settings.base in
     let taken : Takes c.args.store.now mid.roster.says input taking.0 taking.1 =
     subst (λ (r : Reading). Takes c.args.store.now r.says input taking.0 taking.1) (sym same_roster) taking.2 in
     let held : K.is_up mid.keeper → SameSet (HeldWith mid.roster.says taking.0 (K.holds old.keeper)) (K.holds mid.keeper) =
     subst (λ (r : Reading). K.is_up mid.keeper → SameSet (HeldWith r.says taking.0 (K.holds old.keeper)) (K.holds mid.keeper)) (sym same_roster) taking.4 in
     let of_mid = reviews mid.roster.says mid.base c.args.store.now input (K.holds old.keeper) (K.holds mid.keeper) (K.holds new.keeper)
     (K.is_up new.keeper × K.is_desk new.keeper) (K.is_up new.keeper) (K.is_up mid.keeper) taking.0 taking.1 taken held c.args.at
-    (string_bytes c.in-Ok.text) (λ known. known.0) c.report.ensures.served.was_up
+    (string_bytes c.in-Ok.text) (λ known. known.0) c.report.ensures.asks.served.was_up
     (λ set up lists. c.in-Ok.ensures.report set up lists)
-    (λ known. let same = c.report.ensures.unchanged known.0 in
+    (λ known. let same = c.report.ensures.asks.unchanged known.0 in
     laws.stays_set mid.keeper new.keeper same (laws.stays_desk new.keeper mid.keeper (laws.same_back mid.keeper new.keeper same) known.1)) in (
       taking.1,
       subst (λ (b : List Entry). ReviewsDesk old.roster.says b c.args.store.now c.args.at (K.holds old.keeper) (K.holds new.keeper)
@@ -45,7 +45,7 @@ returns-in-Ok-clause-found g c =
 pub returns-in-Err-clause-cause : goal.returns-in-Err-clause-cause
 returns-in-Err-clause-cause g c =
     wants_end_report c.args.store.now (HasFailed (g.K.Keeper.failures c.args.desk.now.keeper) (g.K.Keeper.failures c.report.new.desk.keeper)) c.in-Err.refusal
-    c.in-Err.ensures.err (λ storage. failed_later _ _ _ c.take_input.ensures.served.counts (c.report.ensures.served.cause (c.in-Err.is ∙ ap Err storage)))
+    c.in-Err.ensures.err (λ storage. failed_later _ _ _ c.take_input.ensures.served.counts (c.report.ensures.asks.served.cause (c.in-Err.is ∙ ap Err storage)))
 
 pub returns-in-Ok-clause-left : goal.returns-in-Ok-clause-left
 returns-in-Ok-clause-left g c = λ up desk.
@@ -54,9 +54,9 @@ returns-in-Ok-clause-left g c = λ up desk.
     let old = c.args.desk.now in
     let mid = c.take_input.new.desk in
     let new = c.report.new.desk in
-    let same = c.report.ensures.unchanged up in
+    let same = c.report.ensures.asks.unchanged up in
     taken_stay old.roster.says (g.R.Read.remaining c.args.input.now) c.args.store.now (K.holds old.keeper) (K.holds mid.keeper) (K.holds new.keeper)
-    (c.take_input.ensures.left (c.report.ensures.served.was_up up))
+    (c.take_input.ensures.left (c.report.ensures.asks.served.was_up up))
     (laws.stays_set mid.keeper new.keeper same (laws.stays_desk new.keeper mid.keeper (laws.same_back mid.keeper new.keeper same) desk))
 
 pub returns-in-Err-clause-left : goal.returns-in-Err-clause-left
@@ -66,9 +66,9 @@ returns-in-Err-clause-left g c = λ up desk.
     let old = c.args.desk.now in
     let mid = c.take_input.new.desk in
     let new = c.report.new.desk in
-    let same = c.report.ensures.unchanged up in
+    let same = c.report.ensures.asks.unchanged up in
     taken_stay old.roster.says (g.R.Read.remaining c.args.input.now) c.args.store.now (K.holds old.keeper) (K.holds mid.keeper) (K.holds new.keeper)
-    (c.take_input.ensures.left (c.report.ensures.served.was_up up))
+    (c.take_input.ensures.left (c.report.ensures.asks.served.was_up up))
     (laws.stays_set mid.keeper new.keeper same (laws.stays_desk new.keeper mid.keeper (laws.same_back mid.keeper new.keeper same) desk))
 
 pub returns-in-Err-clause-said : goal.returns-in-Err-clause-said
@@ -86,8 +86,8 @@ returns-in_err-take_input-clause-served g c =
 
 pub returns-in-Ok-clause-served : goal.returns-in-Ok-clause-served
 returns-in-Ok-clause-served g c =
-    served_then (λ none. absurd none) c.in_ok-take_input.ensures.served (served_as ⊥ ⊥ (λ none. absurd none) (λ none. none) c.in-Ok.ensures.served)
+    served_then (λ none. absurd none) c.in_ok-take_input.ensures.served (served_as ⊥ ⊥ (λ none. absurd none) (λ none. none) c.in-Ok.ensures.asks.served)
 
 pub returns-in-Err-clause-served : goal.returns-in-Err-clause-served
 returns-in-Err-clause-served g c =
-    served_then (λ none. absurd none) c.in_ok-take_input.ensures.served (served_as ⊥ _ (λ none. absurd none) (λ want. want) c.in-Err.ensures.served)
+    served_then (λ none. absurd none) c.in_ok-take_input.ensures.served (served_as ⊥ _ (λ none. absurd none) (λ want. want) c.in-Err.ensures.asks.served)

@@ -20,12 +20,12 @@ returns-in-Ok-clause-answered g c =
           (λ (h : List ℕ). IsResponse roster base set (host_file h) (to_question c.host_file.result) ⊎ IsServerFailure (to_question c.host_file.result))
           found.0 (file_right (λ lines. lines) f base set c.in-Ok.host c.host_file.result name (left_whole f base set c.in-Ok.host c.host_file.result
           (done.file set up lists)) (λ ls. done.few set ls up lists) (λ ls. done.many set ls up lists) done.unknown done.err);
-      leaves = done.unchanged;
-      served = text_served c.host_file.result done.served;
+      leaves = done.asks.unchanged;
+      served = text_served c.host_file.result done.asks.served;
     }
 
 pub returns-in-Ok-clause-lasts : goal.returns-in-Ok-clause-lasts
 returns-in-Ok-clause-lasts g c =
     let d = c.args.desk.now in
     text_lasts g.K.Keeper d.roster.says d.roster.text d.keeper c.host_file.new.self.keeper (host_file c.args.host.now)
-    c.host_file.result c.host_file.ensures.asks c.host_file.ensures.asks.leaves
+    c.host_file.result c.host_file.ensures.asks.live c.host_file.ensures.asks.leaves

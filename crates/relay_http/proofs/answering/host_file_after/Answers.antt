@@ -21,12 +21,12 @@ returns-in-Ok-clause-answered g c =
           ⊎ IsServerFailure (to_question c.host_file_after.result)) found.0 (file_right (lines_after at) f base set c.in-Ok.host c.host_file_after.result name
           (left_after f base set c.in-Ok.host at c.host_file_after.result (done.file set up lists))
           (λ ls. done.few set ls up lists) (λ ls. done.many set ls up lists) done.unknown done.err);
-      leaves = done.unchanged;
-      served = text_served c.host_file_after.result done.served;
+      leaves = done.asks.unchanged;
+      served = text_served c.host_file_after.result done.asks.served;
     }
 
 pub returns-in-Ok-clause-lasts : goal.returns-in-Ok-clause-lasts
 returns-in-Ok-clause-lasts g c =
     let d = c.args.desk.now in
     text_lasts g.K.Keeper d.roster.says d.roster.text d.keeper c.host_file_after.new.self.keeper
-    (host_file_after c.args.host.now c.args.at) c.host_file_after.result c.host_file_after.ensures.asks c.host_file_after.ensures.asks.leaves
+    (host_file_after c.args.host.now c.args.at) c.host_file_after.result c.host_file_after.ensures.asks.live c.host_file_after.ensures.asks.leaves

@@ -10,12 +10,12 @@ returns-clause-answered g c =
     record {
       right = λ set up lists. told_right (IsNameText says set (record { by = c.args.asker.now; no = c.args.no })) c.document_of.result
           (done.document set up lists) done.err;
-      leaves = done.unchanged;
-      served = text_served c.document_of.result done.served;
+      leaves = done.asks.unchanged;
+      served = text_served c.document_of.result done.asks.served;
     }
 
 pub returns-clause-lasts : goal.returns-clause-lasts
 returns-clause-lasts g c =
     let d = c.args.desk.now in
     text_lasts g.K.Keeper d.roster.says d.roster.text d.keeper c.document_of.new.desk.keeper (named_request c.args.asker.now c.args.no) c.document_of.result
-    c.document_of.ensures.asks c.document_of.ensures.asks.leaves
+    c.document_of.ensures.asks.live c.document_of.ensures.asks.leaves

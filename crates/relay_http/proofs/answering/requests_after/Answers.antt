@@ -14,12 +14,12 @@ returns-clause-answered g c =
     record {
       right = λ set up lists. told_right (IsAuditText says set (after c.args.at)) c.document.result
           (subst (λ (p : Pick). IfOk c.document.result (λ s. IsAuditText says set p (string_bytes s))) c.after.ensures (done.document set up lists)) done.err;
-      leaves = done.unchanged;
-      served = text_served c.document.result done.served;
+      leaves = done.asks.unchanged;
+      served = text_served c.document.result done.asks.served;
     }
 
 pub returns-clause-lasts : goal.returns-clause-lasts
 returns-clause-lasts g c =
     let d = c.args.desk.now in
     text_lasts g.K.Keeper d.roster.says d.roster.text d.keeper c.document.new.desk.keeper (requests_after c.args.at) c.document.result
-    c.document.ensures.asks c.document.ensures.asks.leaves
+    c.document.ensures.asks.live c.document.ensures.asks.leaves

@@ -43,8 +43,8 @@ invariant_of-self g c =
     let k = c.self-2.inside.keeper in
     let was : c.self.inside.keeper ≡ old = ap (λ (d : DeskState _). d.keeper) c.self.view_is in
     let desk : K.is_up old → K.is_desk old = subst (λ x. K.is_up x → K.is_desk x) was c.self.invariant.1 in
-    let served = rw (← c.self-2.view_is) at c.in_ok-texts.ensures.served in
-    let unchanged = rw (← c.self-2.view_is) at c.in_ok-texts.ensures.unchanged in
+    let served = rw (← c.self-2.view_is) at c.in_ok-texts.ensures.asks.served in
+    let unchanged = rw (← c.self-2.view_is) at c.in_ok-texts.ensures.asks.unchanged in
     let same : K.is_up k → SameSet (K.holds old) (K.holds k) = λ up. g.met.K.Keeper.stays_set old k (unchanged up) (desk (served.was_up up)) in
     let before : (set : List Message) → Lists (K.holds k) set → K.is_up k → Lists (K.holds old) set = λ set lists up.
     lists_still (K.holds k) (K.holds old) set (λ m. ((same up m).1, (same up m).0)) lists in (

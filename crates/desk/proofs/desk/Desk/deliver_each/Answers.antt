@@ -17,7 +17,7 @@ use Rattle.desk.specs.declared.refusal.Refusal.TheVariants.{Storage}
 use Rattle.desk.specs.Delivery.{AcknowledgesAmong, AreAnswers, Delivery, HaveFailed, HeldAfterAll}
 use Rattle.desk.specs.Delivery.{IsDeliveryAnswer, WasWantingAmong, delivery_of, storage_failures}
 use Rattle.desk.proofs.DeliveryLemmas.{answers_push, held_by_none, held_push}
-use Rattle.desk.proofs.LeftLemmas.{crash_push, leaves_push, left_by_none, live_push, repeated_push}
+use Rattle.desk.proofs.LeftLemmas.{crash_push, leaves_push, left_by_none, live_push, repeated_push, settings_both}
 use Rattle.desk.proofs.FailureLemmas.{failures_push, have_failed_push, wanting_before, wanting_now}
 use Rattle.desk.proofs.desk.Desk.deliver_each.Goals as goal
 
@@ -33,8 +33,7 @@ loop-relay-init g c =
     record {
       answered = subst P (sym none) tt;
       held = λ up. subst Q (sym none) (held_by_none (K.holds keeper));
-      roster = refl;
-      base = refl;
+      settings = record { roster = refl; base = refl };
       served = served_by_none keeper (R c.args.answers.now.items) (WasWantingAmong c.args.answers.now.items) (λ failed. let there = subst R none failed in
           omega (arith, there.1));
       causes = subst F (sym none) (inl (omega arith));
@@ -71,7 +70,7 @@ loop-relay-preserved g c =
     let result = c.deliver-answer.result in
     let answers = c.loop-relay.answers.items in
     let F : Reading → Type 0 = λ r. IsDeliveryAnswer r.says d result in
-    let answer : IsDeliveryAnswer old.roster.says d result = subst F kept.roster done.answer in
+    let answer : IsDeliveryAnswer old.roster.says d result = subst F kept.settings.roster done.answer in
     let P : List Delivery → Type 0 = λ ds. AreAnswers old.roster.says ds (answers ++ result ∷ []) in
     let P' : List (Result Ack Refusal) → Type 0 = λ as'. AreAnswers old.roster.says (map delivery_of (take (i + 1) list)) as' in
     let Q : List Delivery → Type 0 = λ ds. HeldAfterAll (K.holds old.keeper) ds (answers ++ result ∷ []) (K.holds new.keeper) in
@@ -89,9 +88,9 @@ loop-relay-preserved g c =
     held_push says S T Z before answers d result kept.answered (kept.held (done.served.was_up up)) (done.held up) in
     let A : Reading → Type 0 = λ r. K.is_clean new.keeper
     → AddsOnly (K.may_leave mid.keeper) (K.may_leave new.keeper) (IsAddedByDelivery (K.is_up mid.keeper) r.says r.text T d) in
-    let adds : A old.roster = subst A kept.roster done.leaves in
+    let adds : A old.roster = subst A kept.settings.roster done.leaves in
     let D : Reading → Type 0 = λ r. K.is_up new.keeper → LeavesOnly (K.may_leave new.keeper) (IsDeskOf r.text Z) in
-    let durable : D old.roster = subst D (done.roster ∙ kept.roster) done.durable in
+    let durable : D old.roster = subst D (done.settings.roster ∙ kept.settings.roster) done.durable in
     let Rep : List Delivery → List (Result Ack Refusal) → Type 0 = λ ds as'. K.is_up new.keeper
     → ((m : Message) → AcknowledgesAmong ds as' m → S m) → K.is_same old.keeper new.keeper in
     let Live : List Delivery → List (Result Ack Refusal) → Type 0 = λ ds as'. K.is_clean new.keeper
@@ -111,8 +110,7 @@ loop-relay-preserved g c =
       held = λ up. subst Q' (sym {A = List (Result Ack Refusal)} c.push_reserved.ensures.items)
           (subst Q (sym {A = List Delivery} more) (held_push old.roster.says (K.holds old.keeper) (K.holds mid.keeper)
           (K.holds new.keeper) before answers d result kept.answered (kept.held (done.served.was_up up)) (done.held up)));
-      roster = done.roster ∙ kept.roster;
-      base = done.base ∙ kept.base;
+      settings = settings_both old mid new kept.settings done.settings;
       served = subst U (sym {A = List (Result Ack Refusal)} c.push_reserved.ensures.items) (served_as (Contains (answers ++ result ∷ []) (Err Storage))
           (WasWantingAmong (answers ++ result ∷ [])) (λ failed. Contains-push_cases answers result (Err Storage) failed) (λ want. elim want
           as (λ _. WasWantingAmong (answers ++ result ∷ [])) [ inl sooner ↦ wanting_before answers result sooner | inr now ↦ wanting_now answers result now ])

@@ -5,6 +5,7 @@ use Rattle.desk_store.specs.Left.{AddsOnly, LeavesOnly}
 use Rattle.desk_store.specs.Serving.{IsServed}
 use Rattle.desk.specs.Crash.{IsLeftByDeliveries}
 use Rattle.desk.specs.Delivery.{AcknowledgesAmong, AreAnswers, HaveFailed, HeldAfterAll, WasWantingAmong, delivery_of, storage_failures}
+use Rattle.desk.specs.Serving.{KeepsSettings}
 use Rattle.desk.specs.declared.refusal.Refusal.TheVariants.{Storage}
 use Rattle.desk.proofs.desk.Desk.deliver_each.Given as goal
 
@@ -13,8 +14,7 @@ invariant-loop-relay g l = record {
   answered : AreAnswers l.fn.self.roster.says (map delivery_of (take l.relay-index l.list)) l.answers.items;
   held : g.K.Keeper.is_up l.self.keeper
       → HeldAfterAll (g.K.Keeper.holds l.fn.self.keeper) (map delivery_of (take l.relay-index l.list)) l.answers.items (g.K.Keeper.holds l.self.keeper);
-  roster : l.self.roster ≡ l.fn.self.roster;
-  base : l.self.base ≡ l.fn.self.base;
+  settings : KeepsSettings l.fn.self l.self;
   served : IsServed g.K.Keeper.is_up g.K.Keeper.is_clean g.K.Keeper.failures g.K.Keeper.beside l.fn.self.keeper l.self.keeper
       (Contains l.answers.items (Err Storage)) (WasWantingAmong l.answers.items);
   causes : HaveFailed (storage_failures l.answers.items) (g.K.Keeper.failures l.fn.self.keeper) (g.K.Keeper.failures l.self.keeper);
