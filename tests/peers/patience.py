@@ -2,11 +2,12 @@
 """Peers of `desk serve` that would hold it: an honest one beside each of them is answered all the
 same.
 
-One sends a byte every nine seconds, a thousand connect and send nothing, one reads a large file a
-little at a time, and one goes on sending once it is answered. Each is let go in its time. Then a
-standard error that nobody reads, descriptors that were closed before the start, a file that may not
-grow, and a disk that is full (as root). `python3 -m tests.peers.patience WORDS..` runs another
-program than build/desk; `--only PART..` before them tries some of the parts.
+One sends a byte every nine seconds, a thousand connect and send nothing, some of them while the
+desk stands still, one reads a large file a little at a time, and one goes on sending once it is
+answered. Each is let go in its time. Then a standard error that nobody reads, descriptors that were
+closed before the start, a file that may not grow, and a disk that is full (as root).
+`python3 -m tests.peers.patience WORDS..` runs another program than build/desk; `--only PART..`
+before them tries some of the parts.
 """
 
 import contextlib
@@ -36,6 +37,8 @@ TO_ASK, TO_ANSWER, OFF = 10, 30, 3
 # Requests with their approvals, each of fourteen long commands: a host's file of 3.3 MB, which is
 # more than the kernel keeps of a reply.
 GRANTS, COMMANDS = 230, 14
+# how many idle peers wait for a desk that stood still, in turn: the system keeps 128
+CROWDS = (10, 120, 5)
 RUDE = 6_000
 SERVE = os.path.join("packaging", "desk-serve")
 LISTENS = re.compile(r"listening at 127\.0\.0\.1:([0-9]+)")
@@ -174,6 +177,34 @@ def idle_with_few_descriptors(count: Count, words: list[str]) -> None:
                     whole.endswith(b"\r\n\r\nack\n") and took < AT_ONCE,
                     f"{took:.1f} s, {whole[-80:]!r}",
                 )
+
+
+def idle_while_it_stood_still(count: Count, words: list[str]) -> None:
+    """The same of a desk that stood still meanwhile, and finds all of them at once: an honest peer
+    that connected last, and whose message comes a moment later, is not dropped for an idle one."""
+    with tempfile.TemporaryDirectory(dir=desk.MEMORY) as folder:
+        before = ["prlimit", "--nofile=40:40"]
+        with Server(os.path.join(folder, "desk.db"), program=words, before=before) as server:
+            for number, peers in enumerate(range(*CROWDS)):
+                with contextlib.ExitStack() as kept:
+                    server.process.send_signal(signal.SIGSTOP)
+                    try:
+                        for _ in range(peers):
+                            kept.enter_context(server.connect())
+                        honest = kept.enter_context(server.connect())
+                    finally:
+                        server.process.send_signal(signal.SIGCONT)
+                    time.sleep(0.05)
+                    whole = b""
+                    with contextlib.suppress(ConnectionError):
+                        honest.sendall(desk.posted(b"chat", approval(number)))
+                        whole = desk.received(honest)
+                count.holds(
+                    f"a message behind {peers} idle ones that came while the desk stood still",
+                    whole.endswith(b"\r\n\r\nack\n"),
+                    whole[-80:],
+                )
+                server.is_honest(count, "idle ones that have left", AT_ONCE)
 
 
 def slow_reader(count: Count, words: list[str]) -> None:
@@ -459,6 +490,7 @@ PARTS = (
     drip,
     idle,
     idle_with_few_descriptors,
+    idle_while_it_stood_still,
     slow_reader,
     late_sender,
     unread_error,

@@ -86,6 +86,8 @@ pub(crate) struct Connection {
     pub(crate) stream: Stream,
     /// The millisecond at which it is let go; the last there is while it waits for its turn.
     pub(crate) due: u64,
+    /// How many were accepted before it.
+    pub(crate) arrival: u64,
     /// The millisecond at which it was accepted.
     came: u64,
     /// The poll tells when its peer is ready.
@@ -152,11 +154,12 @@ fn read_last(mut stream: &Stream, chunk: &mut [u8], reads: &mut usize) -> Next {
 }
 
 impl Connection {
-    /// A connection that was just accepted.
-    pub(crate) fn new(alloc: Global, stream: Stream, now: u64) -> Connection {
+    /// A connection that was just accepted, after so many others.
+    pub(crate) fn new(alloc: Global, stream: Stream, arrival: u64, now: u64) -> Connection {
         Connection {
             stream,
             due: now.saturating_add(TO_RECEIVE),
+            arrival,
             came: now,
             is_watched: false,
             stage: Stage::Receiving(Exchange::new(alloc)),

@@ -70,6 +70,8 @@ pub(crate) struct Service {
     buffers: Buffers,
     places: Vec<Option<Connection>>,
     queues: RequestQueues,
+    /// How many connections were accepted.
+    arrivals: u64,
     /// How many connections are open.
     open: usize,
     /// How many are still to be accepted.
@@ -142,6 +144,7 @@ impl Service {
             buffers,
             places: Vec::new(rt.alloc()),
             queues: RequestQueues::new(rt.alloc()),
+            arrivals: 0,
             open: 0,
             left: requests,
             more_wait: false,
@@ -324,10 +327,11 @@ impl Service {
         self.places.len().checked_sub(1)
     }
 
-    /// The slowest connection that may be let go for another; of equal ones the one that is due
-    /// first.
-    fn slowest(&self, now: u64) -> Option<usize> {
-        let mut found: Option<(usize, u64, u64)> = None;
+    /// The slowest connection that may be let go for another, and its pace; of equal ones the one
+    /// that is due first, and of these the one that came first: what the last one asks may be on
+    /// its way.
+    fn slowest(&self, now: u64) -> Option<(usize, u64)> {
+        let mut found: Option<(usize, (u64, u64, u64))> = None;
         for at in 0..self.places.len() {
             let Some(connection) = &self.places[at] else {
                 continue;
@@ -335,13 +339,13 @@ impl Service {
             let Some(pace) = connection.pace(now) else {
                 continue;
             };
-            let due = connection.due;
+            let rank = (pace, connection.due, connection.arrival);
             found = match found {
-                Some((_, slow, first)) if (slow, first) <= (pace, due) => found,
-                _ => Some((at, pace, due)),
+                Some((_, first)) if first <= rank => found,
+                _ => Some((at, rank)),
             };
         }
-        found.map(|(at, _, _)| at)
+        found.map(|(at, (pace, _, _))| (at, pace))
     }
 
     /// Lets a connection go.
@@ -351,13 +355,24 @@ impl Service {
         }
     }
 
-    /// Lets the slowest connection go, if there is one that may be.
+    /// Lets the slowest connection go, if there is one that may be. What has come on it is read
+    /// first: where that is more, the slowest is looked for again.
     fn let_slowest_go(&mut self, rt: &HostRuntime, log: &mut Log, now: u64) -> bool {
-        let Some(at) = self.slowest(now) else {
-            return false;
-        };
-        self.let_go(rt, log, at);
-        true
+        for _ in 0..MOST_AT_ONCE {
+            let Some((at, pace)) = self.slowest(now) else {
+                return false;
+            };
+            self.go_on(rt, log, at, now);
+            let is_as_slow = match self.places.get(at) {
+                Some(Some(connection)) => connection.pace(now) == Some(pace),
+                _ => return true,
+            };
+            if is_as_slow {
+                self.let_go(rt, log, at);
+                return true;
+            }
+        }
+        false
     }
 
     /// Takes up a connection that was just accepted. Where there is no place for it, the slowest is
@@ -375,7 +390,8 @@ impl Service {
             log.say(rt, &ServeFault::NoMemory);
             return;
         };
-        self.put(at, Connection::new(rt.alloc(), stream, now));
+        self.put(at, Connection::new(rt.alloc(), stream, self.arrivals, now));
+        self.arrivals = self.arrivals.saturating_add(1);
         self.open = self.open.saturating_add(1);
         self.go_on(rt, log, at, now);
     }
