@@ -284,6 +284,29 @@ def late_sender(count: Count, words: list[str]) -> None:
         sender.join()
 
 
+def behind_its_request(count: Count, words: list[str]) -> None:
+    """Peers that send more once they are answered, at once or later, and read only then: each gets
+    its reply whole, and no reset in its place."""
+    with Server(program=words) as server:
+        wanted, _ = server.reply(PARKED)
+        for late in (0.0, 0.005, 0.1, 0.5):
+            whole, error = b"", None
+            try:
+                with server.connect() as peer:
+                    peer.sendall(PARKED)
+                    time.sleep(late)
+                    peer.sendall(b"x" * 2_000)
+                    time.sleep(0.1)
+                    whole = desk.received(peer)
+            except ConnectionError as found:
+                error = found
+            count.holds(
+                f"a reply before bytes that come {late} s behind its request",
+                whole == wanted and error is None,
+                f"{error} {whole[:80]!r}",
+            )
+
+
 def leave_rudely(server: Server) -> None:
     """Sends a part of a request, and drops the connection: `H1` each time."""
     with contextlib.suppress(ConnectionError), server.connect(seconds=20) as peer:
@@ -493,6 +516,7 @@ PARTS = (
     idle_while_it_stood_still,
     slow_reader,
     late_sender,
+    behind_its_request,
     unread_error,
     closed_descriptors,
     limited_file,

@@ -4,7 +4,7 @@
 use crate::log::Answered;
 use crate::socket::Stream;
 use desk::{Desk, Keeper};
-use mio::{Registry, Token};
+use mio::{Interest, Registry, Token};
 use relay_http::{Counted, Exchange, ExchangeBuffer, Outgoing, ReceiveFault, Routes, ServeFault};
 use std::alloc::Global;
 use std::io::{self, ErrorKind, Read};
@@ -58,6 +58,8 @@ impl Buffers {
 pub(crate) enum Next {
     /// It waits for its peer.
     Waits,
+    /// Its response went out just now, and its peer has to close.
+    Lingers,
     /// Its request is there, whole, and waits for its turn.
     IsWhole,
     /// It is over.
@@ -90,8 +92,8 @@ pub(crate) struct Connection {
     pub(crate) arrival: u64,
     /// The millisecond at which it was accepted.
     came: u64,
-    /// The poll tells when its peer is ready.
-    is_watched: bool,
+    /// The poll tells when its peer is ready for this.
+    watched: Option<Interest>,
     stage: Stage,
 }
 
@@ -161,16 +163,31 @@ impl Connection {
             due: now.saturating_add(TO_RECEIVE),
             arrival,
             came: now,
-            is_watched: false,
+            watched: None,
             stage: Stage::Receiving(Exchange::new(alloc)),
         }
     }
 
-    /// Has the poll tell when its peer is ready.
+    /// Has the poll tell when its peer is ready for what comes next.
     pub(crate) fn watch(&mut self, registry: &Registry, token: Token) -> io::Result<()> {
-        if !self.is_watched {
-            self.stream.watch(registry, token)?;
-            self.is_watched = true;
+        let next = match &self.stage {
+            Stage::Responding(_) => Interest::WRITABLE,
+            Stage::Receiving(_) | Stage::Received(_) | Stage::Closing { .. } => Interest::READABLE,
+        };
+        if self.watched == Some(next) {
+            return Ok(());
+        }
+        self.unwatch(registry)?;
+        self.stream.watch(registry, token, next)?;
+        self.watched = Some(next);
+        Ok(())
+    }
+
+    /// Has the poll tell nothing of its peer.
+    pub(crate) fn unwatch(&mut self, registry: &Registry) -> io::Result<()> {
+        if self.watched.is_some() {
+            self.stream.unwatch(registry)?;
+            self.watched = None;
         }
         Ok(())
     }
@@ -233,7 +250,7 @@ impl Connection {
                 &mut buffers.exchange,
                 response,
             ) {
-                Next::Ends => self.close(&mut buffers.last, now),
+                Next::Ends => self.close(now),
                 next => next,
             },
             Stage::Closing { .. } => self.read_last(&mut buffers.last, now),
@@ -251,13 +268,14 @@ impl Connection {
         Next::IsWhole
     }
 
-    /// Ends the response.
-    fn close(&mut self, chunk: &mut [u8], now: u64) -> Next {
+    /// Ends the response. A peer closes a moment later, so nothing is read yet.
+    fn close(&mut self, now: u64) -> Next {
         if self.stream.end().is_err() {
             return Next::Ends;
         }
         self.stage = Stage::Closing { reads: 0 };
-        self.read_last(chunk, now)
+        self.due = now.saturating_add(TO_CLOSE);
+        Next::Lingers
     }
 
     fn read_last(&mut self, chunk: &mut [u8], now: u64) -> Next {

@@ -25,6 +25,10 @@ const MOST_BUSY: u64 = 20;
 /// The milliseconds between two questions of the service's own to a desk whose storage failed.
 const TO_ASK_AGAIN: u64 = 500;
 
+/// The milliseconds after which a connection that was answered is looked at again, where nothing
+/// else comes before.
+const TO_LINGER: u64 = 10;
+
 /// The milliseconds that responses still have to go out, once the storage is shut.
 const TO_END: u64 = 500;
 
@@ -70,6 +74,9 @@ pub(crate) struct Service {
     buffers: Buffers,
     places: Vec<Option<Connection>>,
     queues: RequestQueues,
+    /// The places of the connections whose responses went out since the last wait, of which the
+    /// poll tells nothing.
+    lingering: VecDeque<usize>,
     /// How many connections were accepted.
     arrivals: u64,
     /// How many connections are open.
@@ -144,6 +151,7 @@ impl Service {
             buffers,
             places: Vec::new(rt.alloc()),
             queues: RequestQueues::new(rt.alloc()),
+            lingering: VecDeque::new(rt.alloc()),
             arrivals: 0,
             open: 0,
             left: requests,
@@ -183,6 +191,15 @@ impl Service {
         }
     }
 
+    /// Puts a connection back that was answered, to look at it again a little later. Most peers have
+    /// closed by then, and nobody had to be woken for it.
+    fn linger(&mut self, rt: &HostRuntime, log: &mut Log, at: usize, connection: Connection) {
+        match self.lingering.push_back(at) {
+            Ok(()) => self.put(at, connection),
+            Err(_) => self.end(rt, log, None),
+        }
+    }
+
     /// Puts a connection back, to wait for its peer or for its turn, or ends it.
     fn settle(
         &mut self,
@@ -196,6 +213,10 @@ impl Service {
             Next::Waits => match connection.watch(self.poll.registry(), Token(at)) {
                 Ok(()) => self.put(at, connection),
                 Err(_) => self.end(rt, log, connection.fault()),
+            },
+            Next::Lingers => match connection.unwatch(self.poll.registry()) {
+                Ok(()) => self.linger(rt, log, at, connection),
+                Err(_) => self.end(rt, log, None),
             },
             Next::IsWhole => {
                 match self.queues.push(at, connection.is_post()) {
@@ -449,14 +470,18 @@ impl Service {
         }
     }
 
-    /// How long to wait for an event: until a connection is due or the desk is to be asked, without
-    /// end where nothing is, and not at all where a request waits for its turn or more may wait to
-    /// be accepted.
+    /// How long to wait for an event: until a connection is due or to be looked at again, or the
+    /// desk is to be asked, without end where nothing is, and not at all where a request waits for
+    /// its turn or more may wait to be accepted.
     fn patience(&self, now: u64) -> Option<Duration> {
         if self.more_wait || !self.queues.is_empty() {
             return Some(Duration::ZERO);
         }
         let mut first = self.storage_due();
+        if !self.lingering.is_empty() {
+            let again = now.saturating_add(TO_LINGER);
+            first = Some(first.unwrap_or(u64::MAX).min(again));
+        }
         for at in 0..self.places.len() {
             if let Some(connection) = &self.places[at] {
                 first = Some(first.unwrap_or(u64::MAX).min(connection.due));
@@ -465,9 +490,21 @@ impl Service {
         first.map(|due| Duration::from_millis(due.saturating_sub(now).saturating_add(1)))
     }
 
+    /// Looks again at so many connections that were answered, those that wait longest: one whose
+    /// peer has closed since is over, and of the others the poll tells from then on.
+    fn end_lingering(&mut self, rt: &HostRuntime, log: &mut Log, count: usize, now: u64) {
+        for _ in 0..count {
+            match self.lingering.pop_front() {
+                Some(at) => self.go_on(rt, log, at, now),
+                None => break,
+            }
+        }
+    }
+
     /// Waits until a peer is ready or a connection is due, reads what has come on all connections,
-    /// and only then takes up new ones and answers; and asks a desk whose storage failed. The clock
-    /// is read once for all that has come.
+    /// and only then takes up new ones and answers; ends what was answered before, which no peer
+    /// waits for; and asks a desk whose storage failed. The clock is read once for all that has
+    /// come.
     fn turn<K: Keeper>(
         &mut self,
         rt: &HostRuntime,
@@ -477,6 +514,7 @@ impl Service {
         now: u64,
     ) -> io::Result<()> {
         let patience = self.patience(now);
+        let lingering = self.lingering.len();
         self.poll.poll(events, patience)?;
         let now = self.now(rt)?;
         let mut comes = self.more_wait;
@@ -491,6 +529,7 @@ impl Service {
             self.accept(rt, log, now)?;
         }
         self.answer_some(rt, desk, log)?;
+        self.end_lingering(rt, log, lingering, now);
         self.ask_desk(rt, desk)?;
         self.let_due_go(rt, log, now);
         Ok(())
