@@ -13,6 +13,7 @@ mod connection;
 mod files;
 mod listener;
 mod log;
+mod ready;
 mod service;
 mod serving;
 mod socket;

@@ -1,30 +1,21 @@
 //! What the service says on its standard error.
 
+use crate::ready::Ready;
 use desk::Refusal;
 use http::StatusCode;
-use mio::event::Events;
-use mio::unix::SourceFd;
-use mio::{Interest, Poll, Token};
+use mio::Interest;
 use std::fmt::{self, Display};
 use std::os::fd::RawFd;
-use std::time::Duration;
 
 /// The standard error.
 const STANDARD_ERROR: RawFd = 2;
-
-/// Tells whether the standard error takes a line at once.
-#[derive(Drop)]
-struct Watch {
-    poll: Poll,
-    events: Events,
-}
 
 /// Says lines on the standard error, and drops those that it does not take at once: if nobody reads
 /// it, the service goes on.
 #[derive(Drop)]
 pub(crate) struct Log {
-    /// None where it always takes them, as a file does.
-    watch: Option<Watch>,
+    /// Whether it takes a line; none where it always does, as a file.
+    ready: Option<Ready>,
     dropped: u64,
 }
 
@@ -64,45 +55,18 @@ impl fmt::Display for Dropped {
     }
 }
 
-impl Watch {
-    fn new(rt: &HostRuntime) -> Option<Watch> {
-        let poll = Poll::new(rt).ok()?;
-        let events = Events::with_capacity(rt.alloc(), 1).ok()?;
-        poll.registry()
-            .register(&mut SourceFd(&STANDARD_ERROR), Token(0), Interest::WRITABLE)
-            .ok()?;
-        Some(Watch { poll, events })
-    }
-
-    /// Whether the standard error takes a line.
-    fn is_ready(&mut self) -> bool {
-        let watched = self.poll.registry().reregister(
-            &mut SourceFd(&STANDARD_ERROR),
-            Token(0),
-            Interest::WRITABLE,
-        );
-        if watched.is_err() {
-            return false;
-        }
-        match self.poll.poll(&mut self.events, Some(Duration::ZERO)) {
-            Ok(()) => self.events.iter().any(|event| event.is_writable()),
-            Err(_) => false,
-        }
-    }
-}
-
 impl Log {
     /// Nothing is said yet.
     pub(crate) fn new(rt: &HostRuntime) -> Log {
         Log {
-            watch: Watch::new(rt),
+            ready: Ready::new(rt, STANDARD_ERROR, Interest::WRITABLE).ok(),
             dropped: 0,
         }
     }
 
     fn is_ready(&mut self) -> bool {
-        match &mut self.watch {
-            Some(watch) => watch.is_ready(),
+        match &mut self.ready {
+            Some(ready) => ready.is_ready().unwrap_or(false),
             None => true,
         }
     }

@@ -2,10 +2,11 @@
 
 use crate::connection::{Buffers, Connection, Next};
 use crate::log::Log;
+use crate::ready::Ready;
 use crate::socket::{Listener, Stream};
 use desk::{Desk, Keeper, Refusal};
 use mio::event::Events;
-use mio::{Poll, Token};
+use mio::{Interest, Poll, Token};
 use relay_http::{Routes, ServeFault};
 use std::alloc::{AllocFailed, Global};
 use std::collections::VecDeque;
@@ -70,6 +71,8 @@ enum Storage {
 pub(crate) struct Service {
     poll: Poll,
     listener: Listener,
+    /// Whether a peer waits to be accepted.
+    waiting: Ready,
     routes: Routes,
     buffers: Buffers,
     places: Vec<Option<Connection>>,
@@ -141,12 +144,14 @@ impl Service {
     ) -> io::Result<Service> {
         let poll = Poll::new(rt)?;
         listener.watch(poll.registry(), LISTENER)?;
+        let waiting = Ready::new(rt, listener.descriptor(), Interest::READABLE)?;
         let (Ok(routes), Ok(buffers)) = (Routes::new(rt.alloc()), Buffers::new(rt.alloc())) else {
             return Err(io::Error::from(ErrorKind::OutOfMemory));
         };
         Ok(Service {
             poll,
             listener,
+            waiting,
             routes,
             buffers,
             places: Vec::new(rt.alloc()),
@@ -424,6 +429,9 @@ impl Service {
 
     /// Accepts what has connected. While no connection may be let go for another, none is accepted
     /// past the most. A connection that cannot be accepted is an error where no other is open.
+    ///
+    /// To accept where nobody waits costs the system a socket that it makes and drops, and fails
+    /// for want of a descriptor first: so it is asked before whether anybody does.
     fn accept(&mut self, rt: &HostRuntime, log: &mut Log, now: u64) -> io::Result<()> {
         self.more_wait = false;
         for _ in 0..MOST_AT_ONCE {
@@ -442,6 +450,9 @@ impl Service {
                     _ if self.open > 0 => break,
                     _ => return Err(error),
                 },
+            }
+            if !self.waiting.is_ready().unwrap_or(true) {
+                return Ok(());
             }
         }
         self.more_wait = true;
