@@ -3,34 +3,40 @@
 
 A desk over memory is asked for a list of grants (GET), and takes messages that it has not seen
 (POST). Beside each, in turn with it, nginx (Debian's nginx-light: one worker, no connection kept)
-gives the same client a file as long as the desk's reply. Then a desk over a file takes messages,
-beside `desk deliver` of as many to another file on the same disk: as the disk is, and with each
-sync lasting a millisecond at least, as on a drive that keeps what it says it has written. Then
-100,000 exchanges, before and behind which the memory of the desk's process is read; and a request
-of 24,576 bytes, read at once and one byte at a time, each counted in the program's instructions
-(valgrind's callgrind), so that the machine's load does not matter; newlines before a request, one
-at a time; and, by gdb, how often one request's head is looked at and parsed. A part whose tools are
-missing is left out, and said to be. All of it goes to 127.0.0.1, and each loop is bounded.
+gives the same client a file as long as the desk's reply; the turns are short, so that other work on
+the machine slows both alike, and the middle of all turns counts. Then a desk over a file takes
+messages, beside `desk deliver` of as many to another file on the same disk: as the disk is, and
+with each sync lasting a millisecond at least, as on a drive that keeps what it says it has written.
+Then 100,000 exchanges, before and behind which the memory of the desk's process is read; and a
+request of 24,576 bytes, read at once and one byte at a time, each counted in the program's
+instructions (valgrind's callgrind), so that the machine's load does not matter; newlines before a
+request, one at a time; and, by gdb, how often one request's head is looked at and parsed. A part
+whose tools are missing is left out, and said to be. All of it goes to 127.0.0.1, and each loop is
+bounded.
 """
 
 import os
 import re
 import shutil
 import socket
+import statistics
 import subprocess
 import sys
 import tempfile
 import time
 from collections.abc import Callable, Sequence
-from typing import Self
+from typing import NamedTuple, Self
 
 from tests.common import desk
 from tests.common.ports import free_port
+from tests.common.stalls import times
 
 NGINX = desk.found("nginx")
 GRANTS = b"/v1/grants/20260105093000Z"
 ROUNDS = 7
 EACH = 1_500
+# the turns of the desk and of nginx beside it, and the exchanges in each
+TURNS, A_TURN = 75, 140
 CLOSES = b"Connection: close\r\n"
 MANY = 100_000
 
@@ -136,13 +142,24 @@ def rate(port: int, requests: Sequence[bytes]) -> float:
     return len(requests) / (time.perf_counter() - begun)
 
 
-# a server's port, and what it is asked in a round
-Asked = tuple[int, Callable[[int], Sequence[bytes]]]
+class Asked(NamedTuple):
+    """A server's port and process, and what it is asked in a turn."""
+
+    port: int
+    process: int
+    given: Callable[[int], Sequence[bytes]]
+
+    def turn(self, number: int) -> tuple[float, float]:
+        """Exchanges a second, and the seconds of a processor that the server has for each."""
+        given = self.given(number)
+        begun, _ = times(self.process)
+        found = rate(self.port, given)
+        return found, (times(self.process)[0] - begun) / len(given)
 
 
 def always(given: bytes) -> Callable[[int], Sequence[bytes]]:
-    """The same in each round."""
-    return lambda _: [given] * EACH
+    """The same in each turn."""
+    return lambda _: [given] * A_TURN
 
 
 class Files:
@@ -178,6 +195,11 @@ class Files:
         self.server.terminate()
         self.server.wait(20)
 
+    def worker(self) -> int:
+        """The process that serves."""
+        pid = self.server.pid
+        return int(desk.read(f"/proc/{pid}/task/{pid}/children").split()[0])
+
 
 def judged(what: str, figure: float, least: float) -> int:
     holds = figure >= least
@@ -185,13 +207,17 @@ def judged(what: str, figure: float, least: float) -> int:
     return int(not holds)
 
 
-def in_turn(first: Asked, second: Asked) -> list[float]:
-    """The best rate of each, asked in turn; each is a port and, for a round, what it is asked."""
-    best = [0.0, 0.0]
-    for turn in range(ROUNDS):
-        for place, (port, asked) in enumerate((first, second)):
-            best[place] = max(best[place], rate(port, asked(turn)))
-    return best
+def in_turn(name: str, ours: Asked, theirs: Asked) -> float:
+    """Asks the desk and nginx in turn, prints the middle of what is found of each, and returns the
+    middle of how many times as fast as nginx the desk is."""
+    turns = [(ours.turn(number), theirs.turn(number)) for number in range(TURNS)]
+    served, used = (statistics.median(it) for it in zip(*(mine for mine, _ in turns)))
+    beside, took = (statistics.median(it) for it in zip(*(other for _, other in turns)))
+    print(
+        f"{name}: {served:,.0f} exchanges a second, and {used * 1e6:.1f} us of a processor for"
+        f" each; nginx {beside:,.0f} of a file as long, and {took * 1e6:.1f} us"
+    )
+    return statistics.median(mine[0] / other[0] for mine, other in turns)
 
 
 def beside_nginx(folder: str) -> int:
@@ -210,20 +236,19 @@ def beside_nginx(folder: str) -> int:
         ):
             desk.write(folder, name, body)
         rows = (
-            ("a GET of 20 grants", (asked.port, always(get(GRANTS))), b"grants"),
+            ("a GET of 20 grants", asked, always(get(GRANTS)), b"grants"),
             (
                 "a POST of a new message",
-                (told.port, lambda turn: [post(request(turn * EACH + n)) for n in range(EACH)]),
+                told,
+                lambda turn: [post(request(turn * A_TURN + n)) for n in range(A_TURN)],
                 b"ack",
             ),
         )
-        for name, ours, file in rows:
-            served, beside = in_turn(ours, (files.port, always(get(b"/" + file))))
-            print(
-                f"{name}: {served:,.0f} exchanges a second, nginx {beside:,.0f} of a file as long"
-            )
-            wrong += judged(f"{name}, beside nginx", served / beside, 1.1)
-        print(f"serve, {ROUNDS * EACH:,} messages: peak {told.memory()[1]:,} KiB")
+        for name, server, given, file in rows:
+            ours = Asked(server.port, server.process.pid, given)
+            theirs = Asked(files.port, files.worker(), always(get(b"/" + file)))
+            wrong += judged(f"{name}, beside nginx", in_turn(name, ours, theirs), 1.1)
+        print(f"serve, {TURNS * A_TURN:,} messages: peak {told.memory()[1]:,} KiB")
     return wrong
 
 

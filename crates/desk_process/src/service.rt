@@ -17,7 +17,8 @@ use sudo_words::Moment;
 /// The most connections that are kept at once.
 const MOST_CONNECTIONS: usize = 4_096;
 
-/// The most connections that are accepted in one turn, and the most questions that are answered.
+/// The most connections that are accepted in one turn, the most questions that are answered, and
+/// the most connections that are read once more before one is let go.
 const MOST_AT_ONCE: usize = 64;
 
 /// The milliseconds after which no further question is answered in one turn.
@@ -196,8 +197,8 @@ impl Service {
         }
     }
 
-    /// Puts a connection back that was answered, to look at it again a little later. Most peers have
-    /// closed by then, and nobody had to be woken for it.
+    /// Puts a connection back that was answered, to look at it again a little later. Most peers
+    /// have closed by then, and nobody had to be woken for it.
     fn linger(&mut self, rt: &HostRuntime, log: &mut Log, at: usize, connection: Connection) {
         match self.lingering.push_back(at) {
             Ok(()) => self.put(at, connection),
