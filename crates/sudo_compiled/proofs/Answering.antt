@@ -16,7 +16,8 @@ use Rattle.sudo_policy.specs.declared.entry.Signed.{Signed}
 use Rattle.sudo_decide.proofs.AnswerLemmas.{option_or-None, last_given-append, list_answer-push}
 use Rattle.sudo_decide.proofs.DecisionLemmas.{decides_silent_last, decides_rule_last}
 use Rattle.sudo_compiled.specs.declared.plain.PlainRule.{PlainRule}
-use Rattle.sudo_compiled.specs.Compiled.{SameNames, is_about, plains_say, cmnds_say, takes_part, says, outcome, spoken, last_spoken, answer}
+use Rattle.sudo_compiled.specs.Compiled.{SameNames, plain_is_about, plains_say, cmnds_say, plain_takes_part, plain_says, plain_outcome}
+use Rattle.sudo_compiled.specs.Compiled.{spoken, last_spoken, answer}
 use Rattle.sudo_compiled.specs.private.Writing.{IsWritten}
 
 -- one more rule answers, unless it is silent
@@ -42,31 +43,31 @@ answer_silent_first rules r i quiet =
 says_from : Bool → Bool → Option Bool → Option Bool
 says_from dates about cmnd = if dates && about then cmnd else None
 
-written_says : (by : List Entry) (r : Rule) (w : PlainRule) (i : Invocation) → IsWritten by r w → says w i ≡ defined.says by r i
+written_says : (by : List Entry) (r : Rule) (w : PlainRule) (i : Invocation) → IsWritten by r w → plain_says w i ≡ defined.says by r i
 unfolding says_from
 written_says by r w i is =
-    ap (λ (dates : Bool). says_from dates (is_about w i) (cmnds_say i.path i.args w.cmnds)) (is.dates i.at)
+    ap (λ (dates : Bool). says_from dates (plain_is_about w i) (cmnds_say i.path i.args w.cmnds)) (is.dates i.at)
     ∙ ap (λ (about : Bool). says_from (defined.takes_part r i.at) about (cmnds_say i.path i.args w.cmnds)) (is.about i)
     ∙ ap (says_from (defined.takes_part r i.at) (defined.is_about by r i)) (is.cmnd i)
 
-written_outcome : (by : List Entry) (r : Rule) (w : PlainRule) (b : Bool) → IsWritten by r w → outcome w b ≡ defined.outcome r b
+written_outcome : (by : List Entry) (r : Rule) (w : PlainRule) (b : Bool) → IsWritten by r w → plain_outcome w b ≡ defined.outcome r b
 written_outcome by r w b is = ap (λ (tags : Tags). defined.decision_of tags b) is.tags
 
 by_what_is_said : (by es : List Entry) (r : Rule) (w : PlainRule) (rules : List PlainRule) (i : Invocation) (o : Option Bool) → IsWritten by r w
-    → says w i ≡ o → DecidesBy by es i (answer rules i) → DecidesBy by (es ++ entries.Rule r ∷ []) i (answer (rules ++ w ∷ []) i)
+    → plain_says w i ≡ o → DecidesBy by es i (answer rules i) → DecidesBy by (es ++ entries.Rule r ∷ []) i (answer (rules ++ w ∷ []) i)
 by_what_is_said by es r w rules i None is said decided =
     let P : Decision → Type 0 = λ d. DecidesBy by (es ++ entries.Rule r ∷ []) i d in
-    subst P (sym (answer_silent rules w i (ap (option_map (outcome w)) said)))
+    subst P (sym (answer_silent rules w i (ap (option_map (plain_outcome w)) said)))
     (decides_silent_last by es (entries.Rule r) i (answer rules i) (sym (written_says by r w i is) ∙ said) decided)
 by_what_is_said by es r w rules i (Some b) is said decided =
     let P : Decision → Type 0 = λ d. DecidesBy by (es ++ entries.Rule r ∷ []) i d in
     let here : answer (rules ++ w ∷ []) i ≡ defined.outcome r b =
-    answer_speaks rules w i (outcome w b) (ap (option_map (outcome w)) said) ∙ written_outcome by r w b is in
+    answer_speaks rules w i (plain_outcome w b) (ap (option_map (plain_outcome w)) said) ∙ written_outcome by r w b is in
     subst P (sym here) (decides_rule_last by es r i b (sym (written_says by r w i is) ∙ said))
 
 pub rule_written : (by es : List Entry) (r : Rule) (w : PlainRule) (rules : List PlainRule) (i : Invocation) → IsWritten by r w
     → DecidesBy by es i (answer rules i) → DecidesBy by (es ++ entries.Rule r ∷ []) i (answer (rules ++ w ∷ []) i)
-rule_written by es r w rules i is decided = by_what_is_said by es r w rules i (says w i) is refl decided
+rule_written by es r w rules i is decided = by_what_is_said by es r w rules i (plain_says w i) is refl decided
 
 -- ---- lists
 
@@ -102,7 +103,7 @@ about_alike a b c d e f p q r =
 
 -- ---- a rule that is not about the user, the host and the target is silent
 
-about_same : (r : PlainRule) (i j : Invocation) → SameNames i j → is_about r j ≡ is_about r i
+about_same : (r : PlainRule) (i j : Invocation) → SameNames i j → plain_is_about r j ≡ plain_is_about r i
 about_same r i j same =
     about_alike (plains_say j.user r.users) (plains_say j.host r.hosts) (plains_say j.runas r.runas)
     (plains_say i.user r.users) (plains_say i.host r.hosts) (plains_say i.runas r.runas)
@@ -115,11 +116,11 @@ unfolding says_from
 says_nothing true said = refl
 says_nothing false said = refl
 
-silent_says : (r : PlainRule) (i j : Invocation) → SameNames i j → is_about r i ≡ false → says r j ≡ None
+silent_says : (r : PlainRule) (i j : Invocation) → SameNames i j → plain_is_about r i ≡ false → plain_says r j ≡ None
 unfolding says_from
 silent_says r i j same other =
-    ap (λ (about : Bool). says_from (takes_part r j.at) about (cmnds_say j.path j.args r.cmnds)) (about_same r i j same ∙ other)
-    ∙ says_nothing (takes_part r j.at) (cmnds_say j.path j.args r.cmnds)
+    ap (λ (about : Bool). says_from (plain_takes_part r j.at) about (cmnds_say j.path j.args r.cmnds)) (about_same r i j same ∙ other)
+    ∙ says_nothing (plain_takes_part r j.at) (cmnds_say j.path j.args r.cmnds)
 
-pub silent_of_others : (r : PlainRule) (i j : Invocation) → SameNames i j → is_about r i ≡ false → spoken j r ≡ None
-silent_of_others r i j same other = ap (option_map (outcome r)) (silent_says r i j same other)
+pub silent_of_others : (r : PlainRule) (i j : Invocation) → SameNames i j → plain_is_about r i ≡ false → spoken j r ≡ None
+silent_of_others r i j same other = ap (option_map (plain_outcome r)) (silent_says r i j same other)

@@ -33,22 +33,23 @@ cmnds_say path args list = list_answer (match_answer path args) list
 
 -- ---- rules
 
-abbrev pub takes_part : PlainRule → ℕ → Bool
-takes_part r at = is_within r.not_before r.not_after at
+abbrev pub plain_takes_part : PlainRule → ℕ → Bool
+plain_takes_part r at = is_within r.not_before r.not_after at
 
-abbrev pub is_about : PlainRule → Invocation → Bool
-is_about r i = is_yes (plains_say i.user r.users)
+abbrev pub plain_is_about : PlainRule → Invocation → Bool
+plain_is_about r i = is_yes (plains_say i.user r.users)
     && is_yes (plains_say i.host r.hosts) && is_yes (plains_say i.runas r.runas)
 
-abbrev pub says : PlainRule → Invocation → Option Bool
-says r i = if takes_part r i.at && is_about r i then cmnds_say i.path i.args r.cmnds else None
+abbrev pub plain_says : PlainRule → Invocation → Option Bool
+plain_says r i =
+    if plain_takes_part r i.at && plain_is_about r i then cmnds_say i.path i.args r.cmnds else None
 
-abbrev pub outcome : PlainRule → Bool → Decision
-outcome r answer = decision_of r.tags answer
+abbrev pub plain_outcome : PlainRule → Bool → Decision
+plain_outcome r answer = decision_of r.tags answer
 
 -- what a rule decides, where it speaks
 abbrev pub spoken : Invocation → PlainRule → Option Decision
-spoken i r = option_map (outcome r) (says r i)
+spoken i r = option_map (plain_outcome r) (plain_says r i)
 
 -- ---- the last rule that speaks decides, and silence denies
 

@@ -9,7 +9,7 @@ use sudo_decide::{Decision, Invocation, is_within};
 /// Whether the rule's users, hosts and targets each say yes. The first that does not is the last
 /// asked.
 pub(crate) fn is_about(rule: &PlainRule, i: &Invocation) -> bool
-    ensures { result ≡ compiled.is_about rule.now i.now }
+    ensures { result ≡ compiled.plain_is_about rule.now i.now }
 {
     rule.users
         .says_of(i.user.as_str().as_bytes())
@@ -27,7 +27,7 @@ pub(crate) fn is_about(rule: &PlainRule, i: &Invocation) -> bool
 /// What the rule says: nothing outside its dates, or where it is not about the invocation; else
 /// what its commands say. These are asked before names are, since most rules have other commands.
 fn says(rule: &PlainRule, i: &Invocation) -> Option<bool>
-    ensures { result ≡ compiled.says rule.now i.now }
+    ensures { result ≡ compiled.plain_says rule.now i.now }
 {
     if !is_within(rule.not_before, rule.not_after, i.at) {
         return None;

@@ -19,7 +19,7 @@ use Rattle.sudo_compiled.specs.declared.plain.PlainRule.{PlainRule}
 use Rattle.sudo_compiled.specs.declared.used.NameSet.{NameSet}
 use Rattle.sudo_compiled.specs.declared.used.Used.{Used}
 use Rattle.sudo_compiled.specs.Compiled.{plain_answer, match_answer}
-use Rattle.sudo_compiled.specs.Compiled.{takes_part, is_about, cmnds_say}
+use Rattle.sudo_compiled.specs.Compiled.{plain_takes_part, plain_is_about, cmnds_say}
 use Rattle.sudo_compiled.specs.private.Used.{has}
 
 -- what an item is written out as: itself, or the alias that it is
@@ -99,7 +99,7 @@ CoversEntry defined_by known other = Unit {0}
 -- the rule as it is written out says, whatever is asked, what the rule says by the entries'
 -- definitions, and decides what it decides
 pub record IsWritten (defined_by : List Entry) (r : Rule) (w : PlainRule) : Type 0 where
-  pub dates : (at : ℕ) → takes_part w at ≡ defined.takes_part r at
-  pub about : (i : Invocation) → is_about w i ≡ defined.is_about defined_by r i
+  pub dates : (at : ℕ) → plain_takes_part w at ≡ defined.takes_part r at
+  pub about : (i : Invocation) → plain_is_about w i ≡ defined.is_about defined_by r i
   pub cmnd : (i : Invocation) → cmnds_say i.path i.args w.cmnds ≡ defined.cmnd_says defined_by r i
   pub tags : w.tags ≡ r.tags
