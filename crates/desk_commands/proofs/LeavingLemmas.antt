@@ -13,7 +13,7 @@ use Rattle.desk.specs.Opening.{Opens}
 use Rattle.desk.specs.declared.ack.Ack.{Ack}
 use Rattle.desk.specs.declared.refusal.Refusal.{Refusal}
 use Rattle.desk_commands.specs.Answers.{HasAnswer, IsAnswer}
-use Rattle.desk_commands.specs.Files.{IsDeskOf}
+use Rattle.desk_commands.specs.Files.{AreFilesOf}
 use Rattle.desk_commands.specs.Kept.{Kept, held_in, keeps, kept}
 use Rattle.desk_commands.specs.Leaving.{AreSomeTaken, KeepsAfterRefusal, LeavesDelivered, LeavesTaken}
 use Rattle.desk_commands.specs.Leaving.{OverOpened, SaysTaking, TellsBefore, TellsRefusal, WasOpened}
@@ -165,7 +165,7 @@ module _ (f : RosterFields Cmnd) where
 -- ---- a desk that was opened over a keeper, asked, and given up again
 
 module _ {K : Type 0} (is_up is_empty is_desk is_old : K → Type 0) (roster : K → List ℕ) (holds : K → Message → Type 0) (failures : K
-    → ℕ) (before opened after : K) (roster_file base_file : List ℕ) (f : RosterFields Cmnd) (base : List Entry) (made : IsDeskOf roster_file base_file f base)
+    → ℕ) (before opened after : K) (roster_file base_file : List ℕ) (f : RosterFields Cmnd) (base : List Entry) (made : AreFilesOf roster_file base_file f base)
     (is_kept : is_up after → is_desk after × (roster after ≡ roster_file)) (was_up : is_up after → is_up opened)
     (opens : is_up opened → SameSet (held_in (is_desk before) (is_old before) (holds before)) (holds opened)) (was : is_up opened
     → WasOpened roster_file (keeps is_empty is_desk is_old roster holds before)) (more : List (List ℕ)) (input : Option (List ℕ)) (Same : Type 0) where

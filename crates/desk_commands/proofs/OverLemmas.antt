@@ -12,7 +12,7 @@ use Rattle.desk_store.specs.Sets.{Lists, SameSet}
 use Rattle.desk_store.proofs.ServingLemmas.{failed_later}
 use Rattle.desk.specs.declared.refusal.Refusal.TheVariants as desk
 use Rattle.desk_commands.specs.Delivering.{DeliversLines, EndsDelivering}
-use Rattle.desk_commands.specs.Files.{EndsMaking, IsDeskOf}
+use Rattle.desk_commands.specs.Files.{EndsMaking, AreFilesOf}
 use Rattle.desk_commands.specs.Kept.{Kept, held_in, kept}
 use Rattle.desk_commands.specs.Printing.{EndsPrinting, HasManyLines, PrintsHost}
 use Rattle.desk_commands.specs.Rebuilding.{EndsRebuilding}
@@ -126,7 +126,7 @@ nothing_said (Some bytes) = sym (append-nil bytes)
 -- ---- a desk that is opened over a keeper, asked, and given up again
 
 module _ {K : Type 0} (is_up is_empty is_desk is_old : K → Type 0) (roster : K → List ℕ) (holds : K → Message → Type 0) (failures : K
-    → ℕ) (before opened after : K) (roster_file base_file : List ℕ) (f : RosterFields Cmnd) (base : List Entry) (made : IsDeskOf roster_file base_file f base)
+    → ℕ) (before opened after : K) (roster_file base_file : List ℕ) (f : RosterFields Cmnd) (base : List Entry) (made : AreFilesOf roster_file base_file f base)
     (keeps : is_up after → is_desk after × (roster after ≡ roster_file)) (was_up : is_up after → is_up opened)
     (opens : is_up opened → SameSet (held_in (is_desk before) (is_old before) (holds before)) (holds opened))
     (counts : failures before ≤ failures opened) (more : List (List ℕ)) (input : Option (List ℕ)) where
@@ -270,7 +270,7 @@ module _ {K : Type 0} (is_up is_empty is_desk is_old : K → Type 0) (roster : K
 -- ---- a desk that is rebuilt over a keeper, and given up again
 
 module _ {K : Type 0} (is_up is_empty is_desk is_old : K → Type 0) (roster : K → List ℕ) (holds : K → Message → Type 0) (failures : K
-    → ℕ) (before after : K) (roster_file base_file : List ℕ) (f : RosterFields Cmnd) (base : List Entry) (made : IsDeskOf roster_file base_file f base)
+    → ℕ) (before after : K) (roster_file base_file : List ℕ) (f : RosterFields Cmnd) (base : List Entry) (made : AreFilesOf roster_file base_file f base)
     (keeps : is_up after → is_desk after × (roster after ≡ roster_file)) (held : is_up after
     → SameSet (held_in (is_desk before) (is_old before) (holds before)) (holds after)) (more : List (List ℕ)) (input : Option (List ℕ)) where
   pub rebuilt : (places : Places) (a : Answer) (err : Option (List ℕ)) → a.status ≡ Done → string_bytes a.text ≡ codes "ok\n"

@@ -23,7 +23,7 @@ pub record IsRosterFile (file : List ℕ) (roster : RosterFields Cmnd) : Type 0 
   pub text : IsRosterText file roster
 
 -- the files make a desk of this roster and this base
-pub record IsDeskOf (roster_file base_file : List ℕ)
+pub record AreFilesOf (roster_file base_file : List ℕ)
     (roster : RosterFields Cmnd) (base : List Entry) : Type 0 where
   pub roster_is : IsRosterFile roster_file roster
   pub spelled : Spells base_file base
@@ -55,7 +55,8 @@ pub record HasLargeBase (file : List ℕ) : Type 0 where
 -- the files make a desk
 abbrev pub MakesDesk : (roster_file base_file : List ℕ) → Type 0
 MakesDesk roster_file base_file =
-    (roster : RosterFields Cmnd) × (base : List Entry) × IsDeskOf roster_file base_file roster base
+    (roster : RosterFields Cmnd) × (base : List Entry)
+    × AreFilesOf roster_file base_file roster base
 
 -- Opening the desk of the files over what a keeper keeps may be refused for this: a base past the
 -- limits, else something that is not a desk, a desk of an older form, or one of another roster's
@@ -113,4 +114,4 @@ abbrev pub OverDesk : (roster_file base_file : List ℕ) → Kept
     → (RosterFields Cmnd → List Entry → Type 0) → Type 0
 OverDesk roster_file base_file k Answered =
     (roster : RosterFields Cmnd) × (base : List Entry)
-    × IsDeskOf roster_file base_file roster base × KeepsDesk roster_file k × Answered roster base
+    × AreFilesOf roster_file base_file roster base × KeepsDesk roster_file k × Answered roster base

@@ -10,7 +10,7 @@ use Rattle.desk.specs.Delivery.{AreAnswers, HeldAfterAll}
 use Rattle.desk.specs.declared.ack.Ack.{Ack}
 use Rattle.desk.specs.declared.refusal.Refusal.{Refusal}
 use Rattle.desk_commands.specs.Answers.{HasAnswer, IsAnswer, IsCause, OfFiles}
-use Rattle.desk_commands.specs.Files.{IsDeskOf, IsRosterFile}
+use Rattle.desk_commands.specs.Files.{AreFilesOf, IsRosterFile}
 use Rattle.desk_commands.specs.Kept.{Keeps, Kept, held}
 use Rattle.desk_commands.specs.Lines.{from_relay, input_lines}
 use Rattle.desk_commands.specs.Taking.{AreTaken, HeldWith}
@@ -64,7 +64,7 @@ WasOpened roster_file before =
     ⊎ (before.desk × (¬ before.empty) × (¬ before.old) × (before.roster ≡ roster_file))
 
 -- The desk was opened, and the keeper keeps a desk of the same roster's text, which holds this.
-pub record LeavesDesk (roster_file : List ℕ) (k : Kept)
+pub record JobLeavesDesk (roster_file : List ℕ) (k : Kept)
     (Left : (old new : Message → Type 0) → Type 0) : Type 0 where
   pub was : WasOpened roster_file k.before
   pub desk : k.after.desk
@@ -76,7 +76,7 @@ abbrev pub OverOpened : (roster_file base_file : List ℕ) → Kept
     → (RosterFields Cmnd → (old new : Message → Type 0) → Type 0) → Type 0
 OverOpened roster_file base_file k Left =
     (roster : RosterFields Cmnd) × (base : List Entry)
-    × IsDeskOf roster_file base_file roster base × LeavesDesk roster_file k (Left roster)
+    × AreFilesOf roster_file base_file roster base × JobLeavesDesk roster_file k (Left roster)
 
 -- What the keeper keeps, where it is up, after a job that was refused before there was an answer:
 -- the same; or `deliver`, `print` and `review` opened the desk, and it holds what was held, after

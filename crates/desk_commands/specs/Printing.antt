@@ -10,7 +10,7 @@ use Rattle.desk_store.specs.Sets.{Lists, SameSet}
 use Rattle.outcomes.specs.HostFile.{AreLines, IsHostFile, IsHostFileAfter, Line, lines_after}
 use Rattle.outcomes.specs.Rights.{GivesRights, GivesRightsAfter}
 use Rattle.desk.specs.declared.refusal.Refusal.TheVariants as desk
-use Rattle.desk_commands.specs.Files.{EndsMaking, IsDeskOf}
+use Rattle.desk_commands.specs.Files.{EndsMaking, AreFilesOf}
 use Rattle.desk_commands.specs.Kept.{Kept, held}
 use Rattle.desk_commands.specs.Taking.{HeldWith, MayFailTaking, Takes}
 use Rattle.desk_commands.specs.declared.refusal.JobRefusal.{JobRefusal}
@@ -72,10 +72,10 @@ abbrev pub EndsPrinting : (roster_file base_file : List ℕ) (store : Store) (ho
 EndsPrinting roster_file base_file store host after k input reasons.FileFailed = MayFailTaking store
 EndsPrinting roster_file base_file store host after k input (reasons.Desk desk.UnknownHost) =
     k.up → (roster : RosterFields Cmnd) × (base : List Entry)
-    × IsDeskOf roster_file base_file roster base × (is_among roster.hosts host ≡ false)
+    × AreFilesOf roster_file base_file roster base × (is_among roster.hosts host ≡ false)
 EndsPrinting roster_file base_file store host after k input (reasons.Desk desk.TooManyRules) =
     k.up → (roster : RosterFields Cmnd) × (base : List Entry)
-    × IsDeskOf roster_file base_file roster base
+    × AreFilesOf roster_file base_file roster base
     × HasManyLines roster store host after (held k.before) k.up input
 EndsPrinting roster_file base_file store host after k input reason =
     EndsMaking roster_file base_file k reason

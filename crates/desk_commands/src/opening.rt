@@ -4,7 +4,7 @@ ghost use Rattle.std.specs.Prelude.{◌≡◌, IfErr, IfOk, MatchResult};
 ghost use Rattle.sudo_policy.specs.Spelling.{Spells};
 ghost use Rattle.desk_store.specs.Serves.{Serves};
 ghost use Rattle.desk_store.specs.Sets.{SameSet};
-ghost use Rattle.desk_commands.specs.Files.{EndsMaking, IsDeskOf, IsRosterFile, IsRosterFault};
+ghost use Rattle.desk_commands.specs.Files.{EndsMaking, AreFilesOf, IsRosterFile, IsRosterFault};
 ghost use Rattle.desk_commands.specs.Kept.{held_in, keeps_by, kept_by};
 ghost use Rattle.desk_commands.specs.Leaving.{WasOpened};
 ghost use Rattle.desk_commands.specs.Rebuilding.{EndsRebuilding};
@@ -51,7 +51,7 @@ pub fn open_over<K: Keeper>(
     base: &[u8],
     keeper: K,
 ) -> Result<Desk<K>, (JobRefusal, K)>
-    ensures found { IfOk result (λ d. IsDeskOf roster.now base.now d.roster.says d.base) }
+    ensures found { IfOk result (λ d. AreFilesOf roster.now base.now d.roster.says d.base) }
     ensures recorded { IfOk result (λ d. d.roster.text ≡ roster.now) }
     ensures opens { IfOk result (λ d. K.is_up d.keeper → SameSet
         (held_in (K.is_desk keeper) (K.is_old keeper) (K.holds keeper)) (K.holds d.keeper)) }
@@ -84,7 +84,7 @@ pub fn rebuild_over<K: Keeper>(
     base: &[u8],
     keeper: K,
 ) -> Result<Desk<K>, (JobRefusal, K)>
-    ensures found { IfOk result (λ d. IsDeskOf roster.now base.now d.roster.says d.base) }
+    ensures found { IfOk result (λ d. AreFilesOf roster.now base.now d.roster.says d.base) }
     ensures recorded { IfOk result (λ d. d.roster.text ≡ roster.now) }
     ensures keeps { IfOk result (λ d. K.is_up d.keeper → SameSet
         (held_in (K.is_desk keeper) (K.is_old keeper) (K.holds keeper)) (K.holds d.keeper)) }

@@ -11,7 +11,7 @@ use Rattle.matchit.proofs.RenameLemmas.{first-rename}
 use Rattle.relay_http.specs.declared.route.Route.{Route}
 use Rattle.relay_http.specs.declared.route.Route.TheVariants.{Messages, AllMessages, Count, Grants, Parked, HostFile, HostFileAfter, Report}
 use Rattle.relay_http.specs.declared.route.Route.TheVariants.{Requests, RequestsAfter, NamedRequest}
-use Rattle.relay_http.specs.Routes.{IsFree, routes, added, with_route}
+use Rattle.relay_http.specs.Routes.{IsFreeRoute, routes, added, with_route}
 use Rattle.relay_http.specs.Target.{is_plain, is_plain_byte}
 use Rattle.matchit.specs.Route.{parse_route}
 use Rattle.matchit.specs.Router.{route_from}
@@ -36,7 +36,7 @@ none_is_some (Some y) x e f = grind (arith, e)
 
 -- a route without conflict is refused for want of memory alone
 pub not_refused : (x : Result Scan InsertError) (route : Route) (old new : RowsOf (RouteOf Route)) (e : InsertError)
-    → InsertsRead x route old new (Err e) → IsFree x old → e ≡ OutOfMemory
+    → InsertsRead x route old new (Err e) → IsFreeRoute x old → e ≡ OutOfMemory
 not_refused (Ok s) route old new (Conflict with) h free = absurd (none_is_some _ _ free h.1.1)
 not_refused (Ok s) route old new OutOfMemory h free = refl
 not_refused (Ok s) route old new InvalidParamSegment h free = absurd h.1
@@ -45,49 +45,49 @@ not_refused (Ok s) route old new InvalidCatchAll h free = absurd h.1
 not_refused (Err f) route old new e h free = absurd free
 
 -- each route of the desk is free where it is added
-pub free_messages : IsFree (parse_route (codes "/v1/relays/{relay}/messages")) []
+pub free_messages : IsFreeRoute (parse_route (codes "/v1/relays/{relay}/messages")) []
 unfolding scan
 free_messages = refl
 
-pub free_grants : IsFree (parse_route (codes "/v1/grants/{at}")) (with_route (codes "/v1/relays/{relay}/messages") Messages [])
+pub free_grants : IsFreeRoute (parse_route (codes "/v1/grants/{at}")) (with_route (codes "/v1/relays/{relay}/messages") Messages [])
 unfolding scan
 free_grants = refl
 
 pub free_parked :
-    IsFree (parse_route (codes "/v1/parked")) (with_route (codes "/v1/grants/{at}") Grants (with_route (codes "/v1/relays/{relay}/messages") Messages []))
+    IsFreeRoute (parse_route (codes "/v1/parked")) (with_route (codes "/v1/grants/{at}") Grants (with_route (codes "/v1/relays/{relay}/messages") Messages []))
 unfolding scan
 free_parked = refl
 
-pub free_host_file : IsFree (parse_route (codes "/v1/hosts/{host}/sudoers"))
+pub free_host_file : IsFreeRoute (parse_route (codes "/v1/hosts/{host}/sudoers"))
     (with_route (codes "/v1/parked") Parked (with_route (codes "/v1/grants/{at}") Grants (with_route (codes "/v1/relays/{relay}/messages") Messages [])))
 unfolding scan
 free_host_file = refl
 
-pub free_report : IsFree (parse_route (codes "/v1/reviews/{at}")) (with_route (codes "/v1/hosts/{host}/sudoers") HostFile
+pub free_report : IsFreeRoute (parse_route (codes "/v1/reviews/{at}")) (with_route (codes "/v1/hosts/{host}/sudoers") HostFile
     (with_route (codes "/v1/parked") Parked (with_route (codes "/v1/grants/{at}") Grants (with_route (codes "/v1/relays/{relay}/messages") Messages []))))
 unfolding scan
 free_report = refl
 
-pub free_host_file_after : IsFree (parse_route (codes "/v1/hosts/{host}/sudoers/{at}"))
+pub free_host_file_after : IsFreeRoute (parse_route (codes "/v1/hosts/{host}/sudoers/{at}"))
     (with_route (codes "/v1/reviews/{at}") Report (with_route (codes "/v1/hosts/{host}/sudoers") HostFile
     (with_route (codes "/v1/parked") Parked (with_route (codes "/v1/grants/{at}") Grants (with_route (codes "/v1/relays/{relay}/messages") Messages [])))))
 unfolding scan
 free_host_file_after = refl
 
-pub free_all_messages : IsFree (parse_route (codes "/v1/messages")) (with_route (codes "/v1/hosts/{host}/sudoers/{at}") HostFileAfter
+pub free_all_messages : IsFreeRoute (parse_route (codes "/v1/messages")) (with_route (codes "/v1/hosts/{host}/sudoers/{at}") HostFileAfter
     (with_route (codes "/v1/reviews/{at}") Report (with_route (codes "/v1/hosts/{host}/sudoers") HostFile
     (with_route (codes "/v1/parked") Parked (with_route (codes "/v1/grants/{at}") Grants (with_route (codes "/v1/relays/{relay}/messages") Messages []))))))
 unfolding scan
 free_all_messages = refl
 
-pub free_count : IsFree (parse_route (codes "/v1/count")) (with_route (codes "/v1/messages") AllMessages
+pub free_count : IsFreeRoute (parse_route (codes "/v1/count")) (with_route (codes "/v1/messages") AllMessages
     (with_route (codes "/v1/hosts/{host}/sudoers/{at}") HostFileAfter
     (with_route (codes "/v1/reviews/{at}") Report (with_route (codes "/v1/hosts/{host}/sudoers") HostFile
     (with_route (codes "/v1/parked") Parked (with_route (codes "/v1/grants/{at}") Grants (with_route (codes "/v1/relays/{relay}/messages") Messages [])))))))
 unfolding scan
 free_count = refl
 
-pub free_requests : IsFree (parse_route (codes "/v1/requests"))
+pub free_requests : IsFreeRoute (parse_route (codes "/v1/requests"))
     (with_route (codes "/v1/count") Count
     (with_route (codes "/v1/messages") AllMessages
     (with_route (codes "/v1/hosts/{host}/sudoers/{at}") HostFileAfter
@@ -96,7 +96,7 @@ pub free_requests : IsFree (parse_route (codes "/v1/requests"))
 unfolding scan
 free_requests = refl
 
-pub free_requests_after : IsFree (parse_route (codes "/v1/requests/after/{at}"))
+pub free_requests_after : IsFreeRoute (parse_route (codes "/v1/requests/after/{at}"))
     (with_route (codes "/v1/requests") Requests
     (with_route (codes "/v1/count") Count
     (with_route (codes "/v1/messages") AllMessages
@@ -106,7 +106,7 @@ pub free_requests_after : IsFree (parse_route (codes "/v1/requests/after/{at}"))
 unfolding scan
 free_requests_after = refl
 
-pub free_named_request : IsFree (parse_route (codes "/v1/requests/{asker}/{no}"))
+pub free_named_request : IsFreeRoute (parse_route (codes "/v1/requests/{asker}/{no}"))
     (with_route (codes "/v1/requests/after/{at}") RequestsAfter
     (with_route (codes "/v1/requests") Requests
     (with_route (codes "/v1/count") Count

@@ -21,7 +21,7 @@ use Rattle.relay_http.specs.Needs.{HasNoHead, IsSettled, LacksContent}
 use Rattle.relay_http.specs.Routes.{routes, part}
 use Rattle.relay_http.specs.Scan.{scanned}
 use Rattle.relay_http.specs.Settled.{is_short, is_short_body, lacks_content}
-use Rattle.relay_http.specs.Stages.{IsFound, IsHeadAt, NeverHasHead, cut, size, size_by, size_of}
+use Rattle.relay_http.specs.Stages.{IsFoundHead, IsHeadAt, NeverHasHead, cut, size, size_by, size_of}
 use Rattle.relay_http.specs.Target.{is_plain}
 use Rattle.relay_http.specs.RequestBytes.{IsHttpRequest, IsHttpRequestByHead, Dates, DatesRequest, HasHead, allow, action_by, request_from}
 use Rattle.relay_http.specs.RequestBytes.{by_method, delivered}
@@ -85,7 +85,7 @@ head_at_more bytes more head h at = record {
   size = at.size;
 }
 
-pub found_more : (bytes more : List ℕ) (head : Head) → IsFound bytes head → IsFound (bytes ++ more) head
+pub found_more : (bytes more : List ℕ) (head : Head) → IsFoundHead bytes head → IsFoundHead (bytes ++ more) head
 found_more bytes more head x = (x.0, head_at_more bytes more head x.0 x.1)
 
 pub never_more : (bytes more : List ℕ) → NeverHasHead bytes → NeverHasHead (bytes ++ more)
@@ -287,7 +287,7 @@ whole_by bytes head h request at whole dates true short =
     let there : posts.1 ≤ length bytes - head.len = whole posts.1 (at.size ∙ posts.3) posts.4 in
     absurd (omega (arith, posts.2, there, at.len, length-drop (length (print_request h)) bytes))
 
-pub settled_whole : (bytes : List ℕ) (head : Head) → IsFound bytes head
+pub settled_whole : (bytes : List ℕ) (head : Head) → IsFoundHead bytes head
     → ((n : ℕ) → head.size ≡ Ok n → n ≤ 16384 → n ≤ length bytes - head.len) → IsSettled bytes
 settled_whole bytes head x whole =
     let r = some_request (request_from x.0 bytes) in
@@ -377,32 +377,32 @@ pub never_has : (bytes : List ℕ) → NeverHasHead bytes → HasNoHead bytes
 never_has bytes never = subst HasNoHead (append-nil bytes) (never [])
 
 -- the method of the head that was found is that of the head
-pub method_found : (bytes : List ℕ) (head : Head) (h : RequestHead) → IsFound bytes head → HasHead bytes h → span_bytes bytes head.method ≡ h.method
+pub method_found : (bytes : List ℕ) (head : Head) (h : RequestHead) → IsFoundHead bytes head → HasHead bytes h → span_bytes bytes head.method ≡ h.method
 method_found bytes head h x has =
     let one : x.0 ≡ h = (request_unique (front bytes) x.0 h x.1.has.0.0 has.0.0 x.1.has.0.1 has.0.1).0 in
     x.1.method ∙ ap (λ (k : RequestHead). k.method) one
 
 -- ---- the stages after more bytes
 
-pub stage_found : (bytes : List ℕ) (head : Head) (from : ℕ) → IsFound (take from bytes) head × IsSettled (take from bytes)
-    → IsFound bytes head × IsSettled bytes
+pub stage_found : (bytes : List ℕ) (head : Head) (from : ℕ) → IsFoundHead (take from bytes) head × IsSettled (take from bytes)
+    → IsFoundHead bytes head × IsSettled bytes
 stage_found bytes head from x =
-    subst (λ (l : List ℕ). IsFound l head × IsSettled l) (take-append-drop from bytes)
+    subst (λ (l : List ℕ). IsFoundHead l head × IsSettled l) (take-append-drop from bytes)
     (found_more (take from bytes) (drop from bytes) head x.0, settled_more (take from bytes) (drop from bytes) x.1)
 
 pub stage_broken : (bytes : List ℕ) (from : ℕ) → NeverHasHead (take from bytes) → NeverHasHead bytes
 stage_broken bytes from x = subst NeverHasHead (take-append-drop from bytes) (never_more (take from bytes) (drop from bytes) x)
 
 pub stage_whole : (bytes : List ℕ) (head : Head) (from n : ℕ) → n ≤ length bytes - from
-    → IsFound (take from bytes) head × LacksContent (take from bytes) n → IsFound bytes head × IsSettled bytes
+    → IsFoundHead (take from bytes) head × LacksContent (take from bytes) n → IsFoundHead bytes head × IsSettled bytes
 stage_whole bytes head from n le x =
-    subst (λ (l : List ℕ). IsFound l head × IsSettled l) (take-append-drop from bytes)
+    subst (λ (l : List ℕ). IsFoundHead l head × IsSettled l) (take-append-drop from bytes)
     (found_more (take from bytes) (drop from bytes) head x.0, x.1.enough (drop from bytes) (omega (arith, le, length-drop from bytes)))
 
 pub stage_lacks : (bytes : List ℕ) (head : Head) (from n : ℕ) → length bytes - from < n
-    → IsFound (take from bytes) head × LacksContent (take from bytes) n → IsFound bytes head × LacksContent bytes (n - (length bytes - from))
+    → IsFoundHead (take from bytes) head × LacksContent (take from bytes) n → IsFoundHead bytes head × LacksContent bytes (n - (length bytes - from))
 stage_lacks bytes head from n lt x =
-    subst (λ (l : List ℕ). IsFound l head × LacksContent l (n - (length bytes - from))) (take-append-drop from bytes) (
+    subst (λ (l : List ℕ). IsFoundHead l head × LacksContent l (n - (length bytes - from))) (take-append-drop from bytes) (
       found_more (take from bytes) (drop from bytes) head x.0,
       subst (λ (m : ℕ). LacksContent (take from bytes ++ drop from bytes) (n - m)) (length-drop from bytes)
           (lacks_more (take from bytes) (drop from bytes) n x.1 (omega (arith, lt, length-drop from bytes))),

@@ -12,7 +12,7 @@ use Rattle.desk.specs.declared.refusal.Refusal.{Refusal}
 use Rattle.desk.specs.declared.refusal.Refusal.TheVariants.{Storage}
 use Rattle.relay_http.specs.Request.{Action, Request}
 use Rattle.relay_http.specs.Responses.{Response, IsResponse, IsServerFailure, Leaves}
-use Rattle.relay_http.specs.Responses.{TellsRefusal, refusal}
+use Rattle.relay_http.specs.Responses.{ResponseTells, refusal}
 use Rattle.relay_http.specs.Response.{code_of, written}
 use Rattle.relay_http.specs.Routes.{routes}
 use Rattle.relay_http.specs.RequestBytes.{HasHead}
@@ -51,7 +51,7 @@ abbrev pub IsPrepared : (roster : Reading) → (base : List Entry) → (IsUp : T
     → Request ℕ → (code : ℕ) → Option Refusal → (bytes : List ℕ) → Type 0
 IsPrepared roster base IsUp old new Same Served request code told bytes =
     (x : IsExchange roster base IsUp old new Same Served (λ all. bytes ≡ all) request)
-    × (code ≡ code_of x.response.status) × TellsRefusal told x.response
+    × (code ≡ code_of x.response.status) × ResponseTells told x.response
 
 -- a response that tells of a want of memory or of storage was written
 abbrev pub WritesServerFailure : (Wrote : List ℕ → Type 0) → Type 0

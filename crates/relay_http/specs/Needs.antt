@@ -34,10 +34,10 @@ pub record LacksContent (bytes : List ℕ) (n : ℕ) : Type 0 where
 
 -- What the bytes need: the rest of a head, where none is there and one may still be; so many bytes
 -- of the content; or nothing.
-abbrev pub IsNeed : List ℕ → Need → Type 0
-IsNeed bytes need.Head = HasNoHead bytes × (length bytes < most_head_bytes)
-IsNeed bytes (need.Content n) = LacksContent bytes n
-IsNeed bytes need.Nothing = IsSettled bytes
+abbrev pub IsNeedOf : List ℕ → Need → Type 0
+IsNeedOf bytes need.Head = HasNoHead bytes × (length bytes < most_head_bytes)
+IsNeedOf bytes (need.Content n) = LacksContent bytes n
+IsNeedOf bytes need.Nothing = IsSettled bytes
 
 -- room for these, and for one more read
 abbrev pub most_room : ℕ

@@ -174,9 +174,9 @@ IsServerFailure response = (response ≡ refusal NoMemory) ⊎ (response ≡ ref
 
 -- What the program knows of a refusal beside the bytes: which one the response tells. A response
 -- that tells none has another status than 503.
-abbrev pub TellsRefusal : Option Refusal → Response → Type 0
-TellsRefusal None response = response.status ≢ status.ServiceUnavailable
-TellsRefusal (Some e) response = response ≡ refusal e
+abbrev pub ResponseTells : Option Refusal → Response → Type 0
+ResponseTells None response = response.status ≢ status.ServiceUnavailable
+ResponseTells (Some e) response = response ≡ refusal e
 
 -- ---- what is held then
 

@@ -22,9 +22,9 @@ abbrev pub with_route : List ℕ → Route → RowsOf (RouteOf Route) → RowsOf
 with_route text route rows = added (parse_route text) route rows
 
 -- no route conflicts with this one
-abbrev pub IsFree : Result Scan InsertError → RowsOf (RouteOf Route) → Type 0
-IsFree (Ok s) rows = nearest s.pattern rows ≡ None
-IsFree (Err e) rows = ⊥
+abbrev pub IsFreeRoute : Result Scan InsertError → RowsOf (RouteOf Route) → Type 0
+IsFreeRoute (Ok s) rows = nearest s.pattern rows ≡ None
+IsFreeRoute (Err e) rows = ⊥
 
 -- Each route with its path: a parameter in braces takes one component of the path, which is not
 -- empty. A component that is a route's own word is that word first, and a parameter's part only
@@ -77,9 +77,9 @@ second_parameter HostFileAfter = codes "at"
 second_parameter Report = []
 
 -- the value is the route's, and the bytes are what its parameters took
-abbrev pub Takes : Option (RouteOf Route) → List ℕ → Option (Route × List ℕ × List ℕ) → Type 0
-Takes None target None = Unit {0}
-Takes None target (Some x) = ⊥
-Takes (Some route) target None = ⊥
-Takes (Some route) target (Some x) = (route.value ≡ x.0)
+abbrev pub RouteTakes : Option (RouteOf Route) → List ℕ → Option (Route × List ℕ × List ℕ) → Type 0
+RouteTakes None target None = Unit {0}
+RouteTakes None target (Some x) = ⊥
+RouteTakes (Some route) target None = ⊥
+RouteTakes (Some route) target (Some x) = (route.value ≡ x.0)
     × (part (parameter x.0) route target ≡ x.1) × (part (second_parameter x.0) route target ≡ x.2)

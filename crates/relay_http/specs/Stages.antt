@@ -52,8 +52,8 @@ pub record IsHeadAt (bytes : List ℕ) (head : Head) (h : RequestHead) : Type 0 
       ≡ is_bad_host h.minor (values (codes "host") (map name_and_value h.fields))
   pub size : head.size ≡ size_of (map name_and_value h.fields)
 
-abbrev pub IsFound : List ℕ → Head → Type 0
-IsFound bytes head = (h : RequestHead) × IsHeadAt bytes head h
+abbrev pub IsFoundHead : List ℕ → Head → Type 0
+IsFoundHead bytes head = (h : RequestHead) × IsHeadAt bytes head h
 
 -- no head is there, whatever bytes follow
 abbrev pub NeverHasHead : List ℕ → Type 0
@@ -61,7 +61,7 @@ NeverHasHead bytes = (more : List ℕ) → HasNoHead (bytes ++ more)
 
 -- what a look at the bytes saw
 abbrev pub IsSeen : List ℕ → Looked → Type 0
-IsSeen bytes (looked.Found head) = IsFound bytes head
+IsSeen bytes (looked.Found head) = IsFoundHead bytes head
 IsSeen bytes looked.Partial = HasNoRequest (front bytes) × MayBecomeRequest (front bytes)
 IsSeen bytes looked.Never = NeverHasHead bytes
 
@@ -69,6 +69,6 @@ IsSeen bytes looked.Never = NeverHasHead bytes
 abbrev pub IsStage : List ℕ → Stage → Type 0
 IsStage bytes (stage.Begins line) =
     (line ≡ scanned Blank bytes) × (line ≢ Ended) × (length bytes < most_head_bytes)
-IsStage bytes (stage.Lacks head n) = IsFound bytes head × LacksContent bytes n
-IsStage bytes (stage.Found head) = IsFound bytes head × IsSettled bytes
+IsStage bytes (stage.Lacks head n) = IsFoundHead bytes head × LacksContent bytes n
+IsStage bytes (stage.Found head) = IsFoundHead bytes head × IsSettled bytes
 IsStage bytes stage.Broken = NeverHasHead bytes

@@ -8,7 +8,7 @@ ghost use Rattle.relay_http.specs.Request.{report, requests, requests_after};
 ghost use Rattle.relay_http.specs.Exchange.{IsAnswered};
 ghost use Rattle.relay_http.specs.Lasting.{Lasts};
 ghost use Rattle.relay_http.specs.Prepared.{response_of, to_question};
-ghost use Rattle.relay_http.specs.Responses.{TellsRefusal};
+ghost use Rattle.relay_http.specs.Responses.{ResponseTells};
 
 use crate::action::Action;
 use crate::bodies::{count_text, lines_text, live_text};
@@ -26,7 +26,7 @@ fn delivered<K: Keeper>(desk: &mut Desk<K>, relay: &str, body: &[u8]) -> Prepare
         desk.new.keeper) (deliver relay.now body.now) (response_of result) }
     ensures lasts { Lasts K.Keeper desk.old.roster.says desk.old.roster.text
         desk.old.keeper desk.new.keeper (deliver relay.now body.now) (response_of result) }
-    ensures told { TellsRefusal result.refusal (response_of result) }
+    ensures told { ResponseTells result.refusal (response_of result) }
     ensures settings { KeepsSettings desk.old desk.new }
 {
     to_delivery(desk.deliver(relay, body))
@@ -212,7 +212,7 @@ pub fn answered<K: Keeper>(
         (action_of action.entry) (response_of result) }
     ensures lasts { Lasts K.Keeper desk.old.roster.says desk.old.roster.text
         desk.old.keeper desk.new.keeper (action_of action.entry) (response_of result) }
-    ensures told { TellsRefusal result.refusal (response_of result) }
+    ensures told { ResponseTells result.refusal (response_of result) }
     ensures settings { KeepsSettings desk.old desk.new }
 {
     match action {

@@ -7,13 +7,13 @@ ghost use Rattle.std.specs.Io.KnownBytes.{IsAtEnd};
 ghost use Rattle.httparse.specs.Grammar.{RequestHead};
 ghost use Rattle.relay_http.specs.Content.{most_content};
 ghost use Rattle.relay_http.specs.Request.{request_of};
-ghost use Rattle.relay_http.specs.Needs.{HasNoHead, HasRead, IsNeed, IsSettled, after_reading};
+ghost use Rattle.relay_http.specs.Needs.{HasNoHead, HasRead, IsNeedOf, IsSettled, after_reading};
 ghost use Rattle.relay_http.specs.Needs.{most_read, most_room};
 ghost use Rattle.relay_http.specs.declared.exchange.ReceiveFault.TheVariants as fault;
 ghost use Rattle.relay_http.specs.Scan.{scanned};
 ghost use Rattle.relay_http.specs.declared.exchange.Stage.TheVariants as stages;
 ghost use Rattle.relay_http.specs.declared.head.Head.{Head};
-ghost use Rattle.relay_http.specs.Stages.{IsFound, IsStage};
+ghost use Rattle.relay_http.specs.Stages.{IsFoundHead, IsStage};
 ghost use Rattle.relay_http.specs.RequestBytes.{HasHead, IsHttpRequest, allow, most_head_bytes};
 ghost use Rattle.relay_http.specs.declared.head_scan.HeadScan.TheVariants.{Blank, Ended};
 ghost use Rattle.relay_http.specs.declared.route.Methods.TheVariants.{Post};
@@ -105,7 +105,7 @@ fn lacking(size: Result<u64, RequestFault>, come: usize) -> Option<usize>
 /// How far a request has come whose head was found. Where no content can be missing, the target's
 /// route is not looked up for it.
 fn found(routes: &Routes, head: Head, bytes: &[u8]) -> Stage
-    requires { IsFound bytes.now head }
+    requires { IsFoundHead bytes.now head }
     ensures { IsStage bytes.now result }
 {
     match lacking(head.size, bytes.len() - head.len) {
@@ -206,7 +206,7 @@ fn go_on(stage: &mut Stage, routes: &Routes, bytes: &[u8], from: usize)
 
 /// Whether a head that was found is that of a POST.
 fn is_post(head: &Head, bytes: &[u8]) -> bool
-    requires { IsFound bytes.now head.now }
+    requires { IsFoundHead bytes.now head.now }
     ensures { (h : RequestHead) → HasHead bytes.now h → result ≡ allow Post h.method }
 {
     allow(Methods::Post, head.method.of(bytes))
@@ -241,7 +241,7 @@ impl Exchange {
     #[inline(always)]
     pub fn take(&mut self, routes: &Routes, bytes: &[u8]) -> Result<Need, NoMemory>
         ensures taken { IfOk result (λ _. self.new.bytes ≡ self.old.bytes ++ bytes.now) }
-        ensures need { IfOk result (λ need. IsNeed self.new.bytes need) }
+        ensures need { IfOk result (λ need. IsNeedOf self.new.bytes need) }
         ensures kept { OnErr result (self.new.bytes ≡ self.old.bytes) }
         ensures room { self.old.room ≤ self.new.room }
         ensures full { OnErr result (self.old.room < length self.old.bytes + length bytes.now) }
@@ -273,7 +273,7 @@ impl Exchange {
 
     /// What the bytes that have come still need.
     pub fn need(&self) -> Need
-        ensures { IsNeed self.now.bytes result }
+        ensures { IsNeedOf self.now.bytes result }
     {
         match self.stage {
             Stage::Begins(_) => Need::Head,

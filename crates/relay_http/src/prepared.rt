@@ -2,7 +2,7 @@
 
 ghost use Rattle.std.specs.Prelude.{◌≡◌};
 ghost use Rattle.relay_http.specs.Prepared.{response_of, to_question};
-ghost use Rattle.relay_http.specs.Responses.{TellsRefusal, refusal, to_delivery};
+ghost use Rattle.relay_http.specs.Responses.{ResponseTells, refusal, to_delivery};
 ghost use Rattle.relay_http.specs.Response.{fault_line, status_of};
 
 use crate::body::Body;
@@ -23,7 +23,7 @@ pub struct PreparedResponse {
 pub fn to_fault(fault: RequestFault) -> PreparedResponse
     ensures status { (response_of result).status ≡ status_of fault }
     ensures body { (response_of result).body ≡ fault_line fault }
-    ensures told { TellsRefusal result.refusal (response_of result) }
+    ensures told { ResponseTells result.refusal (response_of result) }
 {
     PreparedResponse {
         status: fault.status(),
@@ -35,7 +35,7 @@ pub fn to_fault(fault: RequestFault) -> PreparedResponse
 /// The response to what the desk refuses. It takes no memory.
 fn to_refusal(reason: Refusal) -> PreparedResponse
     ensures response { response_of result ≡ refusal reason }
-    ensures told { TellsRefusal result.refusal (response_of result) }
+    ensures told { ResponseTells result.refusal (response_of result) }
 {
     PreparedResponse {
         status: refusal_status(reason),
@@ -47,7 +47,7 @@ fn to_refusal(reason: Refusal) -> PreparedResponse
 /// The response to a delivery. It takes no memory.
 pub fn to_delivery(answer: Result<Ack, Refusal>) -> PreparedResponse
     ensures response { response_of result ≡ to_delivery answer }
-    ensures told { TellsRefusal result.refusal (response_of result) }
+    ensures told { ResponseTells result.refusal (response_of result) }
 {
     match answer {
         Ok(_) => PreparedResponse {
@@ -62,7 +62,7 @@ pub fn to_delivery(answer: Result<Ack, Refusal>) -> PreparedResponse
 /// The response to a question of the desk.
 pub fn to_question(answer: Result<String, Refusal>) -> PreparedResponse
     ensures response { response_of result ≡ to_question answer }
-    ensures told { TellsRefusal result.refusal (response_of result) }
+    ensures told { ResponseTells result.refusal (response_of result) }
 {
     match answer {
         Ok(text) => PreparedResponse {

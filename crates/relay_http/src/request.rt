@@ -9,7 +9,7 @@ ghost use Rattle.relay_http.specs.Fields as head_fields;
 ghost use Rattle.relay_http.specs.Fields.{Fields, values};
 ghost use Rattle.relay_http.specs.Routes.{second_parameter, parameter};
 ghost use Rattle.relay_http.specs.Settled.{is_short};
-ghost use Rattle.relay_http.specs.Stages.{IsFound, IsHeadAt, cut, size_of};
+ghost use Rattle.relay_http.specs.Stages.{IsFoundHead, IsHeadAt, cut, size_of};
 ghost use Rattle.relay_http.specs.RequestBytes.{IsHttpRequest, Dates, DatesRequest};
 ghost use Rattle.relay_http.specs.RequestBytes.{action_by, request_from};
 ghost use Rattle.relay_http.specs.RequestBytes.{IsNumber, by_method, delivered, request_by};
@@ -185,7 +185,7 @@ fn action_by<'b>(
 
 /// The request that the bytes are, by their head.
 pub fn request_from<'b>(routes: &Routes, head: &Head, bytes: &'b [u8]) -> HttpRequest<'b>
-    requires { IsFound bytes.now head.now }
+    requires { IsFoundHead bytes.now head.now }
     ensures { (h : RequestHead) → IsHeadAt bytes.now head.now h
         → DatesRequest (request_from h bytes.now) (request_of result) }
 {
@@ -215,7 +215,7 @@ struct SoFar<'b> {
 }
 
 fn so_far<'b>(routes: &Routes, head: &Head, bytes: &'b [u8]) -> SoFar<'b>
-    requires { IsFound bytes.now head.now }
+    requires { IsFoundHead bytes.now head.now }
     ensures request { (h : RequestHead) → IsHeadAt bytes.now head.now h
         → DatesRequest (request_from h bytes.now) (request_of result.request) }
     ensures short { result.is_short ≡ is_short (request_of result.request) }
@@ -227,7 +227,7 @@ fn so_far<'b>(routes: &Routes, head: &Head, bytes: &'b [u8]) -> SoFar<'b>
 
 /// Whether the head asks for more content than is there.
 pub fn is_cut_short(routes: &Routes, head: &Head, bytes: &[u8]) -> bool
-    requires { IsFound bytes.now head.now }
+    requires { IsFoundHead bytes.now head.now }
     ensures { (request : Request ℕ) × ((h : RequestHead) → IsHeadAt bytes.now head.now h
         → DatesRequest (request_from h bytes.now) request) × (result ≡ is_short request) }
 {

@@ -4,7 +4,7 @@ ghost use Rattle.std.specs.Prelude.{◌≡◌, [], IfOk, IsTrue, OnOk, option_ma
 ghost use Rattle.matchit.specs.Params.{AllText, named, walk};
 ghost use Rattle.matchit.specs.Route.{parse_route};
 ghost use Rattle.matchit.specs.Seek.{first};
-ghost use Rattle.relay_http.specs.Routes.{IsFree, Takes, second_parameter};
+ghost use Rattle.relay_http.specs.Routes.{IsFreeRoute, RouteTakes, second_parameter};
 ghost use Rattle.relay_http.specs.Routes.{parameter, routes, with_route};
 ghost use Rattle.relay_http.specs.Target.{is_plain};
 
@@ -42,7 +42,7 @@ impl Routes {
     /// The route that a target has, with what the route's two parameters took.
     pub(crate) fn find<'b>(&self, target: &'b str) -> Option<(Route, &'b str, &'b str)>
         requires { IsTrue (is_plain target.now) }
-        ensures { Takes (first routes target.now) target.now
+        ensures { RouteTakes (first routes target.now) target.now
             (option_map (λ x. (x.0, x.1.now, x.2.now)) result) }
     {
         match self.router.at(target) {
@@ -59,7 +59,7 @@ impl Routes {
 /// Adds a route that conflicts with none before it, so that only want of memory can refuse it.
 #[tactic(auto, using(crate::proofs::RouteLemmas::inserted, crate::proofs::RouteLemmas::not_refused))]
 fn add(router: &mut Router<Route>, path: &str, route: Route) -> Result<(), NoMemory>
-    requires { IsFree (parse_route path.now) router.old }
+    requires { IsFreeRoute (parse_route path.now) router.old }
     ensures { OnOk result (router.new ≡ with_route path.now route router.old) }
 {
     match router.insert(path, route) {

@@ -2,7 +2,7 @@ use Rattle.std.proofs.Common.{sym, subst, ap, ◌∙◌, codes}
 use Rattle.matchit.specs.Route.{parse_route}
 use Rattle.matchit.specs.Router.{RouteOf}
 use Rattle.matchit.specs.Rows.{RowsOf}
-use Rattle.relay_http.specs.Routes.{IsFree, with_route, routes}
+use Rattle.relay_http.specs.Routes.{IsFreeRoute, with_route, routes}
 use Rattle.relay_http.specs.declared.route.Route.{Route}
 use Rattle.relay_http.specs.declared.route.Route.TheVariants.{Messages, AllMessages, Count, Grants, Parked, HostFile, HostFileAfter, Report}
 use Rattle.relay_http.specs.declared.route.Route.TheVariants.{Requests, RequestsAfter, NamedRequest}
@@ -12,23 +12,24 @@ use Rattle.relay_http.proofs.RouteLemmas.{free_requests_after, free_named_reques
 use Rattle.relay_http.proofs.routes.router.Goals as goal
 
 pub add-requires : goal.add-requires
-add-requires c = subst (λ (r : RowsOf (RouteOf Route)). IsFree (parse_route (codes "/v1/relays/{relay}/messages")) r) (sym c.new-router.ensures) free_messages
+add-requires c =
+    subst (λ (r : RowsOf (RouteOf Route)). IsFreeRoute (parse_route (codes "/v1/relays/{relay}/messages")) r) (sym c.new-router.ensures) free_messages
 
 pub add-requires-2 : goal.add-requires-2
 add-requires-2 c =
-    subst (λ (r : RowsOf (RouteOf Route)). IsFree (parse_route (codes "/v1/grants/{at}")) r)
+    subst (λ (r : RowsOf (RouteOf Route)). IsFreeRoute (parse_route (codes "/v1/grants/{at}")) r)
     (sym (c.in_ok-add.ensures ∙ ap (with_route (codes "/v1/relays/{relay}/messages") Messages) c.new-router.ensures)) free_grants
 
 pub add-requires-3 : goal.add-requires-3
 add-requires-3 c =
-    subst (λ (r : RowsOf (RouteOf Route)). IsFree (parse_route (codes "/v1/parked")) r)
+    subst (λ (r : RowsOf (RouteOf Route)). IsFreeRoute (parse_route (codes "/v1/parked")) r)
     (sym (c.in_ok-add-2.ensures
     ∙ ap (with_route (codes "/v1/grants/{at}") Grants) (c.in_ok-add.ensures
     ∙ ap (with_route (codes "/v1/relays/{relay}/messages") Messages) c.new-router.ensures))) free_parked
 
 pub add-requires-4 : goal.add-requires-4
 add-requires-4 c =
-    subst (λ (r : RowsOf (RouteOf Route)). IsFree (parse_route (codes "/v1/hosts/{host}/sudoers")) r)
+    subst (λ (r : RowsOf (RouteOf Route)). IsFreeRoute (parse_route (codes "/v1/hosts/{host}/sudoers")) r)
     (sym (c.in_ok-add-3.ensures
     ∙ ap (with_route (codes "/v1/parked") Parked) (c.in_ok-add-2.ensures
     ∙ ap (with_route (codes "/v1/grants/{at}") Grants) (c.in_ok-add.ensures
@@ -36,7 +37,7 @@ add-requires-4 c =
 
 pub add-requires-5 : goal.add-requires-5
 add-requires-5 c =
-    subst (λ (r : RowsOf (RouteOf Route)). IsFree (parse_route (codes "/v1/reviews/{at}")) r)
+    subst (λ (r : RowsOf (RouteOf Route)). IsFreeRoute (parse_route (codes "/v1/reviews/{at}")) r)
     (sym (c.in_ok-add-4.ensures
     ∙ ap (with_route (codes "/v1/hosts/{host}/sudoers") HostFile) (c.in_ok-add-3.ensures
     ∙ ap (with_route (codes "/v1/parked") Parked) (c.in_ok-add-2.ensures
@@ -45,7 +46,7 @@ add-requires-5 c =
 
 pub add-requires-6 : goal.add-requires-6
 add-requires-6 c =
-    subst (λ (r : RowsOf (RouteOf Route)). IsFree (parse_route (codes "/v1/hosts/{host}/sudoers/{at}")) r)
+    subst (λ (r : RowsOf (RouteOf Route)). IsFreeRoute (parse_route (codes "/v1/hosts/{host}/sudoers/{at}")) r)
     (sym (c.in_ok-add-5.ensures
     ∙ ap (with_route (codes "/v1/reviews/{at}") Report) (c.in_ok-add-4.ensures
     ∙ ap (with_route (codes "/v1/hosts/{host}/sudoers") HostFile) (c.in_ok-add-3.ensures
@@ -55,7 +56,7 @@ add-requires-6 c =
 
 pub add-requires-7 : goal.add-requires-7
 add-requires-7 c =
-    subst (λ (r : RowsOf (RouteOf Route)). IsFree (parse_route (codes "/v1/messages")) r)
+    subst (λ (r : RowsOf (RouteOf Route)). IsFreeRoute (parse_route (codes "/v1/messages")) r)
     (sym (c.in_ok-add-6.ensures
     ∙ ap (with_route (codes "/v1/hosts/{host}/sudoers/{at}") HostFileAfter) (c.in_ok-add-5.ensures
     ∙ ap (with_route (codes "/v1/reviews/{at}") Report) (c.in_ok-add-4.ensures
@@ -66,7 +67,7 @@ add-requires-7 c =
 
 pub add-requires-8 : goal.add-requires-8
 add-requires-8 c =
-    subst (λ (r : RowsOf (RouteOf Route)). IsFree (parse_route (codes "/v1/count")) r)
+    subst (λ (r : RowsOf (RouteOf Route)). IsFreeRoute (parse_route (codes "/v1/count")) r)
     (sym (c.in_ok-add-7.ensures
     ∙ ap (with_route (codes "/v1/messages") AllMessages) (c.in_ok-add-6.ensures
     ∙ ap (with_route (codes "/v1/hosts/{host}/sudoers/{at}") HostFileAfter) (c.in_ok-add-5.ensures
@@ -78,7 +79,7 @@ add-requires-8 c =
 
 pub add-requires-9 : goal.add-requires-9
 add-requires-9 c =
-    subst (λ (r : RowsOf (RouteOf Route)). IsFree (parse_route (codes "/v1/requests")) r)
+    subst (λ (r : RowsOf (RouteOf Route)). IsFreeRoute (parse_route (codes "/v1/requests")) r)
     (sym (c.in_ok-add-8.ensures
     ∙ ap (with_route (codes "/v1/count") Count) (c.in_ok-add-7.ensures
     ∙ ap (with_route (codes "/v1/messages") AllMessages) (c.in_ok-add-6.ensures
@@ -91,7 +92,7 @@ add-requires-9 c =
 
 pub add-requires-10 : goal.add-requires-10
 add-requires-10 c =
-    subst (λ (r : RowsOf (RouteOf Route)). IsFree (parse_route (codes "/v1/requests/after/{at}")) r)
+    subst (λ (r : RowsOf (RouteOf Route)). IsFreeRoute (parse_route (codes "/v1/requests/after/{at}")) r)
     (sym (c.in_ok-add-9.ensures
     ∙ ap (with_route (codes "/v1/requests") Requests) (c.in_ok-add-8.ensures
     ∙ ap (with_route (codes "/v1/count") Count) (c.in_ok-add-7.ensures
@@ -105,7 +106,7 @@ add-requires-10 c =
 
 pub add-requires-11 : goal.add-requires-11
 add-requires-11 c =
-    subst (λ (r : RowsOf (RouteOf Route)). IsFree (parse_route (codes "/v1/requests/{asker}/{no}")) r)
+    subst (λ (r : RowsOf (RouteOf Route)). IsFreeRoute (parse_route (codes "/v1/requests/{asker}/{no}")) r)
     (sym (c.in_ok-add-10.ensures
     ∙ ap (with_route (codes "/v1/requests/after/{at}") RequestsAfter) (c.in_ok-add-9.ensures
     ∙ ap (with_route (codes "/v1/requests") Requests) (c.in_ok-add-8.ensures

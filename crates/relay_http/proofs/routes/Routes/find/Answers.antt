@@ -3,7 +3,7 @@ use Rattle.matchit.specs.Params.{walk, named, AllText}
 use Rattle.matchit.specs.Rows.{RowsOf}
 use Rattle.matchit.specs.Router.{RouteOf}
 use Rattle.matchit.specs.Seek.{first}
-use Rattle.relay_http.specs.Routes.{part, Takes, second_parameter, parameter}
+use Rattle.relay_http.specs.Routes.{part, RouteTakes, second_parameter, parameter}
 use Rattle.relay_http.specs.declared.route.Route.{Route}
 use Rattle.relay_http.proofs.RouteLemmas.{texts}
 use Rattle.relay_http.proofs.routes.Routes.find.Goals as goal
@@ -27,7 +27,7 @@ unfolding part
 returns-in-Ok c =
     let found = sym (ap (λ (r : RowsOf (RouteOf Route)). first r c.args.target.now) c.self.invariant) ∙ c.in-Ok.ensures.found in
     let p = c.in-Ok.found.params in
-    subst (λ (o : Option (RouteOf Route)). Takes o c.args.target.now (Some (c.in-Ok.found.value.now, c.taken.result.now, c.second_taken.result.now)))
+    subst (λ (o : Option (RouteOf Route)). RouteTakes o c.args.target.now (Some (c.in-Ok.found.value.now, c.taken.result.now, c.second_taken.result.now)))
     (sym found) (
       refl,
       sym (c.taken.ensures ∙ ap
