@@ -22,5 +22,6 @@ pub mod PastGrants
 pub mod ByNameLemmas
 pub mod IndexLemmas
 pub mod HostRoll
+pub mod WalkLemmas
 pub mod RowLemmas
 mod WorkedGrant

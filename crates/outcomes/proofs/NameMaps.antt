@@ -27,7 +27,7 @@ same_from_equal a b h =
     exact_pairs (slice_cmp nat_cmp) nat_cmp exact_bytes exact_unsigned (a.by, a.no) (b.by, b.no) h in
     ap (λ (p : List ℕ × ℕ). record { by = p.0; no = p.1 }) pairs
 
-equal_itself : (a : RequestName) → name_cmp a a ≡ Equal
+pub equal_itself : (a : RequestName) → name_cmp a a ≡ Equal
 equal_itself a =
     ap (λ (o : Ordering). ordering_then o (nat_cmp a.no a.no)) (tied_itself nat_list_cmp_total a.by) ∙ tied_itself nat_cmp_total a.no
 

@@ -6,3 +6,5 @@ pub mod Index
 -- what its summaries give in turn
 pub mod InTurn
 pub mod Behind
+-- a walk over the summaries
+pub mod Walk

@@ -1,22 +1,25 @@
 //! One host's file.
 
 ghost use Rattle.std.specs.Prelude.{◌≡◌, ◌⊎◌, ◌<◌, ◌≤◌, List, IfOk, IfErr};
-ghost use Rattle.std.specs.Prelude.{OnOk, MatchResult, length, string_bytes};
+ghost use Rattle.std.specs.Prelude.{IfSome, OnOk, MatchResult};
+ghost use Rattle.std.specs.Prelude.{length, option_copied, string_bytes};
 ghost use Rattle.std.specs.List.Sorted.{IsStrictlySortedBy};
 ghost use Rattle.messages.specs.Names.{name_cmp};
 ghost use Rattle.messages.specs.declared.message.Message.{Message as AnyMessage};
 ghost use Rattle.grants.specs.Bases.{FitsBase};
+ghost use Rattle.grants.specs.Summaries.{StandsFor};
 ghost use Rattle.grants.specs.HostFaults.{most_lines};
 ghost use Rattle.grants.specs.declared.host_fault.HostFault.TheVariants as fault;
 ghost use Rattle.outcomes.specs.Gathered.{AreGathered};
 ghost use Rattle.outcomes.specs.HostFile.{Line, AreLines};
 ghost use Rattle.outcomes.specs.LinesLeft as left;
 ghost use Rattle.outcomes.specs.private.Behind.{AreBehind, AreNamesLines};
-ghost use Rattle.outcomes.specs.private.ByName.{AreRequests, Gathers, at_name};
+ghost use Rattle.outcomes.specs.private.ByName.{AreRequests, Gathers};
 ghost use Rattle.outcomes.specs.private.Index.{kept_of, names_lent};
 
 use crate::base::Base;
 use crate::gathering::Gathered;
+use crate::walk::summary_at;
 use grants::{HostFault, MOST_LINES, Summary, push_lines};
 use messages::RequestName;
 use roster::Roster;
@@ -24,22 +27,21 @@ use std::alloc::Global;
 use std::collections::BTreeMap;
 use sudo_words::{HostName, Moment, NoMemory};
 
-/// Adds the lines that the request of a name gives the host and that are left, and answers how many
+/// Adds the lines that are left of what was found under a name, for the host, and answers how many
 /// they are: none if nobody asks under the name.
 fn push_name(
     alloc: Global,
     text: &mut String,
     roster: &Roster,
-    summaries: &BTreeMap<RequestName, Summary>,
-    name: &RequestName,
+    found: Option<&Summary>,
     host: &HostName,
     after: &Option<Moment>,
 ) -> Result<usize, NoMemory>
-    ensures { (set : List AnyMessage) → Gathers set summaries.now
+    ensures { (set : List AnyMessage) → IfSome found.entry (λ k. StandsFor set k.now)
         → IfOk result (AreNamesLines roster.now.says set host.now after.now
-        (at_name summaries.now name.now) (string_bytes text.old) (string_bytes text.new)) }
+        (option_copied found.entry) (string_bytes text.old) (string_bytes text.new)) }
 {
-    match summaries.get(name) {
+    match found {
         Some(summary) => push_lines(alloc, text, roster, summary, host, *after),
         None => Ok(0),
     }
@@ -64,9 +66,11 @@ fn push_all(
     ensures err { (set : List AnyMessage) → Gathers set summaries.now
         → IfErr result (left.IsPast roster.now.says set host.now after.now) }
 {
+    let mut walk = summaries.range(..);
     let mut count = 0;
     for name in names {
-        let more = push_name(alloc, text, roster, summaries, name, host, after)?;
+        let found = summary_at(summaries, &mut walk, name);
+        let more = push_name(alloc, text, roster, found, host, after)?;
         if more > MOST_LINES - count {
             return Err(HostFault::TooManyRules);
         }

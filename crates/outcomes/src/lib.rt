@@ -15,6 +15,7 @@ mod name_status;
 mod parked;
 mod past_laws;
 mod summaries;
+mod walk;
 mod worked;
 
 pub use about::messages_in;

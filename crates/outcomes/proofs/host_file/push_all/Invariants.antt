@@ -10,6 +10,7 @@ use Rattle.grants.specs.GrantLines.{rules_left}
 use Rattle.outcomes.specs.private.Index.{kept_of, names_lent}
 use Rattle.outcomes.specs.private.ByName.{Gathers}
 use Rattle.outcomes.specs.private.InTurn.{Give}
+use Rattle.outcomes.specs.private.Walk.{AreEntriesOf}
 use Rattle.outcomes.proofs.host_file.push_all.Given as goal
 
 abbrev pub invariant-loop-name : goal.invariant-loop-name
@@ -20,4 +21,5 @@ invariant-loop-name l = record {
       × (string_bytes l.text ≡ string_bytes l.fn.text ++ canon (map entries.Rule rules))
       × (l.count ≡ length rules);
   few : l.count ≤ 8_192;
+  walk : AreEntriesOf l.summaries l.walk;
 }
