@@ -168,7 +168,8 @@ impl<K: Keeper> Desk<K> {
             → length ls ≤ most_lines → IfErr result (λ e. (e ≡ refusal.UnknownHost) ⊎ IsWant e) }
         ensures many { (set : List AnyMessage) (ls : List Line)
             → K.is_up self.new.keeper → Lists (K.holds self.old.keeper) set
-            → AreLines self.old.roster.says set host.now ls → most_lines < length ls → MatchResult result
+            → AreLines self.old.roster.says set host.now ls
+            → most_lines < length ls → MatchResult result
             (λ _. ⊥) (λ e. (e ≡ refusal.UnknownHost) ⊎ (e ≡ refusal.TooManyRules) ⊎ IsWant e) }
         ensures err { IfErr result
             (λ e. (e ≡ refusal.UnknownHost) ⊎ (e ≡ refusal.TooManyRules) ⊎ IsWant e) }
@@ -195,7 +196,8 @@ impl<K: Keeper> Desk<K> {
             ↔ (is_among self.old.roster.says.hosts host.now ≡ false) }
         ensures few { (set : List AnyMessage) (ls : List Line)
             → K.is_up self.new.keeper → Lists (K.holds self.old.keeper) set
-            → AreLines self.old.roster.says set host.now ls → length (lines_after moment ls) ≤ most_lines
+            → AreLines self.old.roster.says set host.now ls
+            → length (lines_after moment ls) ≤ most_lines
             → IfErr result (λ e. (e ≡ refusal.UnknownHost) ⊎ IsWant e) }
         ensures many { (set : List AnyMessage) (ls : List Line) → K.is_up self.new.keeper
             → Lists (K.holds self.old.keeper) set → AreLines self.old.roster.says set host.now ls

@@ -133,7 +133,8 @@ abbrev pub IsFileResponse : (left : List Line → List Line) → RosterFields Cm
 IsFileResponse left f base set host response =
     ((is_known_host f host ≡ false) × (response ≡ refusal UnknownHost))
     ⊎ ((is_known_host f host ≡ true) × ((lines : List Line) × AreLines f set host lines
-    × (length (left lines) ≤ most_lines) × (response ≡ done (canon (with_lines base (left lines))))))
+    × (length (left lines) ≤ most_lines)
+    × (response ≡ done (canon (with_lines base (left lines))))))
     ⊎ ((is_known_host f host ≡ true) × ((lines : List Line) → AreLines f set host lines
     → most_lines < length (left lines)) × (response ≡ refusal TooManyRules))
 
