@@ -15,7 +15,7 @@ use clap::{Arg, ArgAction, ArgMatches, Command};
 use std::alloc::{AllocError, Global};
 
 /// The program's version, and the logic that it is proved in, as `rt version` names it.
-const VERSION: &str = "0.17.1\nproved with rattle logic dac8208d650f15bf";
+const VERSION: &str = "0.18.0\nproved with rattle logic dac8208d650f15bf";
 
 /// The text below each help.
 const ENDS: &str =
