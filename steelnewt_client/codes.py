@@ -1,7 +1,8 @@
 """What an answer to a message means, by its code (docs/HTTP.md, 'Post a message'), and the words of
 docs/CODES.md for people.
 
-Every program that posts messages goes by `judge`: no other place says which refusals are final.
+Every program that posts messages goes by `judge`: no other place says which of a desk's refusals are
+final.
 """
 
 import enum

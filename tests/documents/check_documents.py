@@ -114,7 +114,7 @@ def store(page: Page) -> None:
     log_alone(page, from_log)
     page.says(
         "**`K4` does not**: the commit failed, and the message may be there",
-        "13 MB and some 930 bytes a message, and a desk that was asked something 1,500 to 2,000",
+        "13 MB and some 930 bytes a message; served, 1,100, and up to 1,600 once asked for all",
     )
 
 

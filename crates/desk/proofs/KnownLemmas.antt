@@ -15,7 +15,7 @@ use Rattle.store_tables.specs.declared.arrival.Arrival.TheVariants.{New, Held}
 use Rattle.std.specs.BTreeSet.{BTreeSet}
 use Rattle.outcomes.specs.Gathered.{Known as Gathered}
 use Rattle.suspects.specs.LookedAt.{AreKnownSuspects}
-use Rattle.desk_store.specs.Keeping.{IsKnownOf}
+use Rattle.desk_store.specs.Keeping.{IsCountOf, IsKnownOf}
 use Rattle.outcomes.proofs.Membership.{no_member}
 use Rattle.desk.specs.Count.{IsCount}
 use Rattle.desk.proofs.CountLemmas.{count_of_set}
@@ -85,16 +85,26 @@ known_then f Up Later S T m arrival (Some g) (Some h) known was grown told more 
 unknown : (f : RosterFields Cmnd) (set : List Message) (o : Option (BTreeSet RequestName)) → o ≡ None → AreKnownSuspects f set o
 unknown f set o none = subst (AreKnownSuspects f set) (sym none) tt
 
+-- as many as the look told are those of a list of what is held
+counted : (S : Message → Type 0) (list : List Message) (count : Option ℕ) → Lists S list → IfSome count (IsCountOf S) → IsCounted list count
+counted S list None lists told = tt
+counted S list (Some n) lists told = record {
+  each = told.0;
+  same = same_listed S list told.0 lists told.1;
+  once = told.2;
+  counted = told.3;
+}
+
 -- what is known at first is known of what is held
 pub at_first : (f : RosterFields Cmnd) (Up : Type 0) (S : Message → Type 0) (origin : Origin) (o : Option Known)
     → IsKnownAtFirst origin o → (Up → IsOriginOf S origin) → IsKnown f Up S o
 at_first f Up S Made None first is = tt
 at_first f Up S Made (Some g) first is = λ up.
     ([], λ n. (λ held. absurd (is up n held), λ among. absurd (no_member n among)), (first.0, first.1, unknown f [] g.suspects first.2))
-at_first f Up S (Found told) None first is = tt
-at_first f Up S (Found told) (Some g) first is = λ up.
-    let it = subst (λ (known : Option Gathered). IfSome known (IsKnownOf S)) first.0 (is up) in
-    (it.0, it.1, (it.2, subst (IsCounted it.0) (sym first.1) tt, unknown f it.0 g.suspects first.2))
+at_first f Up S (Found told count) None first is = tt
+at_first f Up S (Found told count) (Some g) first is = λ up.
+    let it = subst (λ (known : Option Gathered). IfSome known (IsKnownOf S)) first.0 (is up).0 in
+    (it.0, it.1, (it.2, subst (IsCounted it.0) (sym first.1) (counted S it.0 count it.1 (is up).1), unknown f it.0 g.suspects first.2))
 
 -- what is held is the same, and so is its set
 pub known_with : (f : RosterFields Cmnd) (Up : Type 0) (S : Message → Type 0) (old new : Option Known) → IsKnown f Up S old
@@ -108,10 +118,25 @@ known_with f Up S (Some k) (Some l) known more nothing = λ up.
     let it = known up in (it.0, it.1, more it.0 it.1 up it.2)
 
 -- the same of a list of what is held, which has messages alone
-pub known_looked : (S : Message → Type 0) → ((m : Message) → S m → IsMessage m) → (Old Kept : List Message → Type 0)
+known_looked : (S : Message → Type 0) → ((m : Message) → S m → IsMessage m) → (Old Kept : List Message → Type 0)
     → ((set : List Message) → ((m : Message) → Contains set m → IsMessage m) → Old set → Kept set)
     → (set : List Message) × Lists S set × Old set → (set : List Message) × Lists S set × Kept set
 known_looked S messages Old Kept more it = (it.0, it.1, more it.0 (λ m there. messages m ((it.1 m).1 there)) it.2)
+
+-- and all that holds of a desk still does, once what is known of it was looked at
+pub desk_looked_at : {Fits Desk Durable Live Up Was : Type 0} {now was text : List ℕ} {Old Kept : List Message → Type 0} (S : Message → Type 0)
+    → ((m : Message) → S m → IsMessage m) → ((set : List Message) → ((m : Message) → Contains set m → IsMessage m) → Old set → Kept set)
+    → Fits → (Up → Desk) → (Up → now ≡ was) → (Was → was ≡ text) → (Up → Was) → (Up → Durable)
+    → (Up → (set : List Message) × Lists S set × Old set) → Live
+    → Fits × (Up → Desk) × (Up → now ≡ text) × (Up → Durable) × (Up → (set : List Message) × Lists S set × Kept set) × Live
+desk_looked_at {Old = Old} {Kept = Kept} S messages more fits desk same was before durable known live = (
+  fits,
+  desk,
+  λ up. same up ∙ was (before up),
+  durable,
+  λ up. known_looked S messages Old Kept more (known up),
+  live,
+)
 
 -- and it is known only where it was
 pub known_of_up_with : (Clean Up : Type 0) (old new : Option Known) → IsKnownOfUp Clean Up old → (old ≡ None → new ≡ None) → IsKnownOfUp Clean Up new

@@ -6,7 +6,7 @@ use Rattle.sudo_words.specs.declared.cmnd.Cmnd.{Cmnd}
 use Rattle.messages.specs.declared.message.Message.{Message}
 use Rattle.roster.specs.Fields.{RosterFields}
 use Rattle.store_tables.specs.Sets.{SameSet, With}
-use Rattle.desk_store.specs.Keeping.{IsSomeDesk}
+use Rattle.desk_store.specs.Keeping.{FindsSomeDesk}
 use Rattle.desk_store.specs.Left.{Left, AddsOnly, IsDeskOf, LeavesOnly}
 use Rattle.desk_store.specs.declared.keeper.Keeper.{Ghosts}
 use Rattle.desk_store.specs.declared.error.KeeperError.{KeeperError}
@@ -52,11 +52,11 @@ told_live errors.NoMemory (Ok x) P Q is = absurd is
 told_live errors.Storage (Err e) P Q is = inl (inr is)
 told_live errors.NoMemory (Err e) P Q is = inl (inl is)
 
-pub is_desk : (f : Found) (desk : FoundDesk) → f ≡ found.Desk desk → IsSomeDesk f
-is_desk f desk is = subst IsSomeDesk (sym is) tt
+pub is_desk : (f : Found) (desk : FoundDesk) → f ≡ found.Desk desk → FindsSomeDesk f
+is_desk f desk is = subst FindsSomeDesk (sym is) tt
 
-pub is_old_desk : (f : Found) → f ≡ found.OldDesk → IsSomeDesk f
-is_old_desk f is = subst IsSomeDesk (sym is) tt
+pub is_old_desk : (f : Found) → f ≡ found.OldDesk → FindsSomeDesk f
+is_old_desk f is = subst FindsSomeDesk (sym is) tt
 
 pub known_of_up : (Clean Up : Type 0) (o : Option Known) → (Clean → Up) → IsKnownOfUp Clean Up o
 known_of_up Clean Up None live = tt

@@ -4,11 +4,14 @@ use Rattle.std.specs.Prelude.{⊤, IfSome, string_bytes}
 use Rattle.messages.specs.declared.message.Message.{Message}
 use Rattle.outcomes.specs.Gathered.{Known}
 use Rattle.store_tables.specs.Sets.{SameSet}
-use Rattle.desk_store.specs.Keeping.{IsKnownOf, Tells, TellsKnown}
+use Rattle.desk_store.specs.Keeping.{IsCountOf, IsKnownOf, Tells, TellsCount, TellsKnown}
 use Rattle.desk_store.specs.declared.found.Found.{Found}
 use Rattle.desk_store.specs.declared.found.FoundDesk.{FoundDesk}
 use Rattle.desk_store.specs.declared.found.Found.TheVariants as found
 use Rattle.desk.specs.Opening.{Refuses}
+use Rattle.desk.specs.private.Known.{IsOriginOf}
+use Rattle.desk.specs.declared.opening.Origin.{Origin}
+use Rattle.desk.specs.declared.opening.Origin.TheVariants as origin
 use Rattle.desk.specs.Refusals.{IsWant}
 use Rattle.desk.proofs.KnownLemmas.{lists_still}
 use Rattle.desk.specs.declared.refusal.Refusal.{Refusal}
@@ -33,13 +36,28 @@ module _ (Empty Kept Old : Type 0) (roster : List ℕ) (tells : Found) where
   told_no_desk is told = let P : Found → Type 0 = Tells Empty Kept Old roster in subst P is told
 
 -- a keeper that keeps the same still holds what the look told of
-pub told_still : (S T : Message → Type 0) (tells : Found) (desk : FoundDesk) → tells ≡ found.Desk desk
+told_still : (S T : Message → Type 0) (tells : Found) (desk : FoundDesk) → tells ≡ found.Desk desk
     → SameSet S T → TellsKnown S tells → IfSome desk.known (IsKnownOf T)
 told_still S T tells desk is same told = still desk.known (subst (TellsKnown S) is told)
   where
     still : (known : Option Known) → IfSome known (IsKnownOf S) → IfSome known (IsKnownOf T)
     still None told = tt
     still (Some known) told = (told.0, lists_still S T told.0 same told.1, told.2)
+
+-- and as many
+counted_still : (S T : Message → Type 0) (tells : Found) (desk : FoundDesk) → tells ≡ found.Desk desk
+    → SameSet S T → TellsCount S tells → IfSome desk.count (IsCountOf T)
+counted_still S T tells desk is same told = still desk.count (subst (TellsCount S) is told)
+  where
+    still : (count : Option ℕ) → IfSome count (IsCountOf S) → IfSome count (IsCountOf T)
+    still None told = tt
+    still (Some count) told = (told.0, lists_still S T told.0 same told.1, told.2, told.3)
+
+-- so both are what the desk begins with
+pub origin_still : (S T : Message → Type 0) (tells : Found) (desk : FoundDesk) (from : Origin) → tells ≡ found.Desk desk
+    → from ≡ origin.Found desk.known desk.count → SameSet S T → TellsKnown S tells → TellsCount S tells → IsOriginOf T from
+origin_still S T tells desk from is begins same known count = subst (IsOriginOf T) (sym begins)
+    (told_still S T tells desk is same known, counted_still S T tells desk is same count)
 
 -- why no desk is found or made is why none is opened over a base that fits
 pub refused_over : (Fits Empty Kept Old : Type 0) (recorded said text : List ℕ) (e : Refusal) → Fits → said ≡ text → e ≢ BaseTooLarge

@@ -7,6 +7,7 @@ ghost use Rattle.desk.specs.private.Known.{IsKnownAtFirst, IsOriginOf};
 ghost use Rattle.desk.specs.Opening.{IsOpeningRefusal, IsUnseen, Opens, Refuses};
 ghost use Rattle.desk.specs.Refusals.{IsWant};
 ghost use Rattle.desk.specs.Serving.{ServesAnswer};
+ghost use Rattle.desk.specs.declared.opening.Origin.TheVariants as origin;
 ghost use Rattle.desk.specs.declared.refusal.Refusal.TheVariants as refusal;
 
 use crate::loading::Known;
@@ -18,8 +19,8 @@ use std::alloc::Global;
 /// Where a desk comes from.
 #[derive(Drop)]
 pub(crate) enum Origin {
-    /// It was there, and this is known of its messages, if the look told it.
-    Found(Option<Gathered>),
+    /// It was there, and this is known of its messages, and so many they are, if the look told it.
+    Found(Option<Gathered>, Option<usize>),
     /// It was made, without messages.
     Made,
 }
@@ -35,22 +36,30 @@ pub(crate) fn known_at_first(alloc: Global, origin: Origin) -> Option<Known>
             count: Some(0),
             suspects: None,
         }),
-        Origin::Found(Some(gathered)) => Some(Known {
-            gathered,
-            count: None,
-            suspects: None,
-        }),
-        Origin::Found(None) => None,
+        Origin::Found(known, count) => {
+            let Some(gathered) = known else {
+                return None;
+            };
+            Some(Known {
+                gathered,
+                count,
+                suspects: None,
+            })
+        }
     }
 }
 
 /// What the look told of the messages of the desk that it found.
-fn known_in(desk: FoundDesk) -> Option<Gathered>
-    ensures { result ≡ desk.known }
+fn origin_of(desk: FoundDesk) -> Origin
+    ensures { result ≡ origin.Found desk.known desk.count }
 {
-    let FoundDesk { roster, known } = desk;
+    let FoundDesk {
+        roster,
+        known,
+        count,
+    } = desk;
     drop(roster);
-    known
+    Origin::Found(known, count)
 }
 
 /// Finds the keeper's desk of this roster's text, or makes one where the keeper keeps nothing of a
@@ -85,7 +94,7 @@ pub(crate) fn find_or_make<K: Keeper>(keeper: &mut K, text: &str) -> Result<Orig
             keeper.make(text)?;
             Ok(Origin::Made)
         }
-        Found::Desk(desk) if desk.roster.as_str() == text => Ok(Origin::Found(known_in(desk))),
+        Found::Desk(desk) if desk.roster.as_str() == text => Ok(origin_of(desk)),
         Found::Desk(_) => Err(Refusal::RosterChanged),
         Found::OldDesk => Err(Refusal::OldSchema),
         Found::NotADesk => Err(Refusal::NotADesk),

@@ -8,11 +8,11 @@ use Rattle.clap.specs.Simple.{Shape, built}
 use Rattle.clap.specs.Walk.{Row, Text, Walk, finished, positional, value}
 use Rattle.clap.specs.declared.parser.matches.ValueSource.TheVariants.{CommandLine}
 use Rattle.clap.specs.declared.builder.value_parser.Reading.TheVariants as reading
-use Rattle.desk_args.specs.CommandLine.{check, desk, values}
+use Rattle.desk_args.specs.CommandLine.{check, desk_app, given_values}
 use Rattle.desk_args.proofs.Placed.{at_place, ended, placed, placed_fault, placed_level}
 
 abbrev pub leaf : Shape
-leaf = slice_index_or (built desk).subs 1 check.top
+leaf = slice_index_or (built desk_app).subs 1 check.top
 
 abbrev pub row : Text → List Text → Row
 row id values = record { id = id; values = values; count = None; source = Some CommandLine; reading = reading.AsWritten }
@@ -101,6 +101,6 @@ six_rows f u h r t p (x ∷ xs) =
     ∙ ends_with f u h r t p l.before l.last
     ∙ ap (λ args. six f u h r t p (args_row args)) l.all
 
-pub args_are : (f u h r t p : Text) (args : List Text) → values (codes "ARGS") (six f u h r t p (args_row args)) ≡ args
+pub args_are : (f u h r t p : Text) (args : List Text) → given_values (codes "ARGS") (six f u h r t p (args_row args)) ≡ args
 args_are f u h r t p [] = refl
 args_are f u h r t p (x ∷ xs) = refl

@@ -5,7 +5,7 @@ use Rattle.std.proofs.Common.{◌∙◌, ap, inl, subst, sym}
 use Rattle.clap.proofs.OnLiterals.{clap_on_literals}
 use Rattle.clap.specs.Simple.{Shape, built}
 use Rattle.clap.specs.Walk.{Row, Text, finished, first_of}
-use Rattle.desk_args.specs.CommandLine.{ArePlaces, HasSync, HasValue, IsCommandLine, SaysJob, check, desk}
+use Rattle.desk_args.specs.CommandLine.{ArePlaces, HasSync, HasValue, IsCommandLine, SaysJob, check, desk_app}
 use Rattle.desk_args.specs.Operands.{SaysByPlace, SaysPlace, is_operand}
 use Rattle.desk_args.specs.declared.task.Job.{Job}
 use Rattle.desk_args.specs.declared.task.Job.TheVariants.{Beyond, Check, Decide, Deliver, Print, Rebuild, Review, Serve}
@@ -15,11 +15,11 @@ use Rattle.desk_args.proofs.Placed.{Enters, entered_named, faultless_named, leve
 use Rattle.desk_args.proofs.ArgsPlaced.{args_are, args_row, six, six_faultless, six_rows}
 
 abbrev nth : ℕ → Shape
-nth n = slice_index_or (built desk).subs n check.top
+nth n = slice_index_or (built desk_app).subs n check.top
 
 -- a command that is entered by its name, and what it makes of the words after it
 record Takes (name : Text) (leaf : Shape) (rest : List Text) (rows : List Row) : Type 0 where
-  pub enters : Enters (built desk) name leaf
+  pub enters : Enters (built desk_app) name leaf
   pub operands : list_all is_operand rest ≡ true
   pub leads : list_all never_trails leaf.rules ≡ true
   pub faultless : placed_level leaf rest ≡ []
@@ -28,41 +28,41 @@ record Takes (name : Text) (leaf : Shape) (rest : List Text) (rows : List Row) :
 line : (program name : Text) (leaf : Shape) (rest : List Text) (rows : List Row) (job : Job) → Takes name leaf rest rows → SaysJob (Some (leaf.name, rows)) job
     → IsCommandLine (program ∷ name ∷ rest) job
 line program name leaf rest rows job takes says = record {
-  faultless = faultless_named (built desk) name leaf rest takes.enters (level_place leaf rest takes.operands takes.leads ∙ takes.faultless);
+  faultless = faultless_named (built desk_app) name leaf rest takes.enters (level_place leaf rest takes.operands takes.leads ∙ takes.faultless);
   says = subst (λ found. SaysJob found job)
-      (sym (entered_named (built desk) name leaf rest takes.enters
+      (sym (entered_named (built desk_app) name leaf rest takes.enters
       ∙ ap (λ (found : List Row). Some (leaf.name, found)) (rows_place leaf.rules rest takes.operands takes.leads ∙ takes.finds))) says;
 }
 
-enters_check : Enters (built desk) (codes "check") (nth 0)
+enters_check : Enters (built desk_app) (codes "check") (nth 0)
 unfolding clap_on_literals
 enters_check = record { walks = refl; turns = refl; finds = refl; settles = refl; defaults = refl; checks = refl }
 
-enters_decide : Enters (built desk) (codes "decide") (nth 1)
+enters_decide : Enters (built desk_app) (codes "decide") (nth 1)
 unfolding clap_on_literals
 enters_decide = record { walks = refl; turns = refl; finds = refl; settles = refl; defaults = refl; checks = refl }
 
-enters_beyond : Enters (built desk) (codes "beyond") (nth 2)
+enters_beyond : Enters (built desk_app) (codes "beyond") (nth 2)
 unfolding clap_on_literals
 enters_beyond = record { walks = refl; turns = refl; finds = refl; settles = refl; defaults = refl; checks = refl }
 
-enters_deliver : Enters (built desk) (codes "deliver") (nth 3)
+enters_deliver : Enters (built desk_app) (codes "deliver") (nth 3)
 unfolding clap_on_literals
 enters_deliver = record { walks = refl; turns = refl; finds = refl; settles = refl; defaults = refl; checks = refl }
 
-enters_print : Enters (built desk) (codes "print") (nth 4)
+enters_print : Enters (built desk_app) (codes "print") (nth 4)
 unfolding clap_on_literals
 enters_print = record { walks = refl; turns = refl; finds = refl; settles = refl; defaults = refl; checks = refl }
 
-enters_review : Enters (built desk) (codes "review") (nth 5)
+enters_review : Enters (built desk_app) (codes "review") (nth 5)
 unfolding clap_on_literals
 enters_review = record { walks = refl; turns = refl; finds = refl; settles = refl; defaults = refl; checks = refl }
 
-enters_rebuild : Enters (built desk) (codes "rebuild") (nth 6)
+enters_rebuild : Enters (built desk_app) (codes "rebuild") (nth 6)
 unfolding clap_on_literals
 enters_rebuild = record { walks = refl; turns = refl; finds = refl; settles = refl; defaults = refl; checks = refl }
 
-enters_serve : Enters (built desk) (codes "serve") (nth 7)
+enters_serve : Enters (built desk_app) (codes "serve") (nth 7)
 unfolding clap_on_literals
 enters_serve = record { walks = refl; turns = refl; finds = refl; settles = refl; defaults = refl; checks = refl }
 

@@ -2,12 +2,12 @@
 use Rattle.std.proofs.Common.{◌≡◌, true, refl}
 use Rattle.clap.specs.Words.{is_simple, is_simple_and_free}
 use Rattle.clap.proofs.OnLiterals.{clap_on_literals}
-use Rattle.desk_args.specs.CommandLine.{desk}
+use Rattle.desk_args.specs.CommandLine.{desk_app}
 
-pub desk_simple : is_simple desk ≡ true
+pub desk_simple : is_simple desk_app ≡ true
 unfolding clap_on_literals
 desk_simple = refl
 
-pub desk_free : is_simple_and_free desk ≡ true
+pub desk_free : is_simple_and_free desk_app ≡ true
 unfolding clap_on_literals
 desk_free = refl

@@ -18,7 +18,7 @@ use Rattle.clap.specs.Kinds.{Kinds, check_kinds, or_else}
 use Rattle.clap.specs.Lexer.{long_of, short_of}
 use Rattle.clap.specs.Simple.{Shape, matches_of, argument_words, built, entered, label_of, names_of, rows_at, subcommand_of}
 use Rattle.clap.specs.Takes.{is_given}
-use Rattle.desk_args.specs.CommandLine.{HaveSome, HasAllValues, check, desk}
+use Rattle.desk_args.specs.CommandLine.{HaveSome, HasAllValues, check, desk_app}
 use Rattle.desk_args.proofs.Filled.{AreFull, IsFull, defaults-full, is_giving, no_first, no_second, settled-full, walk-full}
 
 -- ---- a row that is given has a value
@@ -228,7 +228,7 @@ abbrev nth : ℕ → List Shape → Shape
 nth n shapes = slice_index_or shapes n check.top
 
 abbrev leaf : ℕ → Shape
-leaf n = nth n (built desk).subs
+leaf n = nth n (built desk_app).subs
 
 -- words in which the command finds no fault are complete
 abbrev Completes : Shape → Type 0
@@ -286,11 +286,11 @@ other_name name other = flipped _ (λ e.
     let back : bytes_eq name (codes "help") ≡ true = (bytes_eq-Decides name (codes "help")).1 (sym ((bytes_eq-Decides (codes "help") name).0 e)) in
     cc)
 
-stop_complete : (stop : Option (Text × List Text)) → IsOther stop → is_some (entered (built desk) stop) ≡ true → entered_fault (built desk) stop ≡ []
-    → HasAllValues (entered (built desk) stop)
+stop_complete : (stop : Option (Text × List Text)) → IsOther stop → is_some (entered (built desk_app) stop) ≡ true → entered_fault (built desk_app) stop ≡ []
+    → HasAllValues (entered (built desk_app) stop)
 stop_complete None other is none = absurd cc
 stop_complete (Some p) other is none =
-    found_complete p.0 (built desk).subs p.1 (
+    found_complete p.0 (built desk_app).subs p.1 (
       inr check_complete,
       (
         inr decide_complete,
@@ -301,11 +301,11 @@ stop_complete (Some p) other is none =
       ),
     ) is none
 
-pub complete : (words : List Text) → fault_of desk words ≡ [] → HasAllValues (subcommand_of desk words)
+pub complete : (words : List Text) → fault_of desk_app words ≡ [] → HasAllValues (subcommand_of desk_app words)
 complete words none =
-    let a = built desk in
+    let a = built desk_app in
     let given = argument_words a words in
     let stop = stop_after a.top.rules (names_of a) given in
     let p = passes a.top (names_of a) nothing_held given (is_some (entered a stop)) (entered_fault a stop) none in
     stop_complete stop (walk_other a.top (names_of a) (walk_from nothing_held) given refl p.walks tt)
-    (subcommand_is a.top (matches_of desk words) (is_some (entered a stop)) refl p.checks) p.lower
+    (subcommand_is a.top (matches_of desk_app words) (is_some (entered a stop)) refl p.checks) p.lower

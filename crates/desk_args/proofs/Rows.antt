@@ -6,16 +6,16 @@ use Rattle.clap.specs.declared.parser.matches.ArgMatches.TheViews.{out-ArgMatche
 use Rattle.clap.specs.declared.parser.matches.SubCommand.{SubCommand}
 use Rattle.clap.specs.declared.ArgMatches.{ArgMatches}
 use Rattle.clap.proofs.WalkLemmas.{first_value-rows, raw_values-rows}
-use Rattle.desk_args.specs.CommandLine.{values}
+use Rattle.desk_args.specs.CommandLine.{given_values}
 
 pub first_rows : (m : ArgMatches) (id : Text) → first_of id (rows_of (found_of m)) ≡ first_value (found_of m) id
 first_rows m id = sym (first_value-rows (found_of m) id)
 
 pub some_values : (m : ArgMatches) (id : Text) (texts : List Text) → Some texts ≡ option_map raw_values (matched_of (found_of m) id)
-    → texts ≡ values id (rows_of (found_of m))
+    → texts ≡ given_values id (rows_of (found_of m))
 some_values m id texts e = ap (λ (o : Option (List Text)). unwrap_or o []) (e ∙ raw_values-rows (found_of m) id)
 
-pub no_values : (m : ArgMatches) (id : Text) → None ≡ option_map raw_values (matched_of (found_of m) id) → [] ≡ values id (rows_of (found_of m))
+pub no_values : (m : ArgMatches) (id : Text) → None ≡ option_map raw_values (matched_of (found_of m) id) → [] ≡ given_values id (rows_of (found_of m))
 no_values m id e = ap (λ (o : Option (List Text)). unwrap_or o []) (e ∙ raw_values-rows (found_of m) id)
 
 joined : {X : Type 0} (line : X → Text × List Row) (o : Option X) (name : Text) (rows : List Row) → Some name ≡ option_map (λ x. (line x).0) o

@@ -126,8 +126,8 @@ program =
     record top { top = record top.top { subcommand_required = true; has_version = true } }
 
 -- `desk COMMAND`
-abbrev pub desk : App
-desk = with_subcommands (with_subcommands program on_policies) on_desks
+abbrev pub desk_app : App
+desk_app = with_subcommands (with_subcommands program on_policies) on_desks
 
 -- ---- the values of a command's arguments
 
@@ -149,13 +149,13 @@ HasMomentIfGiven id rows None = first_of id rows ≡ None
 HasMomentIfGiven id rows (Some moment) = HasMoment id rows moment
 
 -- the values of an argument that may be left out, in order
-abbrev pub values : Text → List Row → List Text
-values id rows = unwrap_or (all_of id rows) []
+abbrev pub given_values : Text → List Row → List Text
+given_values id rows = unwrap_or (all_of id rows) []
 
 -- at most so many values, each of the form
 abbrev pub HasWords : (Text → Bool) → ℕ → Text → List Row → List Text → Type 0
 HasWords form most id rows texts =
-    (values id rows ≡ texts) × (list_all form texts ≡ true) × (length texts ≤ most)
+    (given_values id rows ≡ texts) × (list_all form texts ≡ true) × (length texts ≤ most)
 
 -- the run that the values of `decide` describe
 pub record SaysRun (rows : List Row) (run : Invocation) : Type 0 where
@@ -290,8 +290,8 @@ SaysJob (Some line) (Serve places addr requests) =
 -- By clap's rules the words are a command of the program, without a fault, and their values say the
 -- job.
 pub record IsCommandLine (words : List Text) (job : Job) : Type 0 where
-  pub faultless : fault_of desk words ≡ []
-  pub says : SaysJob (subcommand_of desk words) job
+  pub faultless : fault_of desk_app words ≡ []
+  pub says : SaysJob (subcommand_of desk_app words) job
 
 -- ---- a value that is not of its form
 
@@ -322,7 +322,7 @@ pub record HasBadSync (id : Text) (rows : List Row) : Type 0 where
 -- too many values, or one that is not of the form
 abbrev pub HasBadWords : (Text → Bool) → ℕ → Text → List Row → Type 0
 HasBadWords form most id rows =
-    (most < length (values id rows)) ⊎ (list_all form (values id rows) ≡ false)
+    (most < length (given_values id rows)) ⊎ (list_all form (given_values id rows) ≡ false)
 
 -- one of the values of `decide` is not of its form
 pub data HasBadValue (rows : List Row) : Type 0 where
@@ -369,8 +369,8 @@ SaysBadly (Some line) =
 -- By clap's rules the words are a command of the program, without a fault, but a value is not of
 -- its form.
 pub record IsBadLine (words : List Text) : Type 0 where
-  pub faultless : fault_of desk words ≡ []
-  pub says : SaysBadly (subcommand_of desk words)
+  pub faultless : fault_of desk_app words ≡ []
+  pub says : SaysBadly (subcommand_of desk_app words)
 
 -- ---- what clap's rules leave to the program
 

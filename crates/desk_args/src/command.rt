@@ -5,7 +5,7 @@ ghost use Rattle.std.specs.Prelude.{[], ◌∷◌, map, string_bytes, false};
 ghost use Rattle.clap.specs.Words.{App, Rule, fault_of, kind_of, new_app};
 ghost use Rattle.clap.specs.Words.{rule_of, subcommand_of, subcommand_rows_of};
 ghost use Rattle.desk_args.specs.CommandLine as line;
-ghost use Rattle.desk_args.specs.CommandLine.{desk};
+ghost use Rattle.desk_args.specs.CommandLine.{desk_app};
 ghost use Rattle.desk_args.specs.private.Commands.{AreCommands, HasRules, IsCommand, with_rules};
 ghost use Rattle.desk_args.specs.declared.fault.JobFault.TheVariants.{BadWord, NoMemory};
 
@@ -15,7 +15,7 @@ use clap::{Arg, ArgAction, ArgMatches, Command};
 use std::alloc::{AllocError, Global};
 
 /// The program's version, and the logic that it is proved in, as `rt version` names it.
-const VERSION: &str = "0.18.0\nproved with rattle logic dac8208d650f15bf";
+const VERSION: &str = "0.19.0\nproved with rattle logic dac8208d650f15bf";
 
 /// The text below each help.
 const ENDS: &str =
@@ -299,7 +299,7 @@ fn push_on_desks<'a>(alloc: Global, commands: &mut Vec<Command<'a>>) -> Result<(
 }
 
 fn command<'a>(alloc: Global) -> Result<Command<'a>, AllocError>
-    ensures { IfOk result (IsCommand desk) }
+    ensures { IfOk result (IsCommand desk_app) }
 {
     let mut commands = Vec::new(alloc);
     push_on_policies(alloc, &mut commands)?;
@@ -324,11 +324,12 @@ fn fault_of_error(error: clap::Error) -> JobFault
 
 /// The matches of the words, by clap's rules.
 pub fn parsed<'a>(alloc: Global, words: &'a [String]) -> Result<ArgMatches<'a>, JobFault>
-    ensures faultless { IfOk result (λ m. fault_of desk (map string_bytes words.entry.now) ≡ []) }
+    ensures faultless { IfOk result
+        (λ m. fault_of desk_app (map string_bytes words.entry.now) ≡ []) }
     ensures matches { IfOk result
-        (λ m. subcommand_rows_of m ≡ subcommand_of desk (map string_bytes words.entry.now)) }
+        (λ m. subcommand_rows_of m ≡ subcommand_of desk_app (map string_bytes words.entry.now)) }
     ensures only { IfErr result
-        (λ e. fault_of desk (map string_bytes words.entry.now) ≡ [] → e ≡ NoMemory) }
+        (λ e. fault_of desk_app (map string_bytes words.entry.now) ≡ [] → e ≡ NoMemory) }
     ensures word { IfErr result (λ e. e ≡ BadWord → ⊥) }
 {
     let command = command(alloc)?;

@@ -8,7 +8,7 @@ ghost use Rattle.sudo_decide.specs.declared.scope.Scope.{Scope as Fixed};
 ghost use Rattle.desk_args.specs.CommandLine as line;
 ghost use Rattle.desk_args.specs.CommandLine.{ArePlaces, HasBadScope, HasBadSync, HasBadValue};
 ghost use Rattle.desk_args.specs.CommandLine.{HasAllValues, HaveSome, IsBadLine, IsCommandLine};
-ghost use Rattle.desk_args.specs.CommandLine.{IsScopeOf, SaysBadly, SaysJob, SaysRun, desk};
+ghost use Rattle.desk_args.specs.CommandLine.{IsScopeOf, SaysBadly, SaysJob, SaysRun, desk_app};
 ghost use Rattle.desk_args.specs.Faults.{IsUsage};
 ghost use Rattle.desk_args.specs.private.Readings.{IsReading};
 ghost use Rattle.desk_args.specs.declared.fault.JobFault.TheVariants.{BadWord, NoMemory};
@@ -261,7 +261,7 @@ pub fn job(alloc: Global, words: Vec<String>) -> Result<Job, JobFault>
         → MatchResult result (λ k. k ≡ j) (λ e. e ≡ NoMemory) }
     ensures word { IfErr result (λ e. e ≡ BadWord → IsBadLine (map string_bytes words.items)) }
     ensures usage { IfErr result
-        (λ e. IsUsage e → fault_of desk (map string_bytes words.items) ≢ []) }
+        (λ e. IsUsage e → fault_of desk_app (map string_bytes words.items) ≢ []) }
 {
     let matches = parsed(alloc, &words)?;
     named(alloc, &matches)

@@ -5,7 +5,7 @@ ghost use Rattle.std.specs.Prelude.{◌≡◌, ◌++◌, List, [], ◌∷◌, Op
 ghost use Rattle.std.specs.Prelude.{true};
 ghost use Rattle.std.specs.List.{list_all};
 ghost use Rattle.clap.specs.Words.{Text as Word, fault_of, subcommand_of};
-ghost use Rattle.desk_args.specs.CommandLine.{IsCommandLine, HasAllValues, desk};
+ghost use Rattle.desk_args.specs.CommandLine.{IsCommandLine, HasAllValues, desk_app};
 ghost use Rattle.desk_args.specs.CommandLine.{SaysAddress, SaysNoAddress, SaysSync};
 ghost use Rattle.desk_args.specs.Operands.{SaysByPlace, is_operand};
 ghost use Rattle.desk_args.specs.declared.task.Address.{Address as Listened};
@@ -117,6 +117,6 @@ pub fn worked_refusals()
 /// A line in which clap finds no fault is a command of the program, with a value for each argument
 /// that it wants.
 pub fn no_fault_is_complete()
-    ensures { (words : List Word) → fault_of desk words ≡ []
-        → HasAllValues (subcommand_of desk words) }
+    ensures { (words : List Word) → fault_of desk_app words ≡ []
+        → HasAllValues (subcommand_of desk_app words) }
 {}

@@ -10,7 +10,7 @@ ghost use Rattle.desk_args.specs.CommandLine.{HasAddress, HasBadAddress, HasBadM
 ghost use Rattle.desk_args.specs.CommandLine.{HasBadWord, HasBadWords, HasCount, HasMoment};
 ghost use Rattle.desk_args.specs.CommandLine.{HasMomentIfGiven, HasOption, HasSome, HasStore};
 ghost use Rattle.desk_args.specs.CommandLine.{HasSync, HasValue, HasWord, HasWords, SaysSync};
-ghost use Rattle.desk_args.specs.CommandLine.{is_count, is_digits, values};
+ghost use Rattle.desk_args.specs.CommandLine.{is_count, is_digits, given_values};
 ghost use Rattle.desk_args.specs.Faults.{IsUsage};
 ghost use Rattle.desk_args.specs.declared.fault.JobFault.TheVariants.{BadWord, NoMemory};
 ghost use Rattle.desk_args.specs.declared.task.Address.{Address as Listened};

@@ -1,9 +1,8 @@
 -- What an audit tells of a set has one text; and what it tells of a name is what the whole audit has of it.
-use Rattle.std.proofs.Common.{◌≡◌, ◌⊎◌, ◌&&◌, ◌||◌, ◌==◌, ℕ, Bool, true, false, cond, Option, Some, None, List, [], ◌∷◌, map}
+use Rattle.std.proofs.Common.{◌≡◌, ◌⊎◌, ◌&&◌, ◌||◌, ℕ, Bool, true, false, cond, Option, Some, None, List, [], ◌∷◌, map}
 use Rattle.std.proofs.Common.{refl, sym, ap, ◌∙◌, subst, inl, inr}
 use Rattle.std.specs.List.{Contains, list_any}
 use Rattle.std.specs.Prelude.{filter}
-use Rattle.std.specs.Str.{bytes_eq}
 use Rattle.std.proofs.lemmas.Bool.{and_from, and_parts}
 use Rattle.std.proofs.lemmas.Bool.Decides.{Decides-eqb}
 use Rattle.std.proofs.lemmas.Slice.Eq.{bytes_eq-Decides}
@@ -29,7 +28,7 @@ use Rattle.findings.specs.declared.pick.Pick.{Pick}
 use Rattle.findings.proofs.OneDocument.{Parts, one_document, parts_of}
 use Rattle.desk_audit.specs.Audit.{IsAudit, TellsName}
 use Rattle.desk_audit.specs.Documents.{AreOfName, IsAuditText, IsNameText, is_named}
-use Rattle.desk_audit.specs.Told.{TellsMessages, name_in}
+use Rattle.desk_audit.specs.Told.{TellsMessages}
 use Rattle.desk_audit.proofs.AuditLemmas.{EntryPrecedes}
 use Rattle.desk_audit.proofs.ListLemmas.{from_mapped, to_mapped}
 use Rattle.desk_audit.proofs.ToldLemmas.{RequestPrecedes, VerdictPrecedes}

@@ -2,7 +2,7 @@
 use Rattle.std.proofs.Common.{◌≡◌, ◌≢◌, ◌⊎◌, ℕ, List, [], Option, Result, Ok, Err, IfErr, IfOk, inl, inr, string_bytes, subst, sym}
 use Rattle.std.specs.Io.KnownBytes.{Appends}
 use Rattle.desk_commands.specs.Answers.{HasCause, IsAnswer, IsCause}
-use Rattle.desk_commands.specs.Kept.{Kept}
+use Rattle.desk_commands.specs.Kept.{AroundJob}
 use Rattle.desk_commands.specs.Leaving.{BeganAnswer}
 use Rattle.desk_commands.specs.Telling.{AppendsFront}
 use Rattle.desk_commands.specs.declared.answer.Answer.{Answer}
@@ -15,7 +15,7 @@ use Rattle.desk_args.specs.declared.status.ExitStatus.TheVariants.{Refused}
 use Rattle.desk_args.specs.declared.task.Job.{Job}
 
 -- what is answered to this job, with nothing said beside it
-pub quietly : (r : Result Answer JobRefusal) (job own : Job) (files : List (List ℕ)) (k : Kept) (input err : Option (List ℕ)) → job ≡ own
+pub quietly : (r : Result Answer JobRefusal) (job own : Job) (files : List (List ℕ)) (k : AroundJob) (input err : Option (List ℕ)) → job ≡ own
     → IfOk r (λ a. IsAnswer own files k input a.status (string_bytes a.text) []) → IfErr r (IsCause own files k input)
     → IsOutcome job files k input r err err
 quietly (Ok a) job own files k input err is found cause =
@@ -24,11 +24,11 @@ quietly (Err e) job own files k input err is found cause =
     subst (λ j. IsOutcome j files k input (Err e) err err) (sym is) (record { found = tt; cause = cause })
 
 -- what comes of this job
-pub of_job : (r : Result Answer JobRefusal) (job own : Job) (files : List (List ℕ)) (k : Kept) (input before after : Option (List ℕ)) → job ≡ own
+pub of_job : (r : Result Answer JobRefusal) (job own : Job) (files : List (List ℕ)) (k : AroundJob) (input before after : Option (List ℕ)) → job ≡ own
     → IsOutcome own files k input r before after → IsOutcome job files k input r before after
 of_job r job own files k input before after is outcome = subst (λ j. IsOutcome j files k input r before after) (sym is) outcome
 
-module _ (job : Job) (files : List (List ℕ)) (k : Kept) (input : Option (List ℕ))
+module _ (job : Job) (files : List (List ℕ)) (k : AroundJob) (input : Option (List ℕ))
     (out_before out_after err_before err_between err_after : Option (List ℕ)) where
   -- what is written of this result, where the job is not refused
   pub concluded : (r : Result Answer JobRefusal) (status : ExitStatus) → IsOutcome job files k input r err_before err_between

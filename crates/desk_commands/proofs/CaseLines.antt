@@ -4,7 +4,7 @@ use Rattle.std.specs.Prelude.{codes, MatchOption}
 use Rattle.std.specs.List.{AllByRecursion, list_all, slice_split}
 use Rattle.std.proofs.lemmas.Bool.{and_parts, false≢true, ne_eqb}
 use Rattle.std.proofs.lemmas.List.{append_cancel_right}
-use Rattle.sudo_words.specs.Moment.{IsMoment, Spells as SpellsMoment, is_stamp_byte, stamp}
+use Rattle.sudo_words.specs.Moment.{IsMoment, SpellsMoment, is_stamp_byte, stamp}
 use Rattle.sudo_words.specs.Word.{is_arg, is_arg_byte, is_host_byte, is_host_name, is_lower, is_name, is_name_byte, is_path_byte}
 use Rattle.sudo_words.proofs.ArgLemmas.{arg_parts}
 use Rattle.sudo_words.proofs.MomentLemmas.{stamp_bytes, stamp_is, stamp_spells}

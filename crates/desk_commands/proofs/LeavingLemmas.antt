@@ -14,7 +14,7 @@ use Rattle.desk.specs.declared.ack.Ack.{Ack}
 use Rattle.desk.specs.declared.refusal.Refusal.{Refusal}
 use Rattle.desk_commands.specs.Answers.{HasAnswer, IsAnswer}
 use Rattle.desk_commands.specs.Files.{AreFilesOf}
-use Rattle.desk_commands.specs.Kept.{Kept, held_in, keeps, kept}
+use Rattle.desk_commands.specs.Kept.{AroundJob, held_in, keeps, kept}
 use Rattle.desk_commands.specs.Leaving.{AreSomeTaken, KeepsAfterRefusal, LeavesDelivered, LeavesTaken}
 use Rattle.desk_commands.specs.Leaving.{OverOpened, SaysTaking, TellsBefore, TellsRefusal, WasOpened}
 use Rattle.desk_commands.specs.Lines.{AreRead, IsBrought, from_relay, input_lines}
@@ -169,7 +169,7 @@ module _ {K : Type 0} (is_up is_empty is_desk is_old : K → Type 0) (roster : K
     (is_kept : is_up after → is_desk after × (roster after ≡ roster_file)) (was_up : is_up after → is_up opened)
     (opens : is_up opened → SameSet (held_in (is_desk before) (is_old before) (holds before)) (holds opened)) (was : is_up opened
     → WasOpened roster_file (keeps is_empty is_desk is_old roster holds before)) (more : List (List ℕ)) (input : Option (List ℕ)) (Same : Type 0) where
-  abbrev k : Kept
+  abbrev k : AroundJob
   k = kept is_up is_empty is_desk is_old roster holds failures before after
 
   abbrev Old : Message → Type 0
@@ -215,7 +215,7 @@ module _ {K : Type 0} (is_up is_empty is_desk is_old : K → Type 0) (roster : K
 
 -- ---- the keeper keeps the same
 
-module _ (files : List (List ℕ)) (k : Kept) (Same : Type 0) (input err : Option (List ℕ)) (same : k.up → Same) where
+module _ (files : List (List ℕ)) (k : AroundJob) (Same : Type 0) (input err : Option (List ℕ)) (same : k.up → Same) where
   pub same_delivered : (places : Places) (relay : List ℕ) → IsLeft (Deliver places relay) files k Same input err err
   same_delivered places relay = record { kept = λ up. inl (same up); told = nothing_said err }
 
@@ -237,13 +237,13 @@ module _ (files : List (List ℕ)) (k : Kept) (Same : Type 0) (input err : Optio
   same_job (Review places at) = same_reviewed places at
 
 -- what is left of this job
-pub left_of_job : (r : Result Answer JobRefusal) (job own : Job) (files : List (List ℕ)) (k : Kept) (Same : Type 0) (input before after : Option (List ℕ))
+pub left_of_job : (r : Result Answer JobRefusal) (job own : Job) (files : List (List ℕ)) (k : AroundJob) (Same : Type 0) (input before after : Option (List ℕ))
     → job ≡ own → IfErr r (λ _. IsLeft own files k Same input before after) → IfErr r (λ _. IsLeft job files k Same input before after)
 left_of_job r job own files k Same input before after is left = subst (λ j. IfErr r (λ _. IsLeft j files k Same input before after)) (sym is) left
 
 -- ---- a job that is refused
 
-module _ (k : Kept) (input before after : Option (List ℕ)) (status : ExitStatus) (text said : List ℕ)
+module _ (k : AroundJob) (input before after : Option (List ℕ)) (status : ExitStatus) (text said : List ℕ)
     (written : Appends before after said) where
   nothing : said ≡ [] → Appends before after []
   nothing none = subst (Appends before after) none written
@@ -265,7 +265,7 @@ module _ (k : Kept) (input before after : Option (List ℕ)) (status : ExitStatu
   said_before (Review places at) (a ∷ b ∷ rest) is =
       inr (is.0, is.2.roster_is, says is.0 input places.store is.4.lines said before after is.4.taken written)
 
-module _ (job : Job) (files : List (List ℕ)) (k : Kept) (Same : Type 0) (input err_before err_between err_after : Option (List ℕ)) where
+module _ (job : Job) (files : List (List ℕ)) (k : AroundJob) (Same : Type 0) (input err_before err_between err_after : Option (List ℕ)) where
   pub kept_after : (r : Result Answer JobRefusal) → IsOutcome job files k input r err_before err_between
       → IfErr r (λ _. IsLeft job files k Same input err_before err_between) → k.up → KeepsAfterRefusal job files k Same input ⊎ HasAnswer job files k input
   kept_after (Ok a) outcome left up = inr (a.status, string_bytes a.text, outcome.found.0, outcome.found.1)

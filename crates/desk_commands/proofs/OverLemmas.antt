@@ -13,7 +13,7 @@ use Rattle.desk_store.proofs.ServingLemmas.{failed_later}
 use Rattle.desk.specs.declared.refusal.Refusal.TheVariants as desk
 use Rattle.desk_commands.specs.Delivering.{DeliversLines, EndsDelivering}
 use Rattle.desk_commands.specs.Files.{EndsMaking, AreFilesOf}
-use Rattle.desk_commands.specs.Kept.{Kept, held_in, kept}
+use Rattle.desk_commands.specs.Kept.{AroundJob, held_in, kept}
 use Rattle.desk_commands.specs.Printing.{EndsPrinting, HasManyLines, PrintsHost}
 use Rattle.desk_commands.specs.Rebuilding.{EndsRebuilding}
 use Rattle.desk_commands.specs.Reviewing.{EndsReviewing, ReviewsDesk}
@@ -130,7 +130,7 @@ module _ {K : Type 0} (is_up is_empty is_desk is_old : K → Type 0) (roster : K
     (keeps : is_up after → is_desk after × (roster after ≡ roster_file)) (was_up : is_up after → is_up opened)
     (opens : is_up opened → SameSet (held_in (is_desk before) (is_old before) (holds before)) (holds opened))
     (counts : failures before ≤ failures opened) (more : List (List ℕ)) (input : Option (List ℕ)) where
-  abbrev k : Kept
+  abbrev k : AroundJob
   k = kept is_up is_empty is_desk is_old roster holds failures before after
 
   before_is : is_up after → SameSet (held_in (is_desk before) (is_old before) (holds before)) (holds opened)
@@ -282,7 +282,7 @@ module _ {K : Type 0} (is_up is_empty is_desk is_old : K → Type 0) (roster : K
 
 -- ---- no desk is opened
 
-module _ (roster_file base_file : List ℕ) (k : Kept) (more : List (List ℕ)) (input err : Option (List ℕ)) (reason : JobRefusal) where
+module _ (roster_file base_file : List ℕ) (k : AroundJob) (more : List (List ℕ)) (input err : Option (List ℕ)) (reason : JobRefusal) where
   no_desk_printed : (store : Store) (host : List ℕ) (moment : Option ℕ) (e : JobRefusal) → EndsMaking roster_file base_file k e
       → EndsPrinting roster_file base_file store host moment k input e
   no_desk_printed store host moment reasons.FileFailed why = absurd why

@@ -10,7 +10,7 @@ use Rattle.sudo_decide.specs.declared.decision.Decision.TheVariants.{Deny, Allow
 use Rattle.desk_commands.specs.Comparing.{ComparesFiles, EndsComparing}
 use Rattle.desk_commands.specs.Delivering.{DeliversLines, EndsDelivering}
 use Rattle.desk_commands.specs.Files.{IsFaultOf, OverDesk}
-use Rattle.desk_commands.specs.Kept.{Kept, held}
+use Rattle.desk_commands.specs.Kept.{AroundJob, held}
 use Rattle.desk_commands.specs.Printing.{EndsPrinting, PrintsHost}
 use Rattle.desk_commands.specs.Rebuilding.{EndsRebuilding, RebuildsDesk}
 use Rattle.desk_commands.specs.Reviewing.{EndsReviewing, ReviewsDesk}
@@ -26,15 +26,15 @@ use Rattle.desk_args.specs.declared.task.Job.TheVariants.{Beyond, Check, Decide,
 use Rattle.desk_args.specs.declared.task.Job.TheVariants.{Print, Rebuild, Review, Serve}
 
 -- how the program ends after it
-abbrev pub status_of : Decision → ExitStatus
-status_of Deny = Denied
-status_of Allow = Done
-status_of AllowNoPassword = Done
+abbrev pub exit_of : Decision → ExitStatus
+exit_of Deny = Denied
+exit_of Allow = Done
+exit_of AllowNoPassword = Done
 
 -- the decision and a newline, with the status that goes with it
 abbrev pub IsDecided : Decision → ExitStatus → List ℕ → Type 0
 IsDecided decision status text =
-    (status ≡ status_of decision) × (text ≡ decision_text decision ++ 10 ∷ [])
+    (status ≡ exit_of decision) × (text ≡ decision_text decision ++ 10 ∷ [])
 
 -- `check` answers with the canonical text of the policy that the file spells.
 abbrev pub ChecksFile : List ℕ → ExitStatus → List ℕ → Type 0
@@ -60,7 +60,7 @@ OfFiles files Holds = ⊥
 -- The job over these files, in the order in which it names them, over what the keeper keeps, and
 -- over this input, if it is known, is answered by this text, and ends with this status; `said` is
 -- said beside the answer. `serve` has no such answer: what it writes depends on who connects.
-abbrev pub IsAnswer : Job → (files : List (List ℕ)) → Kept
+abbrev pub IsAnswer : Job → (files : List (List ℕ)) → AroundJob
     → (input : Option (List ℕ)) → ExitStatus → (text said : List ℕ) → Type 0
 IsAnswer (Check name) files k input status text said =
     OfFile files (λ file. ChecksFile file status text) × (said ≡ [])
@@ -84,7 +84,8 @@ IsAnswer (Rebuild places) files k input status text said =
 IsAnswer (Serve places addr requests) files k input status text said = ⊥
 
 -- The job over these files, what is kept and this input has an answer.
-abbrev pub HasAnswer : Job → (files : List (List ℕ)) → Kept → (input : Option (List ℕ)) → Type 0
+abbrev pub HasAnswer : Job → (files : List (List ℕ)) → AroundJob → (input : Option (List ℕ))
+    → Type 0
 HasAnswer job files k input =
     (status : ExitStatus) × (text said : List ℕ) × IsAnswer job files k input status text said
 
@@ -130,7 +131,7 @@ CauseOfFiles files Ends reason = reason ≡ FileFailed
 -- The job over these files, what is kept and this input may be refused for this, before its answer
 -- is written. Without its files it is refused, and so is `serve`, which has no answer.
 abbrev pub IsCause : Job → (files : List (List ℕ))
-    → Kept → (input : Option (List ℕ)) → JobRefusal → Type 0
+    → AroundJob → (input : Option (List ℕ)) → JobRefusal → Type 0
 IsCause (Check name) files k input reason = CauseOfFile files EndsReading reason
 IsCause (Decide name invocation) files k input reason = CauseOfFile files EndsReading reason
 IsCause (Beyond a_name b_name scope) files k input reason =
@@ -146,5 +147,6 @@ IsCause (Rebuild places) files k input reason =
 IsCause (Serve places addr requests) files k input reason = reason ≡ FileFailed
 
 -- it is refused for such a reason
-abbrev pub HasCause : Job → (files : List (List ℕ)) → Kept → (input : Option (List ℕ)) → Type 0
+abbrev pub HasCause : Job → (files : List (List ℕ)) → AroundJob → (input : Option (List ℕ))
+    → Type 0
 HasCause job files k input = (reason : JobRefusal) × IsCause job files k input reason

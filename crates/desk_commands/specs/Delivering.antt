@@ -11,7 +11,7 @@ use Rattle.desk.specs.declared.ack.Ack.{Ack}
 use Rattle.desk.specs.declared.refusal.Refusal.{Refusal}
 use Rattle.desk.specs.declared.refusal.Refusal.TheVariants.{Storage}
 use Rattle.desk_commands.specs.Files.{EndsMaking}
-use Rattle.desk_commands.specs.Kept.{Kept}
+use Rattle.desk_commands.specs.Kept.{AroundJob}
 use Rattle.desk_commands.specs.Lines.{from_relay, input_lines}
 use Rattle.desk_commands.specs.declared.refusal.JobRefusal.{JobRefusal}
 use Rattle.desk_commands.specs.declared.refusal.JobRefusal.TheVariants as reasons
@@ -48,6 +48,6 @@ pub record DeliversLines (roster : RosterFields Cmnd) (relay : List ℕ)
   pub text_is : text ≡ answer_lines answers
 
 -- `deliver` may be refused for this, before an answer is written. A refused line does not end it.
-abbrev pub EndsDelivering : (roster_file base_file : List ℕ) → Kept → JobRefusal → Type 0
+abbrev pub EndsDelivering : (roster_file base_file : List ℕ) → AroundJob → JobRefusal → Type 0
 EndsDelivering roster_file base_file k reasons.FileFailed = Unit {0}
 EndsDelivering roster_file base_file k reason = EndsMaking roster_file base_file k reason

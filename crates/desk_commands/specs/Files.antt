@@ -13,7 +13,7 @@ use Rattle.roster.specs.declared.fault.RosterFault.TheVariants as faults
 use Rattle.grants.specs.Bases.{FitsBase}
 use Rattle.desk.specs.declared.refusal.Refusal.{Refusal}
 use Rattle.desk.specs.declared.refusal.Refusal.TheVariants as desk
-use Rattle.desk_commands.specs.Kept.{Kept}
+use Rattle.desk_commands.specs.Kept.{AroundJob}
 use Rattle.desk_commands.specs.declared.refusal.JobRefusal.{JobRefusal}
 use Rattle.desk_commands.specs.declared.refusal.JobRefusal.TheVariants as reasons
 
@@ -62,7 +62,7 @@ MakesDesk roster_file base_file =
 -- limits, else something that is not a desk, a desk of an older form, or one of another roster's
 -- text; and want of memory or of the storage anywhere. While the keeper is up there is no other
 -- reason.
-abbrev pub EndsOpening : (roster_file base_file : List ℕ) → Kept → Refusal → Type 0
+abbrev pub EndsOpening : (roster_file base_file : List ℕ) → AroundJob → Refusal → Type 0
 EndsOpening roster_file base_file k desk.BaseTooLarge =
     HoldsRoster roster_file × HasLargeBase base_file
 EndsOpening roster_file base_file k desk.NotADesk = k.up
@@ -77,7 +77,7 @@ EndsOpening roster_file base_file k _ = ¬ k.up
 
 -- Rebuilding it may be refused for this: a base past the limits, else something that is not a desk;
 -- and want of memory or of the storage anywhere.
-abbrev pub EndsReplacing : (roster_file base_file : List ℕ) → Kept → Refusal → Type 0
+abbrev pub EndsReplacing : (roster_file base_file : List ℕ) → AroundJob → Refusal → Type 0
 EndsReplacing roster_file base_file k desk.BaseTooLarge =
     HoldsRoster roster_file × HasLargeBase base_file
 EndsReplacing roster_file base_file k desk.NotADesk = k.up
@@ -99,18 +99,18 @@ EndsWith roster_file base_file Ends (reasons.Beyond fault) = ⊥
 EndsWith roster_file base_file Ends (reasons.Desk refusal) = Ends refusal
 
 -- no desk of the files is opened, for this
-abbrev pub EndsMaking : (roster_file base_file : List ℕ) → Kept → JobRefusal → Type 0
+abbrev pub EndsMaking : (roster_file base_file : List ℕ) → AroundJob → JobRefusal → Type 0
 EndsMaking roster_file base_file k reason =
     EndsWith roster_file base_file (EndsOpening roster_file base_file k) reason
 
 -- ---- over what a keeper keeps
 
 -- While the keeper is up it keeps a desk then, of the roster's text.
-abbrev pub KeepsDesk : (roster_file : List ℕ) → Kept → Type 0
+abbrev pub KeepsDesk : (roster_file : List ℕ) → AroundJob → Type 0
 KeepsDesk roster_file k = k.up → k.after.desk × (k.after.roster ≡ roster_file)
 
 -- over the desk of the roster and the base that the files make, which the keeper keeps then
-abbrev pub OverDesk : (roster_file base_file : List ℕ) → Kept
+abbrev pub OverDesk : (roster_file base_file : List ℕ) → AroundJob
     → (RosterFields Cmnd → List Entry → Type 0) → Type 0
 OverDesk roster_file base_file k Answered =
     (roster : RosterFields Cmnd) × (base : List Entry)

@@ -14,9 +14,9 @@ pub record Keeps : Type 1 where
   pub roster : List ℕ
   pub holds : Message → Type 0
 
--- What it keeps as the job begins and as it ends, and what is known of it then: it is up; its count
--- of failures rose or stands at its greatest.
-pub record Kept : Type 1 where
+-- What the keeper keeps as the job begins and as it ends, and what is known of it then: it is up;
+-- its count of failures rose or stands at its greatest.
+pub record AroundJob : Type 1 where
   pub before : Keeps
   pub after : Keeps
   pub up : Type 0
@@ -37,7 +37,7 @@ keeps is_empty is_desk is_old roster holds keeper =
 -- the same, by what a keeper's contract says of it
 abbrev pub kept : {K : Type 0} → (is_up is_empty is_desk is_old : K → Type 0)
     → (roster : K → List ℕ) → (holds : K → Message → Type 0) → (failures : K → ℕ)
-    → (before after : K) → Kept
+    → (before after : K) → AroundJob
 kept is_up is_empty is_desk is_old roster holds failures before after = record {
   before = record {
     empty = is_empty before;
@@ -61,7 +61,7 @@ kept is_up is_empty is_desk is_old roster holds failures before after = record {
 abbrev pub keeps_by : {K : Type 0} → Ghosts K → (keeper : K) → Keeps
 keeps_by g = keeps g.is_empty g.is_desk g.is_old g.roster g.holds
 
-abbrev pub kept_by : {K : Type 0} → Ghosts K → (before after : K) → Kept
+abbrev pub kept_by : {K : Type 0} → Ghosts K → (before after : K) → AroundJob
 kept_by g = kept g.is_up g.is_empty g.is_desk g.is_old g.roster g.holds g.failures
 
 -- the messages of the desk that is kept, of either form; without a desk there are none

@@ -11,7 +11,7 @@ use Rattle.desk.specs.declared.ack.Ack.{Ack}
 use Rattle.desk.specs.declared.refusal.Refusal.{Refusal}
 use Rattle.desk_commands.specs.Answers.{HasAnswer, IsAnswer, IsCause, OfFiles}
 use Rattle.desk_commands.specs.Files.{AreFilesOf, IsRosterFile}
-use Rattle.desk_commands.specs.Kept.{Keeps, Kept, held}
+use Rattle.desk_commands.specs.Kept.{Keeps, AroundJob, held}
 use Rattle.desk_commands.specs.Lines.{from_relay, input_lines}
 use Rattle.desk_commands.specs.Taking.{AreTaken, HeldWith}
 use Rattle.desk_commands.specs.Telling.{AppendsFront, refusal_line}
@@ -64,7 +64,7 @@ WasOpened roster_file before =
     ⊎ (before.desk × (¬ before.empty) × (¬ before.old) × (before.roster ≡ roster_file))
 
 -- The desk was opened, and the keeper keeps a desk of the same roster's text, which holds this.
-pub record JobLeavesDesk (roster_file : List ℕ) (k : Kept)
+pub record JobLeavesDesk (roster_file : List ℕ) (k : AroundJob)
     (Left : (old new : Message → Type 0) → Type 0) : Type 0 where
   pub was : WasOpened roster_file k.before
   pub desk : k.after.desk
@@ -72,7 +72,7 @@ pub record JobLeavesDesk (roster_file : List ℕ) (k : Kept)
   pub left : Left (held k.before) k.after.holds
 
 -- the same, of the desk that the files make
-abbrev pub OverOpened : (roster_file base_file : List ℕ) → Kept
+abbrev pub OverOpened : (roster_file base_file : List ℕ) → AroundJob
     → (RosterFields Cmnd → (old new : Message → Type 0) → Type 0) → Type 0
 OverOpened roster_file base_file k Left =
     (roster : RosterFields Cmnd) × (base : List Entry)
@@ -84,7 +84,7 @@ OverOpened roster_file base_file k Left =
 -- lines. So `rebuild` leaves the old roster's text and the messages, and a job that is not on a
 -- desk leaves all as it was.
 abbrev pub KeepsAfterRefusal : Job → (files : List (List ℕ))
-    → Kept → (Same : Type 0) → (input : Option (List ℕ)) → Type 0
+    → AroundJob → (Same : Type 0) → (input : Option (List ℕ)) → Type 0
 KeepsAfterRefusal (Deliver places relay) files k Same input = Same
     ⊎ OfFiles files (λ roster base. OverOpened roster base k (λ f. LeavesDelivered f relay input))
 KeepsAfterRefusal (Print places host after) files k Same input =
@@ -124,13 +124,13 @@ TellsBefore job files input before after = Appends before after []
 
 -- the job has an answer, which tells of want
 abbrev pub HasWantingAnswer : Job → (files : List (List ℕ))
-    → Kept → (input : Option (List ℕ)) → Type 0
+    → AroundJob → (input : Option (List ℕ)) → Type 0
 HasWantingAnswer job files k input = (status : ExitStatus) × (text said : List ℕ)
     × IsAnswer job files k input status text said × TellsWant job text
 
 -- The job has an answer, and a beginning of its text was written, which may be all of it.
 abbrev pub BeganAnswer : Job → (files : List (List ℕ))
-    → Kept → (input before after : Option (List ℕ)) → Type 0
+    → AroundJob → (input before after : Option (List ℕ)) → Type 0
 BeganAnswer job files k input before after = (status : ExitStatus) × (text said : List ℕ)
     × IsAnswer job files k input status text said × AppendsFront before after text
 
@@ -139,7 +139,7 @@ BeganAnswer job files k input before after = (status : ExitStatus) × (text said
 -- was up and its storage is honest, it is up, unless the refusal is one of want, or the answer
 -- tells of want.
 pub record TellsRefusal (job : Job) (files : List (List ℕ))
-    (k : Kept) (Steady : Type 0) (input before after : Option (List ℕ)) : Type 0 where
+    (k : AroundJob) (Steady : Type 0) (input before after : Option (List ℕ)) : Type 0 where
   pub between : Option (List ℕ)
   pub reason : JobRefusal
   pub said : TellsBefore job files input before between

@@ -11,7 +11,7 @@ use Rattle.outcomes.specs.HostFile.{AreLines, IsHostFile, IsHostFileAfter, Line,
 use Rattle.outcomes.specs.Rights.{GivesRights, GivesRightsAfter}
 use Rattle.desk.specs.declared.refusal.Refusal.TheVariants as desk
 use Rattle.desk_commands.specs.Files.{EndsMaking, AreFilesOf}
-use Rattle.desk_commands.specs.Kept.{Kept, held}
+use Rattle.desk_commands.specs.Kept.{AroundJob, held}
 use Rattle.desk_commands.specs.Taking.{HeldWith, MayFailTaking, Takes}
 use Rattle.desk_commands.specs.declared.refusal.JobRefusal.{JobRefusal}
 use Rattle.desk_commands.specs.declared.refusal.JobRefusal.TheVariants as reasons
@@ -68,7 +68,7 @@ pub record HasManyLines (roster : RosterFields Cmnd) (store : Store) (host : Lis
 
 -- `print` may be refused for this. A line that is refused does not end it.
 abbrev pub EndsPrinting : (roster_file base_file : List ℕ) (store : Store) (host : List ℕ)
-    (after : Option ℕ) → Kept → Option (List ℕ) → JobRefusal → Type 0
+    (after : Option ℕ) → AroundJob → Option (List ℕ) → JobRefusal → Type 0
 EndsPrinting roster_file base_file store host after k input reasons.FileFailed = MayFailTaking store
 EndsPrinting roster_file base_file store host after k input (reasons.Desk desk.UnknownHost) =
     k.up → (roster : RosterFields Cmnd) × (base : List Entry)

@@ -3,7 +3,7 @@ use Rattle.std.specs.Prelude.{◌≡◌, ℕ, List, codes}
 use Rattle.messages.specs.declared.message.Message.{Message}
 use Rattle.desk_store.specs.Sets.{SameSet}
 use Rattle.desk_commands.specs.Files.{EndsReplacing, EndsWith}
-use Rattle.desk_commands.specs.Kept.{Kept}
+use Rattle.desk_commands.specs.Kept.{AroundJob}
 use Rattle.desk_commands.specs.declared.refusal.JobRefusal.{JobRefusal}
 use Rattle.desk_args.specs.declared.status.ExitStatus.{ExitStatus}
 use Rattle.desk_args.specs.declared.status.ExitStatus.TheVariants.{Done}
@@ -17,6 +17,6 @@ pub record RebuildsDesk (old new : Message → Type 0)
 
 -- `rebuild` may be refused for this: never because the desk has another roster's text or an older
 -- form.
-abbrev pub EndsRebuilding : (roster_file base_file : List ℕ) → Kept → JobRefusal → Type 0
+abbrev pub EndsRebuilding : (roster_file base_file : List ℕ) → AroundJob → JobRefusal → Type 0
 EndsRebuilding roster_file base_file k reason =
     EndsWith roster_file base_file (EndsReplacing roster_file base_file k) reason

@@ -11,11 +11,11 @@ use Rattle.desk_commands.specs.declared.refusal.JobRefusal.TheVariants.{Policy, 
 
 -- its code and name; a roster's, a comparison's and the desk's as these show them, and a policy's
 -- with its line
-abbrev pub reason_text : JobRefusal → List ℕ
-reason_text FileFailed = codes "F1 FileFailed"
-reason_text BadWord = codes "F2 BadWord"
-reason_text NoMemory = codes "NoMemory"
-reason_text (Roster fault) = roster.fault_text fault
-reason_text (Policy fault) = fault_text fault
-reason_text (Beyond fault) = review.fault_text fault
-reason_text (Desk refusal) = refusal_text refusal
+abbrev pub job_refusal_text : JobRefusal → List ℕ
+job_refusal_text FileFailed = codes "F1 FileFailed"
+job_refusal_text BadWord = codes "F2 BadWord"
+job_refusal_text NoMemory = codes "NoMemory"
+job_refusal_text (Roster fault) = roster.fault_text fault
+job_refusal_text (Policy fault) = fault_text fault
+job_refusal_text (Beyond fault) = review.fault_text fault
+job_refusal_text (Desk refusal) = refusal_text refusal

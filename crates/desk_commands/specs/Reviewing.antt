@@ -7,7 +7,7 @@ use Rattle.roster.specs.Fields.{RosterFields}
 use Rattle.desk_store.specs.Sets.{Lists, SameSet}
 use Rattle.review.specs.Report.{IsReport}
 use Rattle.desk_commands.specs.Files.{EndsMaking}
-use Rattle.desk_commands.specs.Kept.{Kept}
+use Rattle.desk_commands.specs.Kept.{AroundJob}
 use Rattle.desk_commands.specs.Taking.{HeldWith, MayFailTaking, Takes}
 use Rattle.desk_commands.specs.declared.refusal.JobRefusal.{JobRefusal}
 use Rattle.desk_commands.specs.declared.refusal.JobRefusal.TheVariants as reasons
@@ -28,7 +28,7 @@ pub record ReviewsDesk (roster : RosterFields Cmnd) (base : List Entry)
   pub stays : Up → SameSet (HeldWith roster lines old) new
 
 -- `review` may be refused for this. A line that is refused does not end it.
-abbrev pub EndsReviewing : (roster_file base_file : List ℕ) (store : Store) → Kept
+abbrev pub EndsReviewing : (roster_file base_file : List ℕ) (store : Store) → AroundJob
     → JobRefusal → Type 0
 EndsReviewing roster_file base_file store k reasons.FileFailed = MayFailTaking store
 EndsReviewing roster_file base_file store k reason = EndsMaking roster_file base_file k reason

@@ -33,9 +33,9 @@ pub enum JobRefusal {
 
 impl fmt::Display for JobRefusal {
     ghost use Rattle.std.specs.Prelude.{Some};
-    ghost use Rattle.desk_commands.specs.Refusals.{reason_text};
+    ghost use Rattle.desk_commands.specs.Refusals.{job_refusal_text};
 
-    ghost output = { λ r. Some (reason_text r) };
+    ghost output = { λ r. Some (job_refusal_text r) };
 
     fn fmt<W: fmt::Write>(&self, f: &mut fmt::Formatter<W>) -> fmt::Result {
         match self {

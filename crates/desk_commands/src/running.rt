@@ -10,7 +10,7 @@ ghost use Rattle.desk_store.specs.Serves.{Serves};
 ghost use Rattle.desk_commands.specs.Answers.{CauseOfFile, CauseOfFiles, ChecksFile};
 ghost use Rattle.desk_commands.specs.Answers.{DecidesByFile, EndsReading, HasAnswer};
 ghost use Rattle.desk_commands.specs.Answers.{HasCause, IsAnswer, IsDecided, IsOnDesk};
-ghost use Rattle.desk_commands.specs.Answers.{OfFile, OfFiles, ReadsInput, status_of};
+ghost use Rattle.desk_commands.specs.Answers.{OfFile, OfFiles, ReadsInput, exit_of};
 ghost use Rattle.desk_commands.specs.Comparing.{ComparesFiles, EndsComparing};
 ghost use Rattle.desk_commands.specs.Kept.{kept_by};
 ghost use Rattle.desk_commands.specs.Leaving.{BeganAnswer, KeepsAfterRefusal, TellsRefusal};
@@ -39,7 +39,7 @@ use sudo_syntax::{Entry, Policy, print_policy, read_policy};
 use sudo_words::NoMemory;
 
 fn status_of(decision: Decision) -> ExitStatus
-    ensures { result ≡ status_of decision }
+    ensures { result ≡ exit_of decision }
 {
     match decision {
         Decision::Deny => ExitStatus::Denied,

@@ -1,10 +1,13 @@
 pub mod CollectedLemmas
 pub mod MemoryLemmas
 pub mod OutcomeLemmas
+-- messages that are taken in, one after another
+pub mod TakenIn
 -- what storage does to calls, one after the other
 pub mod ServingLemmas
 -- what is told
 pub mod TellLemmas
+pub mod CountLemmas
 -- what a crash leaves
 pub mod SameLeft
 pub mod MemoryLeft

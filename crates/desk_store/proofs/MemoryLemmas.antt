@@ -5,7 +5,7 @@ use Rattle.std.proofs.lemmas.List.Elements.{Contains-append_left, Contains-push,
 use Rattle.messages.specs.Wire.{IsMessage}
 use Rattle.messages.specs.declared.message.Message.{Message}
 use Rattle.desk_store.specs.private.Collected.{IsPut}
-use Rattle.desk_store.specs.Memory.{Holds}
+use Rattle.desk_store.specs.Memory.{MemoryHolds}
 use Rattle.store_tables.specs.Arrivals.{IsTold}
 use Rattle.store_tables.specs.declared.arrival.Arrival.{Arrival}
 use Rattle.store_tables.specs.declared.arrival.Arrival.TheVariants.{New, Held}
@@ -15,7 +15,7 @@ turned : (m n : Message) → m ≡ n → n ≡ m
 turned m n is = sym is
 
 pub put_adds : (r : Option (List ℕ)) (old : List Message) (m : Message) (new : List Message) → IsMessage m → IsPut old m new
-    → IsWith (Holds (record { roster = r; messages = old })) m (Holds (record { roster = r; messages = new }))
+    → IsWith (MemoryHolds (record { roster = r; messages = old })) m (MemoryHolds (record { roster = r; messages = new }))
 put_adds r old m new is (inl (there, same)) = λ n. (
   λ held. elim held as (λ _. IsMessage n × Contains new n) [
     | inl before ↦ (before.0, let P : List Message → Type 0 = λ l. Contains l n in subst P (sym same) before.1)
@@ -47,13 +47,14 @@ put_adds r old m new is (inr (absent, behind)) = λ n. (
 )
 
 pub put_adds_at_ok : {A E : Type 0} (result : Result A E) (r : Option (List ℕ)) (old : List Message) (m : Message) (new : List Message) → IsMessage m
-    → OnOk result (IsPut old m new) → OnOk result (IsWith (Holds (record { roster = r; messages = old })) m (Holds (record { roster = r; messages = new })))
+    → OnOk result (IsPut old m new)
+    → OnOk result (IsWith (MemoryHolds (record { roster = r; messages = old })) m (MemoryHolds (record { roster = r; messages = new })))
 put_adds_at_ok (Ok a) r old m new is put = put_adds r old m new is put
 put_adds_at_ok (Err e) r old m new is put = tt
 
 -- what is told of the list is told of the keeper
 pub put_told : {E : Type 0} (result : Result Arrival E) (r : Option (List ℕ)) (old : List Message) (m : Message) → IsMessage m
-    → IfOk result (IsTold (Contains old m)) → IfOk result (IsTold (Holds (record { roster = r; messages = old }) m))
+    → IfOk result (IsTold (Contains old m)) → IfOk result (IsTold (MemoryHolds (record { roster = r; messages = old }) m))
 put_told (Ok Held) r old m is there = (is, there)
 put_told (Ok New) r old m is absent = λ held. absent held.1
 put_told (Err e) r old m is told = tt

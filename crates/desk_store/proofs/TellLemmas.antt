@@ -1,5 +1,5 @@
 -- A database keeps no part of a desk, a desk, or one of an older form: no two of these, and a look tells which.
-use Rattle.std.proofs.Common.{◌∙◌, List, Option, Some, None, ap, codes, sym, subst}
+use Rattle.std.proofs.Common.{◌∙◌, ℕ, List, Option, Some, None, ap, codes, sym, subst}
 use Rattle.std.specs.Prelude.{IfSome, string_bytes}
 use Rattle.sqlite.specs.Effect.{Database}
 use Rattle.messages.specs.declared.message.Message.{Message}
@@ -16,15 +16,15 @@ use Rattle.store_opening.specs.Opened.{IsSomeDesk as IsFoundDesk}
 use Rattle.store_opening.proofs.OpenedLemmas.{not_old, not_vacant}
 use Rattle.store_opening.proofs.Shown.{recorded_two}
 use Rattle.desk_store.specs.declared.found.Found.{Found}
-use Rattle.desk_store.specs.Keeping.{IsKnownOf, IsSomeDesk, Tells, TellsKnown}
-use Rattle.desk_store.specs.private.Showing.{IsShown}
+use Rattle.desk_store.specs.Keeping.{FindsSomeDesk, IsCountOf, IsKnownOf, Tells, TellsCount, TellsKnown}
+use Rattle.desk_store.specs.private.Showing.{IsCountIn, IsShown}
 
 -- a look that answers that there is a desk was answered so by the database
-pub live_of : {Up : Type 0} (f : InDatabase) (g : Found) → IsShown f g → (IsFoundDesk f → Up) → IsSomeDesk g → Up
-live_of database.Empty g is live some = absurd (subst IsSomeDesk is some)
+pub live_of : {Up : Type 0} (f : InDatabase) (g : Found) → IsShown f g → (IsFoundDesk f → Up) → FindsSomeDesk g → Up
+live_of database.Empty g is live some = absurd (subst FindsSomeDesk is some)
 live_of (database.Desk c) g is live some = live tt
 live_of (database.Old c) g is live some = live tt
-live_of database.NotADesk g is live some = absurd (subst IsSomeDesk is some)
+live_of database.NotADesk g is live some = absurd (subst FindsSomeDesk is some)
 
 module _ (db : Database) where
   pub kept_not_vacant : IsKept db → ¬ IsVacant db.schema
@@ -76,3 +76,16 @@ module _ (db : Database) where
       subst (TellsKnown (HoldsText db)) (sym is.1) (known_as is.0.known c.messages.items found.2 is.2.known)
   told_known (database.Old c) g is found = subst (TellsKnown (HoldsText db)) (sym is) tt
   told_known database.NotADesk g is found = subst (TellsKnown (HoldsText db)) (sym is) tt
+
+  -- so many messages as were found are the desk's
+  count_as : (count : Option ℕ) (messages : List Message) → Lists (HoldsText db) messages
+      → IfSome count (IsCountIn messages) → IfSome count (IsCountOf (HoldsText db))
+  count_as None messages lists is = tt
+  count_as (Some count) messages lists is = (messages, lists, is.0, is.1)
+
+  pub told_count : (f : InDatabase) (g : Found) → IsShown f g → FoundIn db f → TellsCount (HoldsText db) g
+  told_count database.Empty g is found = subst (TellsCount (HoldsText db)) (sym is) tt
+  told_count (database.Desk c) g is found =
+      subst (TellsCount (HoldsText db)) (sym is.1) (count_as is.0.count c.messages.items found.2 is.2.count)
+  told_count (database.Old c) g is found = subst (TellsCount (HoldsText db)) (sym is) tt
+  told_count database.NotADesk g is found = subst (TellsCount (HoldsText db)) (sym is) tt

@@ -5,7 +5,7 @@ use Rattle.sqlite.specs.State.{State}
 use Rattle.store_tables.specs.Stored.{content_of}
 use Rattle.store_schema.specs.Shapes.{IsVacant}
 use Rattle.store_opening.specs.Opened.{IsKept, IsOldDesk}
-use Rattle.desk_store.specs.Memory.{MemoryContent, Holds}
+use Rattle.desk_store.specs.Memory.{MemoryHolds, MemoryContent}
 use Rattle.desk_store.specs.Left.{Left, Nothing, ADesk, AnOldDesk, NoDesk, IsDeskOf}
 
 -- ---- a database
@@ -32,6 +32,7 @@ MayLeave s left = (db : Database) × MayShow s db × IsFound db left
 -- We model a crash as not losing what a memory keeper holds.
 abbrev pub LeavesContent : MemoryContent → Left → Type 0
 LeavesContent k Nothing = k.roster ≡ None
-LeavesContent k (ADesk c) = IsSome k.roster × IsDeskOf (unwrap_or k.roster []) (Holds k) (ADesk c)
+LeavesContent k (ADesk c) =
+    IsSome k.roster × IsDeskOf (unwrap_or k.roster []) (MemoryHolds k) (ADesk c)
 LeavesContent k (AnOldDesk c) = ⊥
 LeavesContent k NoDesk = ⊥

@@ -1,6 +1,7 @@
--- What a look at a keeper tells, what it knows of its messages, and what a count of failures says.
-use Rattle.std.specs.Prelude.{◌≡◌, ⊤, ℕ, ◌+◌, ◌-◌, ◌^◌, List, min, string_bytes}
-use Rattle.std.specs.Prelude.{IfSome}
+-- What a look at a keeper tells, what it knows of its messages and how many they are, and what a
+-- count of failures says.
+use Rattle.std.specs.Prelude.{◌≡◌, ◌≢◌, ⊤, ℕ, ◌+◌, ◌-◌, ◌^◌, List, length, min, string_bytes}
+use Rattle.std.specs.Prelude.{AllPairs, IfSome}
 use Rattle.messages.specs.declared.message.Message.{Message}
 use Rattle.store_tables.specs.Sets.{Lists}
 use Rattle.outcomes.specs.Gathered.{AreGathered, Known}
@@ -17,11 +18,11 @@ Tells Empty Desk Old roster found.OldDesk = Old × (¬ Empty) × (¬ Desk)
 Tells Empty Desk Old roster found.NotADesk = (¬ Empty) × (¬ Desk) × (¬ Old)
 
 -- a desk, of today's form or of an older one
-abbrev pub IsSomeDesk : Found → Type 0
-IsSomeDesk found.Empty = ⊥
-IsSomeDesk (found.Desk desk) = ⊤
-IsSomeDesk found.OldDesk = ⊤
-IsSomeDesk found.NotADesk = ⊥
+abbrev pub FindsSomeDesk : Found → Type 0
+FindsSomeDesk found.Empty = ⊥
+FindsSomeDesk (found.Desk desk) = ⊤
+FindsSomeDesk found.OldDesk = ⊤
+FindsSomeDesk found.NotADesk = ⊥
 
 -- What is known of the set's messages, in whatever order they are listed.
 abbrev pub IsKnownOf : (Message → Type 0) → Known → Type 0
@@ -33,6 +34,18 @@ TellsKnown S found.Empty = ⊤
 TellsKnown S (found.Desk desk) = IfSome desk.known (IsKnownOf S)
 TellsKnown S found.OldDesk = ⊤
 TellsKnown S found.NotADesk = ⊤
+
+-- The set has so many messages: as many as a list that has each of them once, and no other.
+abbrev pub IsCountOf : (Message → Type 0) → ℕ → Type 0
+IsCountOf S n =
+    (list : List Message) × Lists S list × AllPairs (λ x y. x ≢ y) list × (length list ≡ n)
+
+-- If a look tells how many messages a desk has, the set has so many.
+abbrev pub TellsCount : (Message → Type 0) → Found → Type 0
+TellsCount S found.Empty = ⊤
+TellsCount S (found.Desk desk) = IfSome desk.count (IsCountOf S)
+TellsCount S found.OldDesk = ⊤
+TellsCount S found.NotADesk = ⊤
 
 -- two counts of failures as one, up to the greatest number of 64 bits
 abbrev pub together : (below own : ℕ) → ℕ

@@ -12,6 +12,6 @@ pub record MemoryContent : Type 0 where
 abbrev pub nothing : MemoryContent
 nothing = record { roster = None; messages = [] }
 
--- the message is kept
-abbrev pub Holds : MemoryContent → Message → Type 0
-Holds k m = IsMessage m × Contains k.messages m
+-- the keeper in memory holds the message
+abbrev pub MemoryHolds : MemoryContent → Message → Type 0
+MemoryHolds k m = IsMessage m × Contains k.messages m

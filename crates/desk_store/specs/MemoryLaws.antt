@@ -2,7 +2,7 @@
 use Rattle.std.specs.Prelude.{◌≡◌, [], None, IsSome, unwrap_or}
 use Rattle.std.proofs.Common.{refl, sym, ◌∙◌, subst, ap}
 use Rattle.store_tables.specs.Sets.{SameSet}
-use Rattle.desk_store.specs.Memory.{MemoryContent, Holds}
+use Rattle.desk_store.specs.Memory.{MemoryHolds, MemoryContent}
 
 pub same_itself : (a : MemoryContent) → a ≡ a
 same_itself a = refl
@@ -21,7 +21,7 @@ stays_desk a b same some =
     let P : MemoryContent → Type 0 = λ k. IsSome k.roster in
     subst P (sym same) some
 
-pub stays_old : (a b : MemoryContent) → b ≡ a → ⊥ → ⊥ × SameSet (Holds a) (Holds b)
+pub stays_old : (a b : MemoryContent) → b ≡ a → ⊥ → ⊥ × SameSet (MemoryHolds a) (MemoryHolds b)
     × (unwrap_or b.roster [] ≡ unwrap_or a.roster [])
 stays_old a b same none = absurd none
 
@@ -29,7 +29,8 @@ pub stays_roster : (a b : MemoryContent) → b ≡ a → IsSome a.roster
     → unwrap_or b.roster [] ≡ unwrap_or a.roster []
 stays_roster a b same some = ap (λ (k : MemoryContent). unwrap_or k.roster []) same
 
-pub stays_set : (a b : MemoryContent) → b ≡ a → IsSome a.roster → SameSet (Holds a) (Holds b)
+pub stays_set : (a b : MemoryContent) → b ≡ a → IsSome a.roster
+    → SameSet (MemoryHolds a) (MemoryHolds b)
 stays_set a b same some =
-    let P : MemoryContent → Type 0 = λ k. SameSet (Holds a) (Holds k) in
+    let P : MemoryContent → Type 0 = λ k. SameSet (MemoryHolds a) (MemoryHolds k) in
     subst P (sym same) (λ m. (λ h. h, λ h. h))

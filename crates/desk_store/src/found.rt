@@ -22,4 +22,6 @@ pub struct FoundDesk {
     pub roster: String,
     /// What is known of its messages, if the look has made that of them.
     pub known: Option<Gathered>,
+    /// How many messages there are, if the look has counted them.
+    pub count: Option<usize>,
 }

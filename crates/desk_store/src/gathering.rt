@@ -1,6 +1,6 @@
 //! What is known of the messages of a desk in a database.
 
-ghost use Rattle.std.specs.Prelude.{IfOk, OnOk};
+ghost use Rattle.std.specs.Prelude.{◌≡◌, IfOk, OnOk};
 ghost use Rattle.sqlite.specs.State.{HasCleanDisk};
 ghost use Rattle.sqlite.specs.Held.{state};
 ghost use Rattle.store_tables.specs.Kept.{HoldsText};
@@ -16,15 +16,29 @@ use store_opening::{Stored, shown_of};
 use store_tables::Fault;
 use sudo_words::NoMemory;
 
-/// What is known of these messages, each of which is freed once it is taken in.
+/// Frees the room of messages that are taken in, once it is half of all.
+fn give_back(left: &mut Vec<Stored>)
+    ensures { left.new.items ≡ left.old.items }
+{
+    if left.len() <= left.capacity() / 2 {
+        left.shrink_to_fit();
+    }
+}
+
+/// What is known of these messages. Each is freed once it is taken in, and the list's room once
+/// half of it is free: so the messages and what is known of them are never whole in memory at once.
 pub(crate) fn known_of(alloc: Global, messages: Vec<Stored>) -> Result<Gathered, NoMemory>
     ensures { IfOk result (AreGathered messages.items) }
 {
     let mut gathered = Gathered::new(alloc);
-    for stored in messages {
+    let mut left = messages;
+    // Turned round, so that the first message is popped first.
+    left.reverse();
+    while let Some(stored) = left.pop() {
         let taken = gathered.take(stored.message());
         drop(stored);
         taken?;
+        give_back(&mut left);
     }
     Ok(gathered)
 }

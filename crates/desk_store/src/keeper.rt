@@ -6,7 +6,8 @@ ghost use Rattle.messages.specs.declared.message.Message.{Message as AnyMessage}
 ghost use Rattle.store_schema.specs.Beside.{TableWithRows};
 ghost use Rattle.store_tables.specs.Arrivals.{IsTold};
 ghost use Rattle.store_tables.specs.Sets.{IsNothing, SameSet, IsWith, Lists, With};
-ghost use Rattle.desk_store.specs.Keeping.{HasFailed, IsKnownOf, IsSomeDesk, Tells, TellsKnown};
+ghost use Rattle.desk_store.specs.Keeping.{FindsSomeDesk, HasFailed, IsKnownOf, Tells};
+ghost use Rattle.desk_store.specs.Keeping.{TellsCount, TellsKnown};
 ghost use Rattle.desk_store.specs.Left.{Left, AddsOnly, IsAsKept, IsCommitted, IsDeskOf};
 ghost use Rattle.desk_store.specs.Left.{IsNothingOrFresh, IsReplacedOrNot, IsWithOrWithout};
 ghost use Rattle.desk_store.specs.Left.{LeavesOnly};
@@ -76,20 +77,22 @@ pub trait Keeper {
     /// A crash at this moment may leave this, for the next opening.
     ghost may_leave: { Self → Left → Type 0 };
 
-    /// Tells what it keeps, and, as it sees fit, what is known of a desk's messages. What is kept
-    /// stays as it is.
+    /// Tells what it keeps, and, as it sees fit, what is known of a desk's messages and how many
+    /// they are. What is kept stays as it is.
     fn look(&mut self) -> Result<Found, KeeperError>
         ensures found { is_up self.new → IfOk result
             (Tells (is_empty self.old) (is_desk self.old) (is_old self.old) (roster self.old)) }
-        // Where a look tells what is known of the messages, it is what `gather` gives.
+        // Where a look tells what is known of the messages, it is what `gather` gives; where it
+        // tells how many they are, the set has so many.
         ensures known { is_up self.new → IfOk result (TellsKnown (holds self.old)) }
+        ensures counted { is_up self.new → IfOk result (TellsCount (holds self.old)) }
         ensures same { is_up self.new → is_same self.old self.new }
         ensures served { IsServed is_up is_clean failures beside self.old self.new
             (result ≡ Err KeeperError.Storage) (IsErr result) }
         // A look that sees no table of a desk's may run no statement: so `Empty` and `NotADesk` do
         // not say that the keeper is up.
         ensures live { is_clean self.new
-            → IfOk result (λ found. IsSomeDesk found → is_up self.new) }
+            → IfOk result (λ found. FindsSomeDesk found → is_up self.new) }
         ensures crash { is_up self.old → is_clean self.new
             → LeavesOnly (may_leave self.new) (IsAsKept (is_empty self.old)
             (is_desk self.old) (is_old self.old) (roster self.old) (holds self.old)) }

@@ -2,6 +2,7 @@
 #![tactic(auto)]
 
 mod collected;
+mod counting;
 mod error;
 mod failing;
 mod failing_keeper;

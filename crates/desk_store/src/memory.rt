@@ -66,7 +66,7 @@ impl Keeper for MemoryKeeper {
 
     ghost roster = { λ k. unwrap_or k.roster [] };
 
-    ghost holds = { λ k. memory.Holds k };
+    ghost holds = { λ k. memory.MemoryHolds k };
 
     ghost is_up = { λ k. ⊤ };
 
@@ -112,6 +112,7 @@ impl Keeper for MemoryKeeper {
         Ok(Found::Desk(FoundDesk {
             roster: copy,
             known: None,
+            count: None,
         }))
     }
 
@@ -139,13 +140,13 @@ impl Keeper for MemoryKeeper {
     /// The messages, each once, in the order in which they came.
     fn messages(&mut self) -> Result<Vec<Message>, KeeperError>
         requires { ⊤ → IsSome self.old.roster }
-        ensures listed { IfOk result (λ list. Lists (memory.Holds self.old) list.items) }
+        ensures listed { IfOk result (λ list. Lists (memory.MemoryHolds self.old) list.items) }
         ensures once { IfOk result (λ list. AllPairs (λ m n. m ≢ n) list.items) }
         ensures same { self.new ≡ self.old }
         ensures cause { result ≡ Err errors.Storage → HasFailed 0 0 }
         ensures live { OnOk result ⊤ }
         ensures crash { LeavesOnly (LeavesContent self.new)
-            (IsDeskOf (unwrap_or self.old.roster []) (memory.Holds self.old)) }
+            (IsDeskOf (unwrap_or self.old.roster []) (memory.MemoryHolds self.old)) }
         ensures leaves { AddsOnly (LeavesContent self.old) (LeavesContent self.new) (λ _. ⊥) }
     {
         self.messages.copied()

@@ -13,9 +13,10 @@ ghost use Rattle.store_opening.specs.Opened.{IsKept, IsOldDesk};
 ghost use Rattle.outcomes.specs.Gathered.{AreGathered};
 ghost use Rattle.desk_store.specs.Crash.{MayLeave};
 ghost use Rattle.desk_store.specs.private.Props.{Rests-prop};
-ghost use Rattle.desk_store.specs.private.Showing.{IsShown};
+ghost use Rattle.desk_store.specs.private.Showing.{IsCountIn, IsShown};
 ghost use Rattle.desk_store.specs.private.SqliteLaws as laws;
 
+use crate::counting::count_of;
 use crate::error::KeeperError;
 use crate::failing::{storage, told};
 use crate::found::{Found, FoundDesk};
@@ -38,7 +39,7 @@ use store_tables::{Arrival, Fault, arrive};
 /// desk whose rows are not those that follow from its messages, and for want of memory.
 ///
 /// A look reads all messages in any case. One of a keeper that is made by `that_gathers` tells what
-/// is known of them too: who asks the desk next need not read them again.
+/// is known of them too, and how many they are: who asks the desk next need not read them again.
 pub struct SqliteKeeper<S: Alter> {
     alloc: Global,
     conn: Connection<S>,
@@ -64,7 +65,8 @@ impl<S: Alter> SqliteKeeper<S> {
         }
     }
 
-    /// The same, for a desk that will be asked: a look tells what is known of its messages.
+    /// The same, for a desk that will be asked: a look tells what is known of its messages, and how
+    /// many they are.
     pub fn that_gathers(alloc: Global, conn: Connection<S>) -> SqliteKeeper<S>
         requires { IsUp (state S.Store conn) → conn.in_transaction ≡ false }
         ensures same { result.conn ≡ conn }
@@ -131,20 +133,30 @@ impl<S: Alter + Drop> Drop for SqliteKeeper<S> {
     }
 }
 
-/// What the keeper tells of a desk that was found. Where memory lacks, nothing is told of its
-/// messages, and what is known of them is gathered when it is asked for.
+/// What the keeper tells of a desk that was found. What memory lacks for is not told of its
+/// messages, and is gathered or counted when it is asked for.
 fn shown_desk(alloc: Global, gathers: bool, contents: Contents) -> FoundDesk
     ensures roster { result.roster ≡ contents.roster }
     ensures known { IfSome result.known (AreGathered contents.messages.items) }
+    ensures count { IfSome result.count (IsCountIn contents.messages.items) }
 {
     let Contents { roster, messages } = contents;
-    let known = if gathers {
-        known_of(alloc, messages).ok()
-    } else {
+    if !gathers {
         drop(messages);
-        None
-    };
-    FoundDesk { roster, known }
+        return FoundDesk {
+            roster,
+            known: None,
+            count: None,
+        };
+    }
+    // They are counted first: what is known of them is gathered from them as each is freed.
+    let count = count_of(alloc, messages.as_slice());
+    let known = known_of(alloc, messages).ok();
+    FoundDesk {
+        roster,
+        known,
+        count,
+    }
 }
 
 /// What the keeper tells of what was found.

@@ -4,7 +4,6 @@ ghost use Rattle.std.specs.Prelude.{◌≡◌, ◌∷◌, ◌++◌, All, map, No
 ghost use Rattle.std.specs.Prelude.{IfOk, OnOk, codes, string_bytes};
 ghost use Rattle.std.specs.List.{flat_map};
 ghost use Rattle.sudo_words.specs.Command.{IsLawful};
-ghost use Rattle.messages.specs.Wire.{kind_text};
 ghost use Rattle.findings.specs.Document.{AreTextsOf};
 ghost use Rattle.findings.specs.Judging as says;
 ghost use Rattle.findings.specs.Terminal as terminal;
@@ -17,22 +16,11 @@ use crate::entry::AuditEntry;
 use crate::judged::{Judged, judge, status_word};
 use crate::pick::Pick;
 use grants::{Denial, Status, Window};
-use messages::{Request, Verdict, VerdictKind};
+use messages::{Request, Verdict};
 use roster::Roster;
 use std::alloc::Global;
 use std::fmt::Write as _;
 use sudo_words::{Cmnd, HostName, Moment, Name, NoMemory, print_cmnd};
-
-/// The word for a kind.
-fn kind_word(kind: VerdictKind) -> &'static str
-    ensures { result.now ≡ kind_text kind }
-{
-    match kind {
-        VerdictKind::Approve => "approve",
-        VerdictKind::Refuse => "refuse",
-        VerdictKind::Revoke => "revoke",
-    }
-}
 
 /// Adds who asked, and the number.
 fn push_name(out: &mut String, by: &Name, no: u32) -> Result<(), NoMemory>
@@ -181,7 +169,7 @@ fn push_verdict(
         ≡ string_bytes out.old ++ terminal.verdict_line effect verdict.now) }
 {
     let at = format!(in alloc; "{}", verdict.at())?;
-    push_heading(out, kind_word(verdict.kind()))?;
+    push_heading(out, verdict.kind().word())?;
     let place = BEHIND_HEADING.push(out, at.as_str())?;
     let place = place.push(out, verdict.by().as_str())?;
     place.push(out, effect.word())?;

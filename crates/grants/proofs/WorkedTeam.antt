@@ -18,7 +18,7 @@ use Rattle.grants.specs.private.Status.{admitted_status}
 use Rattle.grants.specs.Statuses.{IsStatus}
 use Rattle.grants.specs.Summaries.{Kept, StandsFor}
 use Rattle.grants.specs.WorkedAdmission.{asked, asked_from}
-use Rattle.grants.specs.WorkedStatuses.{team, by_two, shorter, rota, for_the_second, ComesTo, ComesToByDays}
+use Rattle.grants.specs.WorkedStatuses.{VerdictsComeToByDays, VerdictsComeTo, by_two, for_the_second, rota, shorter, team}
 use Rattle.grants.specs.declared.outcome.Status.{Status}
 use Rattle.grants.specs.declared.outcome.Status.TheVariants.{Disputed, Lapsed}
 use Rattle.grants.proofs.AdmissionLemmas.{within}
@@ -89,13 +89,14 @@ team_admits = record {
 }
 
 pub comes_to : (verdicts : List VerdictFields) (status : Status) → AllByRecursion (IsAbout asked) verdicts → (took_all (fresh asked) verdicts).request ≡ asked
-    → (took_all (fresh asked) verdicts).is_disputed ≡ false → admitted_status team by_two (took_all (fresh asked) verdicts) ≡ status → ComesTo verdicts status
+    → (took_all (fresh asked) verdicts).is_disputed ≡ false → admitted_status team by_two (took_all (fresh asked) verdicts) ≡ status
+    → VerdictsComeTo verdicts status
 comes_to verdicts status all same single e =
     let k = took_all (fresh asked) verdicts in
     let stands = stands_all (Request asked ∷ []) (fresh asked) verdicts all (stands_fresh asked) in
     let is = admitted_is team by_two (Request asked ∷ map Verdict verdicts) k (subst (λ (q : RequestFields). ceiling_at team q.ceiling ≡ Some by_two)
     (sym same) refl) (lit≤ tt) (subst (AdmitsRequest team) (sym same) team_admits) single stands in
-    subst (λ (x : Status). ComesTo verdicts x) e
+    subst (λ (x : Status). VerdictsComeTo verdicts x) e
     (subst (λ (q : RequestFields). IsStatus team (Request asked ∷ map Verdict verdicts) (name_of q) (admitted_status team by_two k)) same is)
 
 rota_admits : AdmitsRequest rota for_the_second
@@ -108,7 +109,7 @@ rota_admits = record {
 
 pub comes_to_by_days : (verdicts : List VerdictFields) (status : Status) → AllByRecursion (IsAbout for_the_second) verdicts
     → (took_all (fresh for_the_second) verdicts).request ≡ for_the_second → (took_all (fresh for_the_second) verdicts).is_disputed ≡ false
-    → admitted_status rota by_two (took_all (fresh for_the_second) verdicts) ≡ status → ComesToByDays verdicts status
+    → admitted_status rota by_two (took_all (fresh for_the_second) verdicts) ≡ status → VerdictsComeToByDays verdicts status
 comes_to_by_days verdicts status all same single e =
     let q = for_the_second in
     let k = took_all (fresh q) verdicts in
@@ -116,7 +117,7 @@ comes_to_by_days verdicts status all same single e =
     let is =
     admitted_is rota by_two (Request q ∷ map Verdict verdicts) k (subst (λ (p : RequestFields). ceiling_at rota p.ceiling ≡ Some by_two) (sym same) refl)
     (lit≤ tt) (subst (AdmitsRequest rota) (sym same) rota_admits) single stands in
-    subst (λ (x : Status). ComesToByDays verdicts x) e
+    subst (λ (x : Status). VerdictsComeToByDays verdicts x) e
     (subst (λ (p : RequestFields). IsStatus rota (Request q ∷ map Verdict verdicts) (name_of p) (admitted_status rota by_two k)) same is)
 
 -- ---- disputed and lapsed

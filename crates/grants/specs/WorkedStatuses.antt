@@ -56,13 +56,14 @@ abbrev pub both_and : List VerdictFields → List VerdictFields
 both_and more = approves (codes "bob") 30_600 ∷ approves (codes "dave") 33_000 ∷ more
 
 -- what ann's request and these verdicts come to
-abbrev pub ComesTo : List VerdictFields → Status → Type 0
-ComesTo verdicts status =
+abbrev pub VerdictsComeTo : List VerdictFields → Status → Type 0
+VerdictsComeTo verdicts status =
     IsStatus team (Request asked ∷ map Verdict verdicts) (name_of asked) status
 
 -- they come to a grant of these moments
-abbrev pub Gives : List VerdictFields → (start end : ℕ) → Type 0
-Gives verdicts start end = ComesTo verdicts (Granted (record { start = start; end = end }))
+abbrev pub VerdictsGrant : List VerdictFields → (start end : ℕ) → Type 0
+VerdictsGrant verdicts start end =
+    VerdictsComeTo verdicts (Granted (record { start = start; end = end }))
 
 -- ---- duties on some days only
 
@@ -83,13 +84,14 @@ abbrev pub for_the_second : RequestFields
 for_the_second = asked_from 118_800 126_000
 
 -- what that and these verdicts come to
-abbrev pub ComesToByDays : List VerdictFields → Status → Type 0
-ComesToByDays verdicts status =
+abbrev pub VerdictsComeToByDays : List VerdictFields → Status → Type 0
+VerdictsComeToByDays verdicts status =
     IsStatus rota (Request for_the_second ∷ map Verdict verdicts) (name_of for_the_second) status
 
-abbrev pub GivesByDays : List VerdictFields → (start end : ℕ) → Type 0
-GivesByDays verdicts start end =
-    ComesToByDays verdicts (Granted (record { start = start; end = end }))
+-- they come to a grant of these moments
+abbrev pub VerdictsGrantByDays : List VerdictFields → (start end : ℕ) → Type 0
+VerdictsGrantByDays verdicts start end =
+    VerdictsComeToByDays verdicts (Granted (record { start = start; end = end }))
 
 -- dave approves on 1 January at ten past nine
 abbrev pub dave_and : List VerdictFields → List VerdictFields

@@ -17,7 +17,8 @@ ghost use Rattle.grants.specs.Counting.{NeverCounts};
 ghost use Rattle.grants.specs.Statuses.{IsFirstMoment, IsLastMoment, IsStatus};
 ghost use Rattle.grants.specs.Verdicts.{counts, IsComplete, IsGiven, RevokedBy};
 ghost use Rattle.grants.specs.WorkedAdmission.{asked, asked_from};
-ghost use Rattle.grants.specs.WorkedStatuses.{ComesTo, ComesToByDays, Gives, GivesByDays, approves};
+ghost use Rattle.grants.specs.WorkedStatuses.{VerdictsComeTo, VerdictsComeToByDays};
+ghost use Rattle.grants.specs.WorkedStatuses.{VerdictsGrant, VerdictsGrantByDays, approves};
 ghost use Rattle.grants.specs.WorkedStatuses.{both_and, dave_and, refuses, revokes, shorter, team};
 ghost use Rattle.grants.specs.declared.outcome.Status.{Status};
 ghost use Rattle.grants.specs.declared.outcome.Status.TheVariants.{Disputed, Lapsed};
@@ -97,27 +98,27 @@ pub fn rights_of_the_moment()
 pub fn worked_statuses()
     // Neither the asker nor carol, who also audits, counts as an approver beside bob, and bob's
     // second approval does not make him a second approver.
-    ensures asker { ComesTo
+    ensures asker { VerdictsComeTo
         (approves (codes "ann") 28_800 ∷ approves (codes "bob") 30_600 ∷ []) Waiting }
-    ensures conflict { ComesTo
+    ensures conflict { VerdictsComeTo
         (approves (codes "bob") 30_600 ∷ approves (codes "carol") 28_800 ∷ []) Waiting }
-    ensures twice { ComesTo
+    ensures twice { VerdictsComeTo
         (approves (codes "bob") 30_600 ∷ approves (codes "bob") 31_200 ∷ []) Waiting }
     // It is in force from the second approver's first approval on, but no earlier than it was asked
     // for.
-    ensures second { Gives (both_and (approves (codes "dave") 34_000 ∷ [])) 33_000 39_600 }
-    ensures ahead { Gives
+    ensures second { VerdictsGrant (both_and (approves (codes "dave") 34_000 ∷ [])) 33_000 39_600 }
+    ensures ahead { VerdictsGrant
         (approves (codes "dave") 31_200 ∷ approves (codes "bob") 30_600 ∷ []) 32_400 39_600 }
     // A refusal at the very moment of the completion refuses; a later one, and carol's, have no
     // effect.
-    ensures refused { ComesTo (both_and (refuses (codes "bob") 33_000 ∷ [])) Refused }
-    ensures late { Gives (both_and (refuses (codes "bob") 33_001
+    ensures refused { VerdictsComeTo (both_and (refuses (codes "bob") 33_000 ∷ [])) Refused }
+    ensures late { VerdictsGrant (both_and (refuses (codes "bob") 33_001
         ∷ refuses (codes "carol") 28_800 ∷ [])) 33_000 39_600 }
     // A revocation, even carol's, ends it a moment before; one at moment 0 leaves nothing, and
     // neither does an approval after the end.
-    ensures revoked { Gives (both_and (revokes (codes "carol") 36_000 ∷ [])) 33_000 35_999 }
-    ensures void { ComesTo (both_and (revokes (codes "ann") 0 ∷ [])) Void }
-    ensures too_late { ComesTo
+    ensures revoked { VerdictsGrant (both_and (revokes (codes "carol") 36_000 ∷ [])) 33_000 35_999 }
+    ensures void { VerdictsComeTo (both_and (revokes (codes "ann") 0 ∷ [])) Void }
+    ensures too_late { VerdictsComeTo
         (approves (codes "bob") 30_600 ∷ approves (codes "dave") 39_601 ∷ []) Void }
     // Another request of the name disputes it; and if the ceiling has been lowered since, it is
     // lapsed.
@@ -131,23 +132,24 @@ pub fn worked_statuses()
 pub fn worked_days()
     // Bob's approval on the day before his first day has no effect, even once he may approve; his
     // next one has, from its moment on.
-    ensures before { ComesToByDays (dave_and (approves (codes "bob") 86_399 ∷ [])) Waiting }
-    ensures again { GivesByDays (dave_and (approves (codes "bob") 86_399
+    ensures before { VerdictsComeToByDays (dave_and (approves (codes "bob") 86_399 ∷ [])) Waiting }
+    ensures again { VerdictsGrantByDays (dave_and (approves (codes "bob") 86_399
         ∷ approves (codes "bob") 120_000 ∷ [])) 120_000 126_000 }
-    ensures turned { GivesByDays (dave_and (approves (codes "bob") 120_000
+    ensures turned { VerdictsGrantByDays (dave_and (approves (codes "bob") 120_000
         ∷ approves (codes "bob") 86_399 ∷ [])) 120_000 126_000 }
     // Carol's approval has no effect on the last day on which she audits, and has one in the first
     // second after it.
-    ensures audits { ComesToByDays (dave_and (approves (codes "carol") 86_399 ∷ [])) Waiting }
-    ensures audited { GivesByDays
+    ensures audits { VerdictsComeToByDays
+        (dave_and (approves (codes "carol") 86_399 ∷ [])) Waiting }
+    ensures audited { VerdictsGrantByDays
         (dave_and (approves (codes "carol") 86_400 ∷ [])) 118_800 126_000 }
     // A refusal counts by the same rights; carol may revoke at any moment, bob not yet on the 1st.
-    ensures refused_early { GivesByDays (dave_and (approves (codes "carol") 86_400
+    ensures refused_early { VerdictsGrantByDays (dave_and (approves (codes "carol") 86_400
         ∷ refuses (codes "bob") 86_399 ∷ [])) 118_800 126_000 }
-    ensures refused { ComesToByDays
+    ensures refused { VerdictsComeToByDays
         (dave_and (approves (codes "carol") 90_000 ∷ refuses (codes "bob") 86_400 ∷ [])) Refused }
-    ensures revoked_early { GivesByDays (dave_and (approves (codes "carol") 86_400
+    ensures revoked_early { VerdictsGrantByDays (dave_and (approves (codes "carol") 86_400
         ∷ revokes (codes "bob") 86_399 ∷ [])) 118_800 126_000 }
-    ensures revoked { GivesByDays (dave_and (approves (codes "carol") 86_400
+    ensures revoked { VerdictsGrantByDays (dave_and (approves (codes "carol") 86_400
         ∷ revokes (codes "carol") 120_000 ∷ [])) 118_800 119_999 }
 {}

@@ -15,7 +15,7 @@ use Rattle.serde_json.specs.Written.{compact_text}
 use Rattle.serde_json.specs.declared.value.Value.{the_lemmas}
 use Rattle.serde_json.specs.declared.value.Value.TheVariants as values
 use Rattle.sudo_words.specs.Word.{is_lower, is_name, is_name_byte, is_host_name, is_host_byte, is_label, is_path_byte, is_arg, is_arg_byte}
-use Rattle.sudo_words.specs.Moment.{IsMoment, IsStamp, Spells, is_stamp_byte, stamp}
+use Rattle.sudo_words.specs.Moment.{IsMoment, IsStamp, SpellsMoment, is_stamp_byte, stamp}
 use Rattle.sudo_words.specs.Command.{IsLawful, IsHead, IsArgRule, cmnd_text, head_text, rule_of, rule_text, spaced_arg}
 use Rattle.sudo_words.specs.declared.cmnd.Cmnd.{Cmnd}
 use Rattle.sudo_words.specs.declared.cmnd.Cmnd.TheVariants as commands
@@ -221,7 +221,7 @@ pub moment_stamped : (t : ℕ) → IsMoment t → IsStamp (moment_text t) t
 unfolding moment_text
 moment_stamped t h = stamp_is t h
 
-pub moment_spelled : (t : ℕ) → IsMoment t → Spells (moment_text t) t
+pub moment_spelled : (t : ℕ) → IsMoment t → SpellsMoment (moment_text t) t
 unfolding moment_text
 moment_spelled t h = stamp_spells (stamp t) t (stamp_is t h)
 
@@ -244,6 +244,9 @@ pub kind_plain : (k : VerdictKind) → IsPlain (kind_text k)
 kind_plain Approve = each_plain is_plain_byte (λ b k. k) (codes "approve") refl
 kind_plain Refuse = each_plain is_plain_byte (λ b k. k) (codes "refuse") refl
 kind_plain Revoke = each_plain is_plain_byte (λ b k. k) (codes "revoke") refl
+
+pub escaped_kind : (k : VerdictKind) → escaped (kind_text k) ≡ kind_text k
+escaped_kind k = escaped_plain (kind_text k) (kind_plain k)
 
 pub hosts_printed : (hs : List (List ℕ)) → All (λ h. is_host_name h ≡ true) hs → All IsPrinted hs
 hosts_printed hs each = All-weaker (λ (h : List ℕ). is_host_name h ≡ true) IsPrinted (λ w h. printed_plain w (host_plain w h)) hs each

@@ -5,7 +5,7 @@ use Rattle.serde_json.specs.Data.{string}
 use Rattle.serde_json.specs.Find.{get}
 use Rattle.serde_json.specs.Read.{read}
 use Rattle.sudo_words.specs.Command.{cmnd_text}
-use Rattle.sudo_words.specs.Moment.{IsMoment, Spells}
+use Rattle.sudo_words.specs.Moment.{IsMoment, SpellsMoment}
 use Rattle.sudo_words.proofs.CommandLemmas.{one_cmnds}
 use Rattle.sudo_words.proofs.MomentTexts.{one_spelled}
 use Rattle.messages.specs.Fields.{RequestFields, VerdictFields, IsRequest, IsVerdict}
@@ -19,7 +19,7 @@ use Rattle.messages.proofs.Readings.{text_of_message}
 
 pub one_moment : (s t : ℕ) → IsMoment s → IsMoment t → moment_text s ≡ moment_text t → s ≡ t
 one_moment s t a b same =
-    let other : Spells (moment_text s) t = rw same (moment_spelled t b) in
+    let other : SpellsMoment (moment_text s) t = rw same (moment_spelled t b) in
     one_spelled (moment_text s) s t (moment_spelled s a) other
 
 pub one_list : (vs ws : List (List ℕ)) → strings vs ≡ strings ws → vs ≡ ws

@@ -51,16 +51,7 @@ fn kind_named(name: &str) -> Result<VerdictKind, MessageFault>
     ensures only { (k : AnyKind) → name.now ≡ kind_text k → IsOkAnd result (λ found. found ≡ k) }
     ensures err { IfErr result (λ e. e ≡ BadField) }
 {
-    if name == "approve" {
-        return Ok(VerdictKind::Approve);
-    }
-    if name == "refuse" {
-        return Ok(VerdictKind::Refuse);
-    }
-    if name == "revoke" {
-        return Ok(VerdictKind::Revoke);
-    }
-    Err(MessageFault::BadField)
+    VerdictKind::of_word(name.as_bytes()).ok_or(MessageFault::BadField)
 }
 
 fn verdict_of(alloc: Global, value: &Value<'_>, kind: VerdictKind) -> Result<Verdict, MessageFault>

@@ -14,7 +14,6 @@ ghost use Rattle.messages.specs.private.Past.{IsPast, left_of};
 use crate::message::Message;
 use crate::request::Request;
 use crate::verdict::Verdict;
-use crate::write::kind_name;
 use itoa::Buffer;
 use std::str;
 use sudo_words::{Arg, ArgRule, Cmnd, HostName, Moment, is_escaped};
@@ -277,7 +276,7 @@ fn past_verdict<'b>(rest: Option<&'b [u8]>, v: &Verdict) -> Option<&'b [u8]>
 {
     let rest = past_moment(rest, "{\"at\":", v.at);
     let rest = past_member(rest, ",\"by\":", v.by.as_str());
-    let rest = past_member(rest, ",\"kind\":", kind_name(v.kind));
+    let rest = past_member(rest, ",\"kind\":", v.kind.word());
     let rest = past_number(rest, v.no);
     let rest = past_member(rest, ",\"of\":", v.of.as_str());
     past(rest, "}")

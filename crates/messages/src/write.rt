@@ -5,7 +5,6 @@ ghost use Rattle.sudo_words.specs.Command.{IsLawful, cmnd_text};
 ghost use Rattle.sudo_words.specs.Moment.{IsMoment};
 ghost use Rattle.messages.specs.Wire as wires;
 
-use crate::kind::VerdictKind;
 use crate::message::Message;
 use crate::request::Request;
 use crate::verdict::Verdict;
@@ -193,26 +192,14 @@ fn push_request(out: &mut String, alloc: Global, r: &Request) -> Result<(), NoMe
     Ok(())
 }
 
-#[tactic(auto, unfolding(crate::specs::Wire::escaped))]
-pub(crate) fn kind_name(kind: VerdictKind) -> &'static str
-    ensures value { result.now ≡ wires.kind_text kind }
-    ensures plain { wires.escaped result.now ≡ result.now }
-{
-    match kind {
-        VerdictKind::Approve => "approve",
-        VerdictKind::Refuse => "refuse",
-        VerdictKind::Revoke => "revoke",
-    }
-}
-
-#[tactic(auto, using(crate::proofs::PlainTexts::escaped_name))]
+#[tactic(auto, using(crate::proofs::PlainTexts::escaped_name, crate::proofs::PlainTexts::escaped_kind))]
 fn push_verdict(out: &mut String, v: &Verdict) -> Result<(), AllocError>
     ensures { OnOk result
         (string_bytes out.new ≡ string_bytes out.old ++ wires.verdict_text v.now) }
 {
     push_moment(out, "{\"at\":", v.at)?;
     push_member(out, ",\"by\":", v.by.as_str())?;
-    push_member(out, ",\"kind\":", kind_name(v.kind))?;
+    push_member(out, ",\"kind\":", v.kind.word())?;
     push_number(out, v.no)?;
     push_member(out, ",\"of\":", v.of.as_str())?;
     out.push_str("}")

@@ -25,7 +25,7 @@ use Rattle.grants.proofs.StatusLemmas.{admitted_is}
 use Rattle.outcomes.specs.HostFile.{AreLines, Line, lines_after, with_lines}
 use Rattle.outcomes.specs.Outcomes.{AreLive, LiveGrant}
 use Rattle.outcomes.specs.Parked.{AreParked, IsParked}
-use Rattle.outcomes.specs.WorkedSet.{asked, base, early, grant, worked}
+use Rattle.outcomes.specs.WorkedSet.{ann_asks_ls, base, early, grant, worked}
 use Rattle.outcomes.specs.private.InTurn.{live_for}
 use Rattle.outcomes.proofs.Existence.{asked_alone}
 use Rattle.outcomes.proofs.GivenLists.{AsksPast, IsRoll, roll_of_some}
@@ -42,14 +42,14 @@ one_verdict v w e = cc
 
 -- ---- its messages
 
-only_request : (q : RequestFields) → Contains worked (Request q) → asked ≡ q
+only_request : (q : RequestFields) → Contains worked (Request q) → ann_asks_ls ≡ q
 only_request q m =
-    elim (Contains-cases (Request asked) (Verdict bob_approves ∷ Verdict early ∷ []) (Request q) m) as (λ _. asked ≡ q) [
-      | inl same ↦ one_request asked q same
-      | inr later ↦ elim (Contains-cases (Verdict bob_approves) (Verdict early ∷ []) (Request q) later) as (λ _. asked ≡ q) [
+    elim (Contains-cases (Request ann_asks_ls) (Verdict bob_approves ∷ Verdict early ∷ []) (Request q) m) as (λ _. ann_asks_ls ≡ q) [
+      | inl same ↦ one_request ann_asks_ls q same
+      | inr later ↦ elim (Contains-cases (Verdict bob_approves) (Verdict early ∷ []) (Request q) later) as (λ _. ann_asks_ls ≡ q) [
         | inl wrong ↦ absurd cc
         | inr last ↦ elim (Contains-cases (Verdict early) [] (Request q) last)
-            as (λ _. asked ≡ q) [ inl wrong ↦ absurd cc | inr none ↦ absurd (no_member (Request q) none) ]
+            as (λ _. ann_asks_ls ≡ q) [ inl wrong ↦ absurd cc | inr none ↦ absurd (no_member (Request q) none) ]
       ]
     ]
 
@@ -61,37 +61,37 @@ nobody_asks = λ q m named.
 -- ---- its summary
 
 abbrev fresh : Kept
-fresh = record { request = asked; is_disputed = false; approvals = []; refusals = []; revocations = [] }
+fresh = record { request = ann_asks_ls; is_disputed = false; approvals = []; refusals = []; revocations = [] }
 
 abbrev kept : Kept
 kept = record fresh { approvals = record { person = codes "bob"; at = 1_767_601_800 } ∷ [] }
 
-other_name : name_meant early ≡ name_of asked → ⊥
+other_name : name_meant early ≡ name_of ann_asks_ls → ⊥
 other_name same =
     let no : ◌≡◌ {A = ℕ} 8 7 = ap (λ (n : RequestName). n.no) same in
     absurd (omega (arith, no))
 
 stands : StandsFor worked kept
 stands =
-    let approved : StandsFor (Request asked ∷ Verdict bob_approves ∷ []) kept = standing.approved (Request asked ∷ []) fresh bob_approves
-    (codes "bob") 1_767_601_800 kept.approvals (refl, refl) refl refl refl refl (asked_alone asked) in
-    stands_still (Request asked ∷ Verdict bob_approves ∷ []) (Verdict early) kept other_name approved
+    let approved : StandsFor (Request ann_asks_ls ∷ Verdict bob_approves ∷ []) kept = standing.approved (Request ann_asks_ls ∷ []) fresh bob_approves
+    (codes "bob") 1_767_601_800 kept.approvals (refl, refl) refl refl refl refl (asked_alone ann_asks_ls) in
+    stands_still (Request ann_asks_ls ∷ Verdict bob_approves ∷ []) (Verdict early) kept other_name approved
 
-admits : AdmitsRequest site asked
+admits : AdmitsRequest site ann_asks_ls
 admits = record {
   ceiling = db_root;
   may_ask = record { listed = refl; ceiling_is = refl; may_ask = refl };
-  within = within site asked db_root refl refl refl;
+  within = within site ann_asks_ls db_root refl refl refl;
   in_time = record { short = lit≤ tt; ahead = lit≤ tt; forward = lit≤ tt };
 }
 
 abbrev status : Status
 status = Granted grant.window
 
-granted : IsStatus site worked (name_of asked) status
+granted : IsStatus site worked (name_of ann_asks_ls) status
 granted =
     let is : admitted_status site db_root kept ≡ status = refl in
-    subst (IsStatus site worked (name_of asked)) is (admitted_is site db_root worked kept refl (lit≤ tt) admits refl stands)
+    subst (IsStatus site worked (name_of ann_asks_ls)) is (admitted_is site db_root worked kept refl (lit≤ tt) admits refl stands)
 
 roll : IsRoll worked (kept ∷ [])
 roll = record {
@@ -103,11 +103,11 @@ roll = record {
 
 -- ---- what they give
 
-pub live : (moment : ℕ) (list : List LiveGrant) → list ≡ live_for moment asked status ++ [] → AreLive site worked moment list
+pub live : (moment : ℕ) (list : List LiveGrant) → list ≡ live_for moment ann_asks_ls status ++ [] → AreLive site worked moment list
 live moment list is = are_live site worked moment (kept ∷ []) (roll_of_some worked (AsksPast moment) (kept ∷ []) roll) list ([], status, refl, granted, is)
 
 abbrev pub lines_on : List ℕ → List Line
-lines_on host = lines_for host asked status ++ []
+lines_on host = lines_for host ann_asks_ls status ++ []
 
 pub lines : (host : List ℕ) → AreLines site worked host (lines_on host)
 lines host = are_lines site worked host (kept ∷ []) roll (lines_on host) ([], status, refl, granted, refl)
@@ -134,13 +134,13 @@ text_is = refl
 
 only_parked : (v : VerdictFields) → IsParked worked v → early ≡ v
 only_parked v is =
-    elim (Contains-cases (Request asked) (Verdict bob_approves ∷ Verdict early ∷ []) (Verdict v) is.given) as (λ _. early ≡ v) [
+    elim (Contains-cases (Request ann_asks_ls) (Verdict bob_approves ∷ Verdict early ∷ []) (Verdict v) is.given) as (λ _. early ≡ v) [
       | inl wrong ↦ absurd cc
       | inr later ↦ elim (Contains-cases (Verdict bob_approves) (Verdict early ∷ []) (Verdict v) later) as (λ _. early ≡ v) [
         | inl same ↦
             let waits : NobodyAsks worked (name_meant bob_approves) =
             subst (λ (w : VerdictFields). NobodyAsks worked (name_meant w)) (sym (one_verdict bob_approves v same)) is.waits in
-            absurd (waits asked (Contains-head (Request asked) (Verdict bob_approves ∷ Verdict early ∷ [])) (refl, refl))
+            absurd (waits ann_asks_ls (Contains-head (Request ann_asks_ls) (Verdict bob_approves ∷ Verdict early ∷ [])) (refl, refl))
         | inr last ↦ elim (Contains-cases (Verdict early) [] (Verdict v) last) as (λ _. early ≡ v) [
           | inl same ↦ one_verdict early v same
           | inr none ↦ absurd (no_member (Verdict v) none)
@@ -161,5 +161,5 @@ parked = record {
   where
     there : Contains worked (Verdict early)
     there =
-        Contains-behind (Request asked) (Verdict bob_approves ∷ Verdict early ∷ []) (Verdict early)
+        Contains-behind (Request ann_asks_ls) (Verdict bob_approves ∷ Verdict early ∷ []) (Verdict early)
         (Contains-behind (Verdict bob_approves) (Verdict early ∷ []) (Verdict early) (Contains-head (Verdict early) []))

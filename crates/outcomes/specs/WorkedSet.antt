@@ -14,8 +14,8 @@ use Rattle.grants.specs.GrantRules.{plain_rule}
 use Rattle.outcomes.specs.Outcomes.{LiveGrant}
 
 -- ann asks for `/bin/ls` on `db1` as root, from nine to eleven of 5 January 2026
-abbrev pub asked : RequestFields
-asked = ann_asks_for (ls ∷ [])
+abbrev pub ann_asks_ls : RequestFields
+ann_asks_ls = ann_asks_for (ls ∷ [])
 
 -- bob approves what carol has not asked for
 abbrev pub early : VerdictFields
@@ -23,12 +23,12 @@ early = record bob_approves { no = 8; of = codes "carol" }
 
 -- ann's request, bob's approval of it, and that one
 abbrev pub worked : List Message
-worked = Request asked ∷ Verdict bob_approves ∷ Verdict early ∷ []
+worked = Request ann_asks_ls ∷ Verdict bob_approves ∷ Verdict early ∷ []
 
 -- ann's grant
 abbrev pub grant : LiveGrant
 grant = record {
-  name = name_of asked;
+  name = name_of ann_asks_ls;
   ceiling = codes "db-root";
   window = record { start = 1_767_603_600; end = 1_767_610_800 };
 }

@@ -9,7 +9,7 @@ use Rattle.sudo_words.specs.declared.cmnd.Cmnd.{Cmnd}
 use Rattle.sudo_policy.specs.Printing.{canon}
 use Rattle.sudo_policy.specs.declared.entry.Entry.{Entry}
 use Rattle.messages.specs.declared.message.Message.{Message}
-use Rattle.roster.specs.Fields.{Reading, RosterFields}
+use Rattle.roster.specs.Fields.{RosterFields}
 use Rattle.roster.specs.Rules.{is_among}
 use Rattle.grants.specs.declared.denial.Denial.TheVariants as denials
 use Rattle.outcomes.specs.HostFile.{Line, AreLines, IsHostFile, IsHostFileAfter, lines_after, with_lines}
@@ -27,7 +27,7 @@ use Rattle.relay_http.specs.Request.{Action, deliver}
 use Rattle.relay_http.specs.Lasting.{IsAddedBy, Lasts}
 use Rattle.relay_http.specs.Prepared.{to_question}
 use Rattle.relay_http.specs.declared.status.ResponseStatus.TheVariants as status
-use Rattle.relay_http.specs.Responses.{IsFileResponse, IsResponse, IsServerFailure, Response, done, is_known_host, refusal, to_delivery}
+use Rattle.relay_http.specs.Responses.{IsFileResponse, IsServerFailure, Response, done, is_known_host, refusal, to_delivery}
 
 -- the two wants of a refusal, as responses
 server_failure : (e : Refusal) → IsWant e → IsServerFailure (refusal e)

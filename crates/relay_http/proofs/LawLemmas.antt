@@ -8,7 +8,7 @@ use Rattle.matchit.specs.Router.{RouteOf}
 use Rattle.matchit.specs.Seek.{first}
 use Rattle.relay_http.specs.Request.{Action, Request, deliver, all_messages, count, grants, parked, host_file, host_file_after, report, refused}
 use Rattle.relay_http.specs.Request.{requests, requests_after, named_request}
-use Rattle.relay_http.specs.Content.{by_lengths, content, content_of, is_length, most_content, sized}
+use Rattle.relay_http.specs.Content.{by_lengths, content, content_by_fields, is_length, most_content, sized}
 use Rattle.relay_http.specs.Fields.{Fields, values, is_bad_host}
 use Rattle.relay_http.specs.Routes.{routes, part}
 use Rattle.relay_http.specs.Target.{is_plain}
@@ -163,7 +163,7 @@ module _ (method target rest : List ℕ) (fields : Fields) where
   messages_at : (route : RouteOf Route) (named : List ℕ → List ℕ) (value : Route) → route.value ≡ value
       → (b : Bool) → IsOfMessages (Some route) (cond b (sought value named fields rest) (refused (BadMethod (methods_of value))))
   messages_at route named value is false = tt
-  messages_at route named Messages is true = messages_delivered route (named (codes "relay")) is (content_of fields rest)
+  messages_at route named Messages is true = messages_delivered route (named (codes "relay")) is (content_by_fields fields rest)
   messages_at route named AllMessages is true = tt
   messages_at route named Count is true = tt
   messages_at route named Requests is true = tt

@@ -1,5 +1,5 @@
 -- The number of a request, read from its text.
-use Rattle.std.proofs.Common.{◌≡◌, ◌≤◌, ◌<◌, ℕ, List, [], ◌∷◌, true, length, arith, sym, ap, ◌∙◌, subst, Some, None, Option, cond, refl, decimal, codes}
+use Rattle.std.proofs.Common.{◌≡◌, ◌≤◌, ◌<◌, ℕ, List, [], ◌∷◌, true, length, arith, sym, ap, ◌∙◌, Some, None, Option, cond, refl, decimal, codes}
 use Rattle.std.specs.List.{list_all}
 use Rattle.std.specs.Char.{is_ascii_digit}
 use Rattle.std.specs.Str.Parse.{AllDigits, digits_value}

@@ -1,5 +1,6 @@
 -- What is asked has at most one response.
 use Rattle.std.proofs.Common.{◌≡◌, ◌∙◌, ℕ, true, false, List, [], ◌∷◌, ◌++◌, map, sym, ap, inl, inr, arith}
+use Rattle.sudo_words.specs.Bytes.{newline}
 use Rattle.sudo_words.specs.declared.cmnd.Cmnd.{Cmnd}
 use Rattle.sudo_policy.specs.Printing.{canon}
 use Rattle.sudo_policy.specs.declared.entry.Entry.{Entry}
@@ -18,7 +19,7 @@ use Rattle.desk_audit.proofs.OneText.{one_audit_text, one_name_text}
 use Rattle.relay_http.specs.Request.{Action, deliver, all_messages, count, grants, parked, host_file, host_file_after, report, refused}
 use Rattle.relay_http.specs.Request.{requests, requests_after, named_request}
 use Rattle.relay_http.specs.Responses.{IsFileResponse, IsResponse, Response, count_line, delivery, done, is_known_host, each_on_a_line}
-use Rattle.relay_http.specs.Responses.{live_line, newline, to_delivery}
+use Rattle.relay_http.specs.Responses.{live_grant_line, to_delivery}
 
 -- a host is known, or it is not
 one_known : (f : RosterFields Cmnd) (host : List ℕ) → is_known_host f host ≡ false → is_known_host f host ≡ true → ⊥
@@ -51,7 +52,7 @@ one_response r base set (requests_after at) a b x y = x.2 ∙ ap done (one_audit
 one_response r base set (named_request asker number) a b x y =
     x.2 ∙ ap done (one_name_text r.says set (record { by = asker; no = number }) x.0 y.0 x.1 y.1) ∙ sym y.2
 one_response r base set (grants at) a b x y =
-    x.2 ∙ ap (λ (list : List LiveGrant). done (each_on_a_line (map live_line list))) (one_live r.says set at x.0 y.0 x.1 y.1) ∙ sym y.2
+    x.2 ∙ ap (λ (list : List LiveGrant). done (each_on_a_line (map live_grant_line list))) (one_live r.says set at x.0 y.0 x.1 y.1) ∙ sym y.2
 one_response r base set parked a b x y = x.2 ∙ ap (λ (texts : List (List ℕ)). done (each_on_a_line texts)) (one_parked set x.0 y.0 x.1 y.1) ∙ sym y.2
 one_response r base set (host_file host) a b x y = one_file_response (λ lines. lines) r.says base set host a b x y
 one_response r base set (host_file_after host at) a b x y = one_file_response (lines_after at) r.says base set host a b x y

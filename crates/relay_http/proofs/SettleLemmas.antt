@@ -10,7 +10,7 @@ use Rattle.httparse.proofs.GrammarLemmas.{ReadsRequest-append}
 use Rattle.matchit.specs.Router.{RouteOf}
 use Rattle.matchit.specs.Seek.{first}
 use Rattle.relay_http.specs.Request.{Action, Request, refused}
-use Rattle.relay_http.specs.Content.{by_lengths, content, content_of, is_length, most_content, sized}
+use Rattle.relay_http.specs.Content.{by_lengths, content, content_by_fields, is_length, most_content, sized}
 use Rattle.relay_http.specs.Fields.{Fields, values, is_bad_host}
 use Rattle.relay_http.specs.Routes.{routes, part}
 use Rattle.relay_http.specs.Settled.{is_short, lacks_content}
@@ -67,7 +67,7 @@ module _ (rest more : List ℕ) where
       → sought route named fields (rest ++ more) ≡ sought route named fields rest
   sought_more Messages named fields h =
       ap (λ (r : Result (List ℕ) RequestFault). delivered (named (codes "relay")) r) (content_more (values (codes "transfer-encoding") fields)
-      (values (codes "content-length") fields) (enough_content (named (codes "relay")) (content_of fields rest) h))
+      (values (codes "content-length") fields) (enough_content (named (codes "relay")) (content_by_fields fields rest) h))
   sought_more AllMessages named fields h = refl
   sought_more Count named fields h = refl
   sought_more Requests named fields h = refl

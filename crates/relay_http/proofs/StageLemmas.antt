@@ -15,7 +15,7 @@ use Rattle.matchit.specs.Router.{RouteOf}
 use Rattle.matchit.specs.Seek.{first}
 use Rattle.relay_http.specs.Request.{Action, Request, deliver, all_messages, count, grants, parked, host_file, host_file_after, report, refused}
 use Rattle.relay_http.specs.Request.{requests, requests_after, named_request}
-use Rattle.relay_http.specs.Content.{content, content_of, by_lengths, is_length, most_content, sized}
+use Rattle.relay_http.specs.Content.{content, content_by_fields, by_lengths, is_length, most_content, sized}
 use Rattle.relay_http.specs.Fields.{Fields, values, is_bad_host}
 use Rattle.relay_http.specs.Needs.{HasNoHead, IsSettled, LacksContent}
 use Rattle.relay_http.specs.Routes.{routes, part}
@@ -54,7 +54,7 @@ content_cut : (cs vs : List (List ℕ)) (rest : List ℕ) → content cs vs rest
 content_cut [] vs rest = sized_by vs rest
 content_cut (c ∷ cs) vs rest = refl
 
-pub content_is : (fields : Fields) (rest : List ℕ) → content_of fields rest ≡ cut (size_of fields) rest
+pub content_is : (fields : Fields) (rest : List ℕ) → content_by_fields fields rest ≡ cut (size_of fields) rest
 content_is fields rest = content_cut (values (codes "transfer-encoding") fields) (values (codes "content-length") fields) rest
 
 -- ---- bytes that follow a head

@@ -39,6 +39,6 @@ content [] lengths rest = by_lengths lengths rest
 content (coding ∷ codings) lengths rest = Err BadLength
 
 -- the content, by the fields of the head
-abbrev pub content_of : Fields → List ℕ → Result (List ℕ) RequestFault
-content_of fields rest = content (values (codes "transfer-encoding") fields)
+abbrev pub content_by_fields : Fields → List ℕ → Result (List ℕ) RequestFault
+content_by_fields fields rest = content (values (codes "transfer-encoding") fields)
     (values (codes "content-length") fields) rest

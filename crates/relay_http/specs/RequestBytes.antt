@@ -13,7 +13,7 @@ use Rattle.relay_http.specs.Request.{Action, Request, deliver, all_messages, cou
 use Rattle.relay_http.specs.Request.{parked, host_file, host_file_after, report, refused}
 use Rattle.relay_http.specs.Request.{requests, requests_after, named_request}
 use Rattle.relay_http.specs.Fields.{Fields, values, is_bad_host}
-use Rattle.relay_http.specs.Content.{content_of}
+use Rattle.relay_http.specs.Content.{content_by_fields}
 use Rattle.relay_http.specs.Target.{is_plain}
 use Rattle.relay_http.specs.Routes.{routes, part}
 use Rattle.relay_http.specs.declared.fault.RequestFault.{RequestFault}
@@ -64,7 +64,7 @@ delivered relay (Err fault) = refused fault
 -- what is sought at a route, where its parameter of a name took this part of the target
 abbrev pub sought : Route → (List ℕ → List ℕ) → Fields → (rest : List ℕ) → Action (List ℕ)
 sought Messages part_named fields rest =
-    delivered (part_named (codes "relay")) (content_of fields rest)
+    delivered (part_named (codes "relay")) (content_by_fields fields rest)
 sought AllMessages part_named fields rest = all_messages
 sought Count part_named fields rest = count
 sought Requests part_named fields rest = requests

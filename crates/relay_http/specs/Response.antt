@@ -67,16 +67,16 @@ abbrev pub written : ResponseStatus → List ℕ → (with_body : Bool) → List
 written s body with_body = response_head s (length body) ++ (if with_body then body else [])
 
 -- the code and name of a fault
-abbrev pub fault_text : RequestFault → List ℕ
-fault_text BadHead = codes "T1 BadHead"
-fault_text BadTarget = codes "T2 BadTarget"
-fault_text NoRoute = codes "T3 NoRoute"
-fault_text (BadMethod methods) = codes "T4 BadMethod"
-fault_text LengthRequired = codes "T5 LengthRequired"
-fault_text BadLength = codes "T6 BadLength"
-fault_text ShortBody = codes "T7 ShortBody"
-fault_text BadMoment = codes "T8 BadMoment"
-fault_text TooLong = codes "M1 TooLong"
+abbrev pub request_fault_text : RequestFault → List ℕ
+request_fault_text BadHead = codes "T1 BadHead"
+request_fault_text BadTarget = codes "T2 BadTarget"
+request_fault_text NoRoute = codes "T3 NoRoute"
+request_fault_text (BadMethod methods) = codes "T4 BadMethod"
+request_fault_text LengthRequired = codes "T5 LengthRequired"
+request_fault_text BadLength = codes "T6 BadLength"
+request_fault_text ShortBody = codes "T7 ShortBody"
+request_fault_text BadMoment = codes "T8 BadMoment"
+request_fault_text TooLong = codes "M1 TooLong"
 
 -- the status of a fault
 abbrev pub status_of : RequestFault → ResponseStatus
@@ -92,4 +92,4 @@ status_of TooLong = status.ContentTooLarge
 
 -- the body of a refusal is its line
 abbrev pub fault_line : RequestFault → List ℕ
-fault_line fault = fault_text fault ++ 10 ∷ []
+fault_line fault = request_fault_text fault ++ 10 ∷ []

@@ -6,12 +6,11 @@ use Rattle.std.specs.Prelude.{length, map}
 use Rattle.hex.specs.Hex.{encode_lower}
 use Rattle.sha2.specs.Sha256.{sha256}
 use Rattle.sudo_words.specs.Word.{is_host_name}
-use Rattle.sudo_words.specs.Moment.{stamp}
+use Rattle.sudo_words.specs.Bytes.{newline, space}
 use Rattle.sudo_words.specs.declared.cmnd.Cmnd.{Cmnd}
 use Rattle.sudo_policy.specs.Printing.{canon}
 use Rattle.sudo_policy.specs.declared.entry.Entry.{Entry}
-use Rattle.messages.specs.declared.request_name.RequestName.{RequestName}
-use Rattle.messages.specs.Wire.{IsMessage, wire}
+use Rattle.messages.specs.Wire.{IsMessage, moment_text, wire}
 use Rattle.messages.specs.declared.message.Message.{Message}
 use Rattle.roster.specs.Fields.{Reading, RosterFields}
 use Rattle.roster.specs.Rules.{is_among}
@@ -34,6 +33,7 @@ use Rattle.desk.specs.declared.refusal.Refusal.TheVariants.{NotADesk, OldSchema,
 use Rattle.desk.specs.declared.refusal.Refusal.TheVariants.{NoMemory, BaseTooLarge}
 use Rattle.review.specs.Report.{IsReport}
 use Rattle.findings.specs.Picks.{all, after}
+use Rattle.findings.specs.Terminal.{name_text}
 use Rattle.desk_audit.specs.Documents.{IsAuditText, IsNameText}
 use Rattle.relay_http.specs.Request.{Action, deliver, all_messages, count, grants, parked}
 use Rattle.relay_http.specs.Request.{host_file, host_file_after, report, refused}
@@ -49,32 +49,18 @@ pub record Response : Type 0 where
 
 -- ---- bodies
 
-abbrev pub newline : ℕ
-newline = 10
-
-abbrev pub space : ℕ
-space = 32
-
 -- each text on a line of its own
 abbrev pub each_on_a_line : List (List ℕ) → List ℕ
 each_on_a_line [] = []
 each_on_a_line (text ∷ more) = text ++ newline ∷ [] ++ each_on_a_line more
 
--- a moment's canonical text
-unfoldable pub moment_text : ℕ → List ℕ
-moment_text t = stamp t
-
--- who asked, and the number
-unfoldable pub name_text : RequestName → List ℕ
-name_text name = name.by ++ space ∷ [] ++ decimal name.no
-
 -- the first and the last moment, each after a space
-unfoldable pub window_text : Window → List ℕ
-window_text w = space ∷ [] ++ moment_text w.start ++ space ∷ [] ++ moment_text w.end
+unfoldable pub window_ends_text : Window → List ℕ
+window_ends_text w = space ∷ [] ++ moment_text w.start ++ space ∷ [] ++ moment_text w.end
 
 -- a grant in force: its request's name, its ceiling, and its window
-unfoldable pub live_line : LiveGrant → List ℕ
-live_line l = name_text l.name ++ space ∷ [] ++ l.ceiling ++ window_text l.window
+unfoldable pub live_grant_line : LiveGrant → List ℕ
+live_grant_line l = name_text l.name ++ space ∷ [] ++ l.ceiling ++ window_ends_text l.window
 
 -- the SHA-256 digest of a text (FIPS 180-4), as 64 hex digits in lower case
 unfoldable pub digest_text : List ℕ → List ℕ
@@ -155,7 +141,7 @@ IsResponse r base set (requests_after at) response =
 IsResponse r base set (named_request asker number) response = (text : List ℕ)
     × IsNameText r.says set (record { by = asker; no = number }) text × (response ≡ done text)
 IsResponse r base set (grants at) response = (list : List LiveGrant)
-    × AreLive r.says set at list × (response ≡ done (each_on_a_line (map live_line list)))
+    × AreLive r.says set at list × (response ≡ done (each_on_a_line (map live_grant_line list)))
 IsResponse r base set parked response =
     (texts : List (List ℕ)) × AreParked set texts × (response ≡ done (each_on_a_line texts))
 IsResponse r base set (host_file host) response =

@@ -1,9 +1,11 @@
 //! The bodies of responses to questions.
 
 ghost use Rattle.std.specs.Prelude.{◌≡◌, ◌++◌, ◌∷◌, [], IfOk, OnOk, map, string_bytes};
+ghost use Rattle.sudo_words.specs.Bytes.{newline};
+ghost use Rattle.messages.specs.Wire.{moment_text};
+ghost use Rattle.findings.specs.Terminal.{name_text};
 ghost use Rattle.relay_http.specs.Responses.{count_line, digest_text};
-ghost use Rattle.relay_http.specs.Responses.{each_on_a_line, live_line, moment_text};
-ghost use Rattle.relay_http.specs.Responses.{name_text, newline, window_text};
+ghost use Rattle.relay_http.specs.Responses.{each_on_a_line, window_ends_text, live_grant_line};
 
 use desk::{Live, RequestName};
 use grants::Window;
@@ -13,7 +15,7 @@ use std::fmt::Write;
 use sudo_policy::{Policy, print_policy};
 use sudo_words::{Moment, NoMemory};
 
-#[tactic(auto, unfolding(crate::specs::Responses::moment_text))]
+#[tactic(auto, unfolding(messages::specs::Wire::moment_text))]
 fn push_stamp(out: &mut String, moment: Moment) -> Result<(), AllocError>
     ensures { OnOk result (string_bytes out.new ≡ string_bytes out.old ++ moment_text moment) }
 {
@@ -21,9 +23,9 @@ fn push_stamp(out: &mut String, moment: Moment) -> Result<(), AllocError>
 }
 
 /// Appends the window of a grant's line: its first and its last moment.
-#[tactic(auto, unfolding(crate::specs::Responses::window_text))]
+#[tactic(auto, unfolding(crate::specs::Responses::window_ends_text))]
 fn push_window(out: &mut String, window: Window) -> Result<(), AllocError>
-    ensures { OnOk result (string_bytes out.new ≡ string_bytes out.old ++ window_text window) }
+    ensures { OnOk result (string_bytes out.new ≡ string_bytes out.old ++ window_ends_text window) }
 {
     out.push_str(" ")?;
     push_stamp(out, window.start)?;
@@ -32,7 +34,6 @@ fn push_window(out: &mut String, window: Window) -> Result<(), AllocError>
 }
 
 /// Appends the name of a grant's request.
-#[tactic(auto, unfolding(crate::specs::Responses::name_text))]
 fn push_name(out: &mut String, name: &RequestName) -> Result<(), AllocError>
     ensures { OnOk result (string_bytes out.new ≡ string_bytes out.old ++ name_text name.now) }
 {
@@ -42,10 +43,10 @@ fn push_name(out: &mut String, name: &RequestName) -> Result<(), AllocError>
 }
 
 /// Appends the line of a grant in force.
-#[tactic(auto, unfolding(crate::specs::Responses::live_line))]
+#[tactic(auto, unfolding(crate::specs::Responses::live_grant_line))]
 fn push_live(out: &mut String, live: &Live) -> Result<(), AllocError>
     ensures { OnOk result
-        (string_bytes out.new ≡ string_bytes out.old ++ live_line live.now ++ newline ∷ []) }
+        (string_bytes out.new ≡ string_bytes out.old ++ live_grant_line live.now ++ newline ∷ []) }
 {
     push_name(out, &live.name)?;
     out.push_str(" ")?;
@@ -56,7 +57,7 @@ fn push_live(out: &mut String, live: &Live) -> Result<(), AllocError>
 
 /// A line for each grant in force.
 pub fn live_text(alloc: Global, list: &[Live]) -> Result<String, AllocError>
-    ensures { IfOk result (λ s. string_bytes s ≡ each_on_a_line (map live_line list.now)) }
+    ensures { IfOk result (λ s. string_bytes s ≡ each_on_a_line (map live_grant_line list.now)) }
 {
     let mut out = String::new(alloc);
     for live in list {

@@ -33,9 +33,9 @@ pub enum RequestFault {
 
 impl fmt::Display for RequestFault {
     ghost use Rattle.std.specs.Prelude.{Some};
-    ghost use Rattle.relay_http.specs.Response.{fault_text};
+    ghost use Rattle.relay_http.specs.Response.{request_fault_text};
 
-    ghost output = { λ f. Some (fault_text f) };
+    ghost output = { λ f. Some (request_fault_text f) };
 
     fn fmt<W: fmt::Write>(&self, f: &mut fmt::Formatter<W>) -> fmt::Result {
         let line = self.text();

@@ -12,8 +12,9 @@ use Rattle.review.specs.Barred.{barred_for, reason}
 use Rattle.review.specs.Columns.{lines_text}
 use Rattle.review.specs.Report.{conflicts_of, live_line, report_lines}
 
-abbrev pub held : Window
-held = record { start = 33_000; end = 39_600 }
+-- when ann's grant is in force
+abbrev pub ann_window : Window
+ann_window = record { start = 33_000; end = 39_600 }
 
 -- the team's pair of conflicting duties, the lesser first
 abbrev pub lesser_first_pairs : List (List ℕ × List ℕ)
@@ -22,7 +23,7 @@ lesser_first_pairs = (codes "approve", codes "audit") ∷ []
 -- the grant's line, carol's for her approval at eight, when she may not approve, and her duties'
 abbrev pub team_text : List ℕ
 team_text =
-    lines_text (report_lines 34_200 (live_line asked held Needed ∷ [])
+    lines_text (report_lines 34_200 (live_line asked ann_window Needed ∷ [])
     (barred_for asked (codes "carol") (reason team by_two (codes "ann") (codes "carol") 28_800))
     (flat_map (conflicts_of team 34_200 lesser_first_pairs) team.people) [] [])
 

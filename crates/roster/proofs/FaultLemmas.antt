@@ -6,7 +6,7 @@ use Rattle.sudo_words.specs.declared.cmnd.Cmnd.{Cmnd}
 use Rattle.toml.specs.Data.{Members}
 use Rattle.toml.specs.Parse.{parse_document}
 use Rattle.roster.specs.Document.{has_known_keys, fields_of}
-use Rattle.roster.specs.Faults.{Has, IsLeastFault, IsRosterText, Says, number}
+use Rattle.roster.specs.Faults.{Has, IsLeastFault, IsRosterText, TextSays, number}
 use Rattle.roster.specs.Fields.{RosterFields, in_texts}
 use Rattle.roster.specs.Rules.{IsCmndText, GoodNames, are_known, has_self_conflict, in_range}
 use Rattle.roster.specs.private.Stages.{IsDraftOf}
@@ -19,7 +19,7 @@ one_document : (text : List ℕ) (d e : Members) → parse_document text ≡ Som
 one_document text d e a b = same_Some d e (sym a ∙ b)
 
 -- what a roster's text says is the roster in texts
-says_in_texts : (text : List ℕ) (f : RosterFields Cmnd) (t : RosterFields (List ℕ)) → IsRosterText text f → Says text t → t ≡ in_texts f
+says_in_texts : (text : List ℕ) (f : RosterFields Cmnd) (t : RosterFields (List ℕ)) → IsRosterText text f → TextSays text t → t ≡ in_texts f
 says_in_texts text f t r s =
     same_Some t (in_texts f) (sym s.2 ∙ ap fields_of (one_document text s.0 r.document s.1 r.toml) ∙ r.types)
 
@@ -69,7 +69,7 @@ one_fault text d e a b =
     sym (at_its_number d) ∙ ap fault_at same ∙ at_its_number e
 
 -- what the draft of a text says is all that it says
-one_saying : (text : List ℕ) (t u : RosterFields (List ℕ)) → IsDraftOf text t → Says text u → t ≡ u
+one_saying : (text : List ℕ) (t u : RosterFields (List ℕ)) → IsDraftOf text t → TextSays text u → t ≡ u
 one_saying text t u d s = same_Some t u (sym d.types ∙ ap fields_of (one_document text d.document s.0 d.toml s.1) ∙ s.2)
 
 -- the first fault has no lower one

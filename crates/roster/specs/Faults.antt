@@ -24,8 +24,8 @@ pub record IsRosterText (text : List ℕ) (f : RosterFields Cmnd) : Type 0 where
   pub range : in_range text f ≡ true
 
 -- Each value of the text has its type, and the values say this.
-abbrev pub Says : List ℕ → RosterFields (List ℕ) → Type 0
-Says text t =
+abbrev pub TextSays : List ℕ → RosterFields (List ℕ) → Type 0
+TextSays text t =
     (document : Members) × (parse_document text ≡ Some document) × (fields_of document ≡ Some t)
 
 -- The text has the fault. Only a text whose values have their types can have a fault in what it
@@ -36,10 +36,10 @@ Has text UnknownKey =
     (document : Members) × (parse_document text ≡ Some document) × (has_known_keys document ≡ false)
 Has text WrongType =
     (document : Members) × (parse_document text ≡ Some document) × (fields_of document ≡ None)
-Has text BadName = (t : RosterFields (List ℕ)) × Says text t × ¬ GoodNames IsCmndText t
-Has text UnknownName = (t : RosterFields (List ℕ)) × Says text t × (are_known t ≡ false)
-Has text SelfConflict = (t : RosterFields (List ℕ)) × Says text t × (has_self_conflict t ≡ true)
-Has text OutOfRange = (t : RosterFields (List ℕ)) × Says text t × (in_range text t ≡ false)
+Has text BadName = (t : RosterFields (List ℕ)) × TextSays text t × ¬ GoodNames IsCmndText t
+Has text UnknownName = (t : RosterFields (List ℕ)) × TextSays text t × (are_known t ≡ false)
+Has text SelfConflict = (t : RosterFields (List ℕ)) × TextSays text t × (has_self_conflict t ≡ true)
+Has text OutOfRange = (t : RosterFields (List ℕ)) × TextSays text t × (in_range text t ≡ false)
 Has text NoMemory = ⊥
 
 -- the number in a fault's code

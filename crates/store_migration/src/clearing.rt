@@ -1,9 +1,8 @@
 //! Emptying the tables of an older desk.
 
-ghost use Rattle.std.specs.Prelude.{◌≡◌, OnOk};
+ghost use Rattle.std.specs.Prelude.{OnOk};
 ghost use Rattle.sqlite.specs.Held.{state};
-ghost use Rattle.store_tables.specs.Steps.{InStep};
-ghost use Rattle.store_tables.specs.Steps.{IsStep};
+ghost use Rattle.store_tables.specs.Steps.{InStep, TakesStep};
 ghost use Rattle.store_migration.specs.private.Clearing.{Cleared};
 ghost use Rattle.store_migration.specs.private.Moving.{Emptied};
 
@@ -15,10 +14,9 @@ use store_tables::Fault;
 /// Empties the table. A DELETE leaves a row whose rowid is not a whole number: if one is left, the
 /// answer is `Fault::Stray`.
 fn clear<S: Alter>(tx: &mut Transaction<'_, S>, part: DeskPart) -> Result<(), Fault>
-    ensures same_reference { tx.new.conn.ghost_name ≡ tx.old.conn.ghost_name }
     ensures cleared { InStep (state S.Store tx.old.conn.now)
         (state S.Store tx.new.conn.now) (λ a b. OnOk result (Cleared part a b)) }
-    ensures step { IsStep (state S.Store tx.old.conn.now) (state S.Store tx.new.conn.now) }
+    ensures step { TakesStep S.Store tx.old tx.new }
 {
     delete(tx, part)?;
     let rows = rows_left(tx, part)?;
@@ -31,10 +29,9 @@ fn clear<S: Alter>(tx: &mut Transaction<'_, S>, part: DeskPart) -> Result<(), Fa
 
 /// Empties the tables of an older desk, except its messages.
 pub(crate) fn clear_all<S: Alter>(tx: &mut Transaction<'_, S>) -> Result<(), Fault>
-    ensures same_reference { tx.new.conn.ghost_name ≡ tx.old.conn.ghost_name }
     ensures emptied { InStep (state S.Store tx.old.conn.now)
         (state S.Store tx.new.conn.now) (λ a b. OnOk result (Emptied a b)) }
-    ensures step { IsStep (state S.Store tx.old.conn.now) (state S.Store tx.new.conn.now) }
+    ensures step { TakesStep S.Store tx.old tx.new }
 {
     clear(tx, DeskPart::Names)?;
     clear(tx, DeskPart::Parked)?;

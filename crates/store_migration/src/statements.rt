@@ -2,8 +2,7 @@
 
 ghost use Rattle.std.specs.Prelude.{◌≡◌, IfOk, OnOk};
 ghost use Rattle.sqlite.specs.Held.{state};
-ghost use Rattle.store_tables.specs.Steps.{InStep};
-ghost use Rattle.store_tables.specs.Steps.{IsStep};
+ghost use Rattle.store_tables.specs.Steps.{InStep, TakesStep};
 ghost use Rattle.store_migration.specs.private.Clearing.{Deleted, Left, delete_of};
 
 use sqlite::{Alter, Error, Row, Transaction};
@@ -26,10 +25,9 @@ fn delete_of(part: DeskPart) -> &'static str
 
 /// Deletes the rows of the table.
 pub(crate) fn delete<S: Alter>(tx: &mut Transaction<'_, S>, part: DeskPart) -> Result<usize, Error>
-    ensures same_reference { tx.new.conn.ghost_name ≡ tx.old.conn.ghost_name }
     ensures deleted { InStep (state S.Store tx.old.conn.now)
         (state S.Store tx.new.conn.now) (λ a b. OnOk result (Deleted part a b)) }
-    ensures step { IsStep (state S.Store tx.old.conn.now) (state S.Store tx.new.conn.now) }
+    ensures step { TakesStep S.Store tx.old tx.new }
 {
     tx.execute(delete_of(part), &[])
 }
@@ -39,10 +37,9 @@ pub(crate) fn rows_left<S: Alter>(
     tx: &mut Transaction<'_, S>,
     part: DeskPart,
 ) -> Result<Vec<Row>, Error>
-    ensures same_reference { tx.new.conn.ghost_name ≡ tx.old.conn.ghost_name }
     ensures left { InStep (state S.Store tx.old.conn.now) (state S.Store tx.new.conn.now)
         (λ a b. IfOk result (λ rows. Left part rows.items a b)) }
-    ensures step { IsStep (state S.Store tx.old.conn.now) (state S.Store tx.new.conn.now) }
+    ensures step { TakesStep S.Store tx.old tx.new }
 {
     tx.query_all(select_of(part), &[])
 }

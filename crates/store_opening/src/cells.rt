@@ -12,7 +12,7 @@ ghost use Rattle.messages.specs.declared.message.Message.{Message as AnyMessage}
 ghost use Rattle.store_opening.specs.private.Reading.{IsKeepable, body};
 ghost use Rattle.store_opening.specs.private.Showing.{IsNoStray};
 
-use crate::compare::{is_number, is_text, word_of};
+use crate::compare::is_number;
 use crate::reading::text_at;
 use messages::{Message, MessageFault, MessageReader, VerdictKind};
 use sqlite::Row;
@@ -70,16 +70,10 @@ pub(crate) fn moment_at(row: &Row, at: usize) -> Result<Moment, Fault>
 pub(crate) fn kind_at(row: &Row, at: usize) -> Result<VerdictKind, Fault>
     ensures { (kind : AnyKind) → column row.now at ≡ Text (kind_text kind) → result ≡ Ok kind }
 {
-    if is_text(row, at, word_of(VerdictKind::Approve)) {
-        return Ok(VerdictKind::Approve);
-    }
-    if is_text(row, at, word_of(VerdictKind::Refuse)) {
-        return Ok(VerdictKind::Refuse);
-    }
-    if is_text(row, at, word_of(VerdictKind::Revoke)) {
-        return Ok(VerdictKind::Revoke);
-    }
-    Err(Fault::Stray)
+    let Ok(ValueRef::Text(bytes)) = row.get_ref(at) else {
+        return Err(Fault::Stray);
+    };
+    VerdictKind::of_word(bytes).ok_or(Fault::Stray)
 }
 
 /// Whether the column says yes, by a 1, or no, by a 0.

@@ -4,11 +4,10 @@ ghost use Rattle.std.specs.Prelude.{◌≡◌, if◌then◌else◌};
 ghost use Rattle.sqlite_value.specs.Value.{owned};
 ghost use Rattle.std.specs.List.{list_all, list_any};
 ghost use Rattle.sqlite.specs.Order.{column};
-ghost use Rattle.messages.specs.Wire.{kind_text};
 ghost use Rattle.store_opening.specs.private.Compare as compare;
 
 use crate::stored::Stored;
-use messages::{Message, Verdict, VerdictKind};
+use messages::{Message, Verdict};
 use sqlite::Row;
 use sqlite_value::value::ValueRef;
 
@@ -92,17 +91,6 @@ pub(crate) fn is_of_name(row: &Row, asker: &str, number: u32) -> bool
     is_text(row, 1, asker) && is_number(row, 2, number)
 }
 
-/// The word for a kind of verdict.
-pub(crate) fn word_of(kind: VerdictKind) -> &'static str
-    ensures { result.now ≡ kind_text kind }
-{
-    match kind {
-        VerdictKind::Approve => "approve",
-        VerdictKind::Refuse => "refuse",
-        VerdictKind::Revoke => "revoke",
-    }
-}
-
 /// It is a request of the name.
 fn is_named(stored: &Stored, asker: &str, number: u32) -> bool
     ensures { result ≡ compare.is_named asker.now number stored.now }
@@ -175,7 +163,7 @@ fn is_verdict(row: &Row, verdict: &Verdict) -> bool
         && is_text(row, 1, verdict.of().as_str())
         && is_number(row, 2, verdict.no())
         && is_text(row, 3, verdict.by().as_str())
-        && is_text(row, 4, word_of(verdict.kind()))
+        && is_text(row, 4, verdict.kind().word())
         && is_number(row, 5, verdict.at().secs() as u32)
 }
 

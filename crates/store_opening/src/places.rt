@@ -4,7 +4,6 @@ ghost use Rattle.std.specs.Prelude.{◌≡◌, pos};
 ghost use Rattle.sqlite.specs.Order.{column};
 ghost use Rattle.store_opening.specs.private.Names.{number_in, text_in};
 
-use crate::compare::word_of;
 use crate::names::NameKey;
 use crate::stored::Stored;
 use messages::{Message, Verdict};
@@ -67,7 +66,7 @@ fn key_of_verdict(verdict: &Verdict) -> VerdictKey<'_> {
     VerdictKey {
         name: name_key(verdict.of().as_str(), verdict.no()),
         by: verdict.by().as_str().as_bytes(),
-        kind: word_of(verdict.kind()).as_bytes(),
+        kind: verdict.kind().word().as_bytes(),
         at: i64::from(verdict.at().secs() as u32),
     }
 }

@@ -3,7 +3,7 @@ use Rattle.std.proofs.Common.{arith, ne_eqb, suc, None, true, false, pos, ◌≡
 use Rattle.std.proofs.Common.{[], ◌∷◌, ◌-◌, ℕ, Ok, Bool, not, codes, refl, map, length, sym, ap, subst, ◌∙◌, inl}
 use Rattle.std.specs.List.{list_all, list_any}
 use Rattle.sqlite.specs.declared.types.Value.TheVariants.{Null, Int, Text}
-use Rattle.sqlite.specs.Order.{Row, column}
+use Rattle.sqlite.specs.Order.{Row}
 use Rattle.sqlite.specs.Term.{Env, lit, col, op2, holds}
 use Rattle.sqlite.specs.Query.{Query, IsAnswer, Output, output, inner, end}
 use Rattle.sqlite.specs.Program.{overlay}

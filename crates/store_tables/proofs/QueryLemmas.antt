@@ -7,9 +7,11 @@ use Rattle.sqlite.specs.Listing.{understood}
 use Rattle.sqlite.specs.Clock.{timed}
 use Rattle.sqlite.specs.declared.error.Error.{Error}
 use Rattle.sqlite.specs.State.{State, IsUnchanged, IsRolledBack, IsTooLate, KeepsCommit, Shown, ShowsRows, FailsToQuery, FailsToShow, IsNotRun}
+use Rattle.sqlite.specs.State.{HasCleanDisk, Survives}
 use Rattle.sqlite.proofs.Callers.{IsPlain}
 use Rattle.store_tables.specs.Stored.{tree_of}
 use Rattle.store_tables.specs.Kept.{IsTidy}
+use Rattle.store_tables.specs.Steps.{IsStep}
 use Rattle.store_tables.specs.private.Stepping.{IsOpenInside}
 use Rattle.store_tables.proofs.Where.{names_select, names_selects, parked_select, parked_selects}
 
@@ -46,12 +48,20 @@ shown_keeps sql params old new rows inside h = go h.0.returning h.2
     go None it = keeps old new (inl it.3)
     go (Some what) it = record { was_open = λ is_open. it.1.shown.was_open; committed = λ is_open. rw inside at it.1.shown.committed_is }
 
-pub keeps_query : (sql : List ℕ) (params : Row) (old new : State) (r : Result (Vec Row Global) Error)
+keeps_query : (sql : List ℕ) (params : Row) (old new : State) (r : Result (Vec Row Global) Error)
     → IsTrue old.in_transaction → IfOk r (λ rows. Shown sql params old new rows.items)
     → IfErr r (λ e. FailsToQuery sql params old new e ⊎ IsTooLate sql params old new e) → KeepsCommit old new
 keeps_query sql params old new (Ok rows) inside shown fails = shown_keeps sql params old new rows.items inside shown
 keeps_query sql params old new (Err e) inside shown (inl fails) = keeps old new (undone sql params old new e fails)
 keeps_query sql params old new (Err e) inside shown (inr late) = keeps old new (inl late.5)
+
+pub query_steps : (sql : List ℕ) (params : Row) (old new : State) (r : Result (Vec Row Global) Error) → Survives old new (λ _. ⊥)
+    → (HasCleanDisk new → IfOk r (λ rows. Shown sql params old new rows.items))
+    → (HasCleanDisk new → IfErr r (λ e. FailsToQuery sql params old new e ⊎ IsTooLate sql params old new e)) → IsStep old new
+query_steps sql params old new r lives shown fails = record {
+  survives = lives;
+  kept = λ clean inside. keeps_query sql params old new r inside (shown clean) (fails clean);
+}
 
 -- the transaction goes on
 pub asks_inside : (sql : List ℕ) (params : Row) (old new : State) (rows : List Row)

@@ -1,21 +1,22 @@
 -- What a desk is after a message was taken in.
-use Rattle.std.proofs.Common.{◌≡◌, inl, inr, ℕ, List, codes, Bool, true, false, ◌||◌, true≢false, refl, sym, ap, subst, ◌∙◌, arith}
+use Rattle.std.proofs.Common.{◌≡◌, inl, inr, ℕ, List, codes, Bool, true, false, IsTrue, ◌||◌, true≢false, refl, sym, ap, subst, ◌∙◌, arith}
 use Rattle.std.proofs.lemmas.Bool.{or_cases}
 use Rattle.std.specs.List.{list_any}
 use Rattle.std.specs.Cmp.Lexicographic.{nat_list_cmp_total}
 use Rattle.std.specs.FinSet as set
 use Rattle.sqlite.specs.Effect.{Database, IsDatabase}
-use Rattle.sqlite.specs.State.{State}
+use Rattle.sqlite.specs.State.{HasCleanDisk, State, Survives}
 use Rattle.messages.specs.Wire.{wire}
 use Rattle.messages.specs.declared.message.Message.{Message}
 use Rattle.store_tables.specs.Rows.{AreRows, IsRow}
 use Rattle.store_tables.specs.Stored.{Content, IsWritten, Texts, content_of, has, is_stray, recorded, roster_of, texts_of, with_text}
+use Rattle.store_tables.specs.Steps.{InStep, IsStep}
 use Rattle.store_tables.specs.Kept.{HasRows, Holds, IsDeskDatabase, IsTidy, table_in}
 use Rattle.store_tables.specs.private.Stepping.{AddsText, FindsText, WroteText}
 use Rattle.store_tables.specs.private.Turning.{Received, Receives, Settled, Settles}
 use Rattle.store_tables.proofs.AddLemmas.{is_same, same_sets}
 use Rattle.store_tables.proofs.TextSets.{same_text}
-use Rattle.store_tables.proofs.TurnLemmas.{Messages, Desk, Names, Verdicts, Parked, spares_but, spares_then, still}
+use Rattle.store_tables.proofs.TurnLemmas.{Messages, Desk, Names, Verdicts, Parked, clean_before, spares_but, spares_then, still}
 
 -- a text that is there adds nothing
 there_already : (texts : Texts) (text : List ℕ) → set.contains texts text ≡ true → set.insert texts text ≡ texts
@@ -81,6 +82,11 @@ received_again a text sound is there = record {
 }
 
 -- ---- states
+
+-- whether the text was there, where what was done since leaves the disk clean
+pub found_before : (a z b c : State) (text : List ℕ) (told : Bool) → InStep a z (FindsText text told) → Survives z b (λ _. ⊥) → IsStep b c
+    → HasCleanDisk c → IsTrue a.in_transaction → FindsText text told a z
+found_before a z b c text told finds survives step clean = finds (clean_before z b _ survives (clean_before b c _ step.survives clean))
 
 pub again : (text : List ℕ) (told : Bool) (a b : State) → told ≡ true → FindsText text told a b → Received text a b
 again text told a b is finds = record {

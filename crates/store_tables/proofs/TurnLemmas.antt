@@ -8,6 +8,9 @@ use Rattle.sqlite.specs.Table.{Table}
 use Rattle.sqlite.specs.Tree.{Trees}
 use Rattle.sqlite.specs.Effect.{Database}
 use Rattle.sqlite.specs.State.{HasCleanDisk, KeepsCommit, State, Survives}
+use Rattle.sqlite.specs.Held.{state}
+use Rattle.sqlite.specs.declared.transaction.Transaction.{Transaction}
+use Rattle.sqlite_trees.specs.declared.store.Store.{Ghosts}
 use Rattle.sqlite.proofs.StateLemmas.{survives_then}
 use Rattle.sqlite_rules.specs.Lists.{Has}
 use Rattle.store_tables.specs.DeskTables.{desk_at, messages_at, names_at, verdicts_at, parked_at}
@@ -29,7 +32,7 @@ use Rattle.store_tables.specs.Kept.{HasRows, Holds, IsForeign, IsTidy, Spares, t
 use Rattle.store_tables.specs.private.Changes.{Gains, Tells}
 use Rattle.store_tables.specs.Steps.{KeepsBut}
 use Rattle.store_tables.specs.private.Stepping.{Alters, Finds, Wrote, parked_values, verdict_values}
-use Rattle.store_tables.specs.Steps.{IsStep}
+use Rattle.store_tables.specs.Steps.{IsStep, TakesStep}
 use Rattle.store_tables.specs.private.Turning.{Rowwise, Settled, Settles, Stays, Turned, Turns}
 use Rattle.store_tables.proofs.AddLemmas.{is_same}
 use Rattle.store_tables.proofs.RowSets.{counted, parks, rows_same}
@@ -55,6 +58,14 @@ pub then_step : (a b c : State) → IsStep a b → (HasCleanDisk b → IsTrue a.
 then_step a b c one on two = record {
   survives = survives_both a b c one.survives two.survives;
   kept = λ clean inside. let clean_b = clean_before b c _ two.survives clean in keeps_both a b c (one.kept clean_b inside) (two.kept clean (on clean_b inside));
+}
+
+pub takes_both : {S : Type 0} (g : Ghosts S) (a b c : Transaction S) → TakesStep g a b
+    → (HasCleanDisk (state g b.conn.now) → IsTrue (state g a.conn.now).in_transaction → IsTrue (state g b.conn.now).in_transaction)
+    → TakesStep g b c → TakesStep g a c
+takes_both g a b c one on two = record {
+  same_reference = two.same_reference ∙ one.same_reference;
+  states = then_step (state g a.conn.now) (state g b.conn.now) (state g c.conn.now) one.states on two.states;
 }
 
 -- ---- the tables by their parts

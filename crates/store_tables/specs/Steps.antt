@@ -5,7 +5,10 @@ use Rattle.std.specs.FinSet as set
 use Rattle.sqlite.specs.Order.{Row}
 use Rattle.sqlite.specs.Table.{Table}
 use Rattle.sqlite.specs.Effect.{Database, IsDatabase}
+use Rattle.sqlite.specs.Held.{state}
 use Rattle.sqlite.specs.State.{HasCleanDisk, KeepsCommit, State, Shows, Survives}
+use Rattle.sqlite.specs.declared.transaction.Transaction.{Transaction}
+use Rattle.sqlite_trees.specs.declared.store.Store.{Ghosts}
 use Rattle.messages.specs.Wire.{wire}
 use Rattle.messages.specs.declared.message.Message.{Message}
 use Rattle.store_tables.specs.Stored.{Texts, recorded, tree_of}
@@ -15,6 +18,11 @@ use Rattle.store_tables.specs.Kept.{HasRows, IsTidy, Spares, table_in}
 pub record IsStep (old new : State) : Type 0 where
   pub survives : Survives old new (λ _. ⊥)
   pub kept : HasCleanDisk new → IsTrue old.in_transaction → KeepsCommit old new
+
+-- A transaction takes a step: it keeps its connection, and commits nothing.
+pub record TakesStep {S : Type 0} (g : Ghosts S) (old new : Transaction S) : Type 0 where
+  pub same_reference : new.conn.ghost_name ≡ old.conn.ghost_name
+  pub states : IsStep (state g old.conn.now) (state g new.conn.now)
 
 -- `Does` relates the states before and after a step of a transaction, if the disk is honest
 abbrev pub InStep : (old new : State) → (State → State → Type 0) → Type 0

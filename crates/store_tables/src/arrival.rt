@@ -4,7 +4,7 @@ ghost use Rattle.std.specs.Prelude.{◌≡◌, true, IfErr, IfOk, IsTrue, OnOk};
 ghost use Rattle.sqlite.specs.Held.{state};
 ghost use Rattle.messages.specs.Fields.{IsRequest};
 ghost use Rattle.messages.specs.Names.{name_of};
-ghost use Rattle.messages.specs.Wire.{kind_text, wire};
+ghost use Rattle.messages.specs.Wire.{wire};
 ghost use Rattle.messages.specs.declared.message.Message.TheVariants as message_of;
 ghost use Rattle.store_tables.specs.Rows.{verdict_row, parked_row};
 ghost use Rattle.store_tables.specs.Arrivals.{IsTold};
@@ -12,8 +12,7 @@ ghost use Rattle.store_tables.specs.Causes.{IsExplained};
 ghost use Rattle.store_tables.specs.Kept.{IsDeskDatabase};
 ghost use Rattle.store_tables.specs.Stored.{IsWritten, content_of, has};
 ghost use Rattle.store_tables.specs.private.Changes.{Gains};
-ghost use Rattle.store_tables.specs.Steps.{InStep};
-ghost use Rattle.store_tables.specs.Steps.{IsStep};
+ghost use Rattle.store_tables.specs.Steps.{InStep, TakesStep};
 ghost use Rattle.store_tables.specs.private.Turning.{JoinedParked, JoinsAll, JoinsOne};
 ghost use Rattle.store_tables.specs.private.Turning.{Received, Renames, Rowwise, Settled};
 ghost use Rattle.store_tables.specs.private.Turning.{ShowsVerdict, Stays, Turned};
@@ -23,7 +22,7 @@ use crate::statements::{
     has_name, has_text, parked_of, put_name, put_parked, put_text, put_verdict, take_name,
     take_parked,
 };
-use messages::{Message, MessageFault, Request, Verdict, VerdictKind, read_message};
+use messages::{Message, MessageFault, Request, Verdict, read_message};
 use sqlite::{Alter, Row, Transaction};
 use sqlite_value::value::ValueRef;
 use std::alloc::Global;
@@ -37,23 +36,11 @@ pub enum Arrival {
     Held,
 }
 
-/// The word for a kind of verdict.
-fn word_of(kind: VerdictKind) -> &'static str
-    ensures { result.now ≡ kind_text kind }
-{
-    match kind {
-        VerdictKind::Approve => "approve",
-        VerdictKind::Refuse => "refuse",
-        VerdictKind::Revoke => "revoke",
-    }
-}
-
 /// Adds the verdict's row to `verdicts`.
 fn count_verdict<S: Alter>(tx: &mut Transaction<'_, S>, verdict: &Verdict) -> Result<(), Fault>
-    ensures same_reference { tx.new.conn.ghost_name ≡ tx.old.conn.ghost_name }
     ensures turned { InStep (state S.Store tx.old.conn.now) (state S.Store tx.new.conn.now)
         (λ a b. OnOk result (Turned Stays (Rowwise (Gains (verdict_row verdict.now))) Stays a b)) }
-    ensures step { IsStep (state S.Store tx.old.conn.now) (state S.Store tx.new.conn.now) }
+    ensures step { TakesStep S.Store tx.old tx.new }
 {
     let at = verdict.at().secs() as u32;
     put_verdict(
@@ -61,7 +48,7 @@ fn count_verdict<S: Alter>(tx: &mut Transaction<'_, S>, verdict: &Verdict) -> Re
         verdict.of().as_str(),
         verdict.no(),
         verdict.by().as_str(),
-        word_of(verdict.kind()),
+        verdict.kind().word(),
         at,
     )?;
     Ok(())
@@ -70,10 +57,9 @@ fn count_verdict<S: Alter>(tx: &mut Transaction<'_, S>, verdict: &Verdict) -> Re
 /// Adds the verdict's row to `parked`.
 fn park<S: Alter>(tx: &mut Transaction<'_, S>, verdict: &Verdict, body: &str) -> Result<(), Fault>
     requires { body.now ≡ wire (message_of.Verdict verdict.now) }
-    ensures same_reference { tx.new.conn.ghost_name ≡ tx.old.conn.ghost_name }
     ensures turned { InStep (state S.Store tx.old.conn.now) (state S.Store tx.new.conn.now)
         (λ a b. OnOk result (Turned Stays Stays (Rowwise (Gains (parked_row verdict.now))) a b)) }
-    ensures step { IsStep (state S.Store tx.old.conn.now) (state S.Store tx.new.conn.now) }
+    ensures step { TakesStep S.Store tx.old tx.new }
 {
     put_parked(tx, body, verdict.of().as_str(), verdict.no())?;
     Ok(())
@@ -87,10 +73,9 @@ fn settle_verdict<S: Alter>(
     body: &str,
 ) -> Result<(), Fault>
     requires { body.now ≡ wire (message_of.Verdict verdict.now) }
-    ensures same_reference { tx.new.conn.ghost_name ≡ tx.old.conn.ghost_name }
     ensures settled { InStep (state S.Store tx.old.conn.now) (state S.Store tx.new.conn.now)
         (λ a b. OnOk result (Settled (message_of.Verdict verdict.now) a b)) }
-    ensures step { IsStep (state S.Store tx.old.conn.now) (state S.Store tx.new.conn.now) }
+    ensures step { TakesStep S.Store tx.old tx.new }
 {
     if has_name(tx, verdict.of().as_str(), verdict.no())? {
         count_verdict(tx, verdict)
@@ -103,11 +88,10 @@ fn settle_verdict<S: Alter>(
 /// one.
 fn rename<S: Alter>(tx: &mut Transaction<'_, S>, request: &Request, body: &str) -> Result<(), Fault>
     requires { body.now ≡ wire (message_of.Request request.now) }
-    ensures same_reference { tx.new.conn.ghost_name ≡ tx.old.conn.ghost_name }
     ensures turned { InStep (state S.Store tx.old.conn.now) (state S.Store tx.new.conn.now)
         (λ a b. OnOk result (Turned (Rowwise (Renames request.now)) Stays Stays a b)) }
     ensures request { IsRequest request.now }
-    ensures step { IsStep (state S.Store tx.old.conn.now) (state S.Store tx.new.conn.now) }
+    ensures step { TakesStep S.Store tx.old tx.new }
 {
     let disputed = has_name(tx, request.by().as_str(), request.no())?;
     take_name(tx, request.by().as_str(), request.no())?;
@@ -132,10 +116,9 @@ fn verdict_in(alloc: Global, row: &Row) -> Result<Verdict, Fault>
 
 /// Adds to `verdicts` the row of the verdict whose text this row shows.
 fn join_one<S: Alter>(alloc: Global, tx: &mut Transaction<'_, S>, row: &Row) -> Result<(), Fault>
-    ensures same_reference { tx.new.conn.ghost_name ≡ tx.old.conn.ghost_name }
     ensures turned { InStep (state S.Store tx.old.conn.now) (state S.Store tx.new.conn.now)
         (λ a b. OnOk result (Turned Stays (Rowwise (JoinsOne row.now)) Stays a b)) }
-    ensures step { IsStep (state S.Store tx.old.conn.now) (state S.Store tx.new.conn.now) }
+    ensures step { TakesStep S.Store tx.old tx.new }
 {
     let verdict = verdict_in(alloc, row)?;
     count_verdict(tx, &verdict)
@@ -143,10 +126,9 @@ fn join_one<S: Alter>(alloc: Global, tx: &mut Transaction<'_, S>, row: &Row) -> 
 
 /// Adds to `verdicts` the rows of the verdicts whose texts these rows show.
 fn join<S: Alter>(alloc: Global, tx: &mut Transaction<'_, S>, rows: &[Row]) -> Result<(), Fault>
-    ensures same_reference { tx.new.conn.ghost_name ≡ tx.old.conn.ghost_name }
     ensures turned { InStep (state S.Store tx.old.conn.now) (state S.Store tx.new.conn.now)
         (λ a b. OnOk result (Turned Stays (Rowwise (JoinsAll rows.now)) Stays a b)) }
-    ensures step { IsStep (state S.Store tx.old.conn.now) (state S.Store tx.new.conn.now) }
+    ensures step { TakesStep S.Store tx.old tx.new }
 {
     for row in rows {
         join_one(alloc, tx, row)?;
@@ -160,10 +142,9 @@ fn join_parked<S: Alter>(
     tx: &mut Transaction<'_, S>,
     request: &Request,
 ) -> Result<(), Fault>
-    ensures same_reference { tx.new.conn.ghost_name ≡ tx.old.conn.ghost_name }
     ensures joined { InStep (state S.Store tx.old.conn.now) (state S.Store tx.new.conn.now)
         (λ a b. OnOk result (JoinedParked (name_of request.now) a b)) }
-    ensures step { IsStep (state S.Store tx.old.conn.now) (state S.Store tx.new.conn.now) }
+    ensures step { TakesStep S.Store tx.old tx.new }
 {
     let rows = parked_of(tx, request.by().as_str(), request.no())?;
     join(alloc, tx, rows.as_slice())?;
@@ -180,10 +161,9 @@ fn settle_request<S: Alter>(
     body: &str,
 ) -> Result<(), Fault>
     requires { body.now ≡ wire (message_of.Request request.now) }
-    ensures same_reference { tx.new.conn.ghost_name ≡ tx.old.conn.ghost_name }
     ensures settled { InStep (state S.Store tx.old.conn.now) (state S.Store tx.new.conn.now)
         (λ a b. OnOk result (Settled (message_of.Request request.now) a b)) }
-    ensures step { IsStep (state S.Store tx.old.conn.now) (state S.Store tx.new.conn.now) }
+    ensures step { TakesStep S.Store tx.old tx.new }
 {
     rename(tx, request, body)?;
     join_parked(alloc, tx, request)
@@ -197,10 +177,9 @@ pub(crate) fn settle<S: Alter>(
     body: &str,
 ) -> Result<(), Fault>
     requires { body.now ≡ wire message.now }
-    ensures same_reference { tx.new.conn.ghost_name ≡ tx.old.conn.ghost_name }
     ensures settled { InStep (state S.Store tx.old.conn.now)
         (state S.Store tx.new.conn.now) (λ a b. OnOk result (Settled message.now a b)) }
-    ensures step { IsStep (state S.Store tx.old.conn.now) (state S.Store tx.new.conn.now) }
+    ensures step { TakesStep S.Store tx.old tx.new }
 {
     match message {
         Message::Request(request) => settle_request(alloc, tx, request, body),
@@ -217,7 +196,6 @@ pub(crate) fn receive<S: Alter>(
 ) -> Result<Arrival, Fault>
     requires text { body.now ≡ wire message.now }
     requires written { IsWritten body.now }
-    ensures same_reference { tx.new.conn.ghost_name ≡ tx.old.conn.ghost_name }
     ensures received { InStep (state S.Store tx.old.conn.now)
         (state S.Store tx.new.conn.now) (λ a b. OnOk result (Received body.now a b)) }
     ensures told { InStep (state S.Store tx.old.conn.now) (state S.Store tx.new.conn.now)
@@ -227,7 +205,7 @@ pub(crate) fn receive<S: Alter>(
     ensures explained { InStep (state S.Store tx.old.conn.now) (state S.Store tx.new.conn.now)
         (λ a b. IfErr result (λ e. IsTrue a.is_open → IsDeskDatabase a.now
         → has (content_of a.now) body.now ≡ true → IsExplained a b e)) }
-    ensures step { IsStep (state S.Store tx.old.conn.now) (state S.Store tx.new.conn.now) }
+    ensures step { TakesStep S.Store tx.old tx.new }
 {
     if has_text(tx, body)? {
         return Ok(Arrival::Held);

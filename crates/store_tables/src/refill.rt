@@ -1,12 +1,11 @@
 //! The rows of a desk's tables, made anew from its messages.
 
-ghost use Rattle.std.specs.Prelude.{◌≡◌, ◌≢◌, AllPairs, Contains, OnOk};
+ghost use Rattle.std.specs.Prelude.{◌≢◌, AllPairs, Contains, OnOk};
 ghost use Rattle.sqlite.specs.Held.{state};
 ghost use Rattle.messages.specs.Wire.{IsMessage};
 ghost use Rattle.messages.specs.declared.message.Message.{Message as AnyMessage};
 ghost use Rattle.store_tables.specs.private.Changes.{IsEmptied};
-ghost use Rattle.store_tables.specs.Steps.{InStep};
-ghost use Rattle.store_tables.specs.Steps.{IsStep};
+ghost use Rattle.store_tables.specs.Steps.{InStep, TakesStep};
 ghost use Rattle.store_tables.specs.Steps.{Refilled};
 ghost use Rattle.store_tables.specs.private.Turning.{Renewed, Rowwise, Settled, Turned};
 
@@ -23,10 +22,9 @@ fn refill_one<S: Alter>(
     tx: &mut Transaction<'_, S>,
     message: &Message,
 ) -> Result<(), Fault>
-    ensures same_reference { tx.new.conn.ghost_name ≡ tx.old.conn.ghost_name }
     ensures settled { InStep (state S.Store tx.old.conn.now)
         (state S.Store tx.new.conn.now) (λ a b. OnOk result (Settled message.now a b)) }
-    ensures step { IsStep (state S.Store tx.old.conn.now) (state S.Store tx.new.conn.now) }
+    ensures step { TakesStep S.Store tx.old tx.new }
 {
     let body = text(alloc, message)?;
     settle(alloc, tx, message, body.as_str())
@@ -41,10 +39,9 @@ pub fn refill_rows<S: Alter>(
 ) -> Result<(), Fault>
     requires once { AllPairs (λ m n. m ≢ n) messages.now }
     requires messages { (m : AnyMessage) → Contains messages.now m → IsMessage m }
-    ensures same_reference { tx.new.conn.ghost_name ≡ tx.old.conn.ghost_name }
     ensures refilled { InStep (state S.Store tx.old.conn.now)
         (state S.Store tx.new.conn.now) (λ a b. OnOk result (Refilled messages.now a b)) }
-    ensures step { IsStep (state S.Store tx.old.conn.now) (state S.Store tx.new.conn.now) }
+    ensures step { TakesStep S.Store tx.old tx.new }
 {
     for message in messages {
         refill_one(alloc, tx, message)?;
@@ -54,10 +51,9 @@ pub fn refill_rows<S: Alter>(
 
 /// Takes all rows out of the three tables.
 fn clear<S: Alter>(tx: &mut Transaction<'_, S>) -> Result<(), Fault>
-    ensures same_reference { tx.new.conn.ghost_name ≡ tx.old.conn.ghost_name }
     ensures turned { InStep (state S.Store tx.old.conn.now) (state S.Store tx.new.conn.now) (λ a b.
         OnOk result (Turned (Rowwise IsEmptied) (Rowwise IsEmptied) (Rowwise IsEmptied) a b)) }
-    ensures step { IsStep (state S.Store tx.old.conn.now) (state S.Store tx.new.conn.now) }
+    ensures step { TakesStep S.Store tx.old tx.new }
 {
     clear_names(tx)?;
     clear_verdicts(tx)?;
@@ -74,10 +70,9 @@ pub(crate) fn renew<S: Alter>(
 ) -> Result<(), Fault>
     requires once { AllPairs (λ m n. m ≢ n) messages.now }
     requires messages { (m : AnyMessage) → Contains messages.now m → IsMessage m }
-    ensures same_reference { tx.new.conn.ghost_name ≡ tx.old.conn.ghost_name }
     ensures renewed { InStep (state S.Store tx.old.conn.now)
         (state S.Store tx.new.conn.now) (λ a b. OnOk result (Renewed messages.now a b)) }
-    ensures step { IsStep (state S.Store tx.old.conn.now) (state S.Store tx.new.conn.now) }
+    ensures step { TakesStep S.Store tx.old tx.new }
 {
     clear(tx)?;
     refill_rows(alloc, tx, messages)

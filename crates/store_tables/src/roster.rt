@@ -1,11 +1,10 @@
 //! Replacing the roster's text.
 
-ghost use Rattle.std.specs.Prelude.{◌≡◌, ◌≢◌, AllPairs, Contains, OnOk};
+ghost use Rattle.std.specs.Prelude.{◌≢◌, AllPairs, Contains, OnOk};
 ghost use Rattle.sqlite.specs.Held.{state};
 ghost use Rattle.messages.specs.Wire.{IsMessage};
 ghost use Rattle.messages.specs.declared.message.Message.{Message as AnyMessage};
-ghost use Rattle.store_tables.specs.Steps.{InStep};
-ghost use Rattle.store_tables.specs.Steps.{IsStep};
+ghost use Rattle.store_tables.specs.Steps.{InStep, TakesStep};
 ghost use Rattle.store_tables.specs.private.Turning.{Recorded, Replaced};
 
 use crate::fault::Fault;
@@ -17,10 +16,9 @@ use std::alloc::Global;
 
 /// Records the roster's text in place of the one before.
 pub(crate) fn record<S: Alter>(tx: &mut Transaction<'_, S>, roster: &str) -> Result<(), Fault>
-    ensures same_reference { tx.new.conn.ghost_name ≡ tx.old.conn.ghost_name }
     ensures recorded { InStep (state S.Store tx.old.conn.now)
         (state S.Store tx.new.conn.now) (λ a b. OnOk result (Recorded roster.now a b)) }
-    ensures step { IsStep (state S.Store tx.old.conn.now) (state S.Store tx.new.conn.now) }
+    ensures step { TakesStep S.Store tx.old tx.new }
 {
     clear_desk(tx)?;
     put_roster(tx, roster)?;
@@ -36,10 +34,9 @@ pub(crate) fn replace_within<S: Alter>(
 ) -> Result<(), Fault>
     requires once { AllPairs (λ m n. m ≢ n) messages.now }
     requires messages { (m : AnyMessage) → Contains messages.now m → IsMessage m }
-    ensures same_reference { tx.new.conn.ghost_name ≡ tx.old.conn.ghost_name }
     ensures replaced { InStep (state S.Store tx.old.conn.now) (state S.Store tx.new.conn.now)
         (λ a b. OnOk result (Replaced roster.now messages.now a b)) }
-    ensures step { IsStep (state S.Store tx.old.conn.now) (state S.Store tx.new.conn.now) }
+    ensures step { TakesStep S.Store tx.old tx.new }
 {
     record(tx, roster)?;
     renew(alloc, tx, messages)

@@ -8,7 +8,7 @@ use Rattle.sudo_decide.specs.declared.invocation.Invocation.{Invocation}
 use Rattle.sudo_decide.specs.Decision.{Decides}
 use Rattle.sudo_decide.proofs.Speakers.{one_decision}
 use Rattle.sudo_compiled.specs.declared.plain.PlainRule.{PlainRule}
-use Rattle.sudo_compiled.specs.Compiled.{answer, SameNames, AnswerAlike}
+use Rattle.sudo_compiled.specs.Compiled.{AnswerAlikeFor, SameNames, answer}
 use Rattle.sudo_beyond.specs.declared.cases.Cases.{Cases}
 use Rattle.sudo_beyond.specs.declared.run.Run.{Run}
 use Rattle.sudo_beyond.specs.Cases.{invocation_of, of_run}
@@ -51,15 +51,15 @@ not_both_answers d (inr allow) deny = no_password_is_no_deny (sym allow ∙ deny
 
 -- ---- rules that answer alike, for the cases of one user, host and target
 
-pub gap_of_those : (a b x y : List PlainRule) (i j : Invocation) → AnswerAlike a x i
-    → AnswerAlike b y i → SameNames i j → IsAnsweredGap x y j → IsAnsweredGap a b j
+pub gap_of_those : (a b x y : List PlainRule) (i j : Invocation) → AnswerAlikeFor a x i
+    → AnswerAlikeFor b y i → SameNames i j → IsAnsweredGap x y j → IsAnsweredGap a b j
 gap_of_those a b x y i j by_a by_b same gap = record {
   allowed = subst (λ (d : Decision). IsAllowed d) (sym (by_a j same)) gap.allowed;
   refused = by_b j same ∙ gap.refused;
 }
 
-pub gap_of_all : (a b x y : List PlainRule) (i j : Invocation) → AnswerAlike a x i
-    → AnswerAlike b y i → SameNames i j → IsAnsweredGap a b j → IsAnsweredGap x y j
+pub gap_of_all : (a b x y : List PlainRule) (i j : Invocation) → AnswerAlikeFor a x i
+    → AnswerAlikeFor b y i → SameNames i j → IsAnsweredGap a b j → IsAnsweredGap x y j
 gap_of_all a b x y i j by_a by_b same gap = record {
   allowed = subst (λ (d : Decision). IsAllowed d) (by_a j same) gap.allowed;
   refused = sym (by_b j same) ∙ gap.refused;

@@ -6,7 +6,7 @@ use Rattle.std.specs.List.{AllByRecursion, flat_map, slice_get}
 use Rattle.std.proofs.Math.Seq.{split_at}
 use Rattle.std.proofs.lemmas.Grind.{flat_map-append}
 use Rattle.sudo_decide.specs.declared.invocation.Invocation.{Invocation}
-use Rattle.sudo_beyond.specs.Answer.{IsFirst, FirstOf}
+use Rattle.sudo_beyond.specs.Answer.{FirstOf, IsFirstWith}
 use Rattle.sudo_beyond.proofs.AlikeLemmas.{all_append, all_front, all_back}
 use Rattle.sudo_words.proofs.Lists.{take_next}
 
@@ -23,7 +23,7 @@ module _ {X : Type 0} (P : Invocation → Type 0) (f : X → List Invocation) (x
       (all_append (λ i. P i → ⊥) (flat_map f (take k xs)) (f x ++ []) before (all_append (λ i. P i → ⊥) (f x) [] here tt)))
 
   pub gap_here : (x : X) (i : Invocation) → k < length xs → x ≡ get_or xs k x
-      → NoGap P (flat_map f (take k xs)) → IsFirst P (f x) i → IsFirst P (flat_map f xs) i
+      → NoGap P (flat_map f (take k xs)) → IsFirstWith P (f x) i → IsFirstWith P (flat_map f xs) i
   gap_here x i below is before first =
       let front : List Invocation = flat_map f (take k xs) in
       let behind : List Invocation = flat_map f (drop (suc k) xs) in

@@ -14,7 +14,7 @@ use Rattle.sudo_decide.specs.declared.scope.Scope.{Scope}
 use Rattle.sudo_beyond.specs.Standing.{users, hosts, runas, commands}
 use Rattle.sudo_beyond.specs.Beyond.{Agrees, IsScope, IsInvocation, IsInScope, IsGap, LiesBeyond, SomethingBeyond}
 use Rattle.sudo_beyond.specs.Cases.{AreCases, invocation_of, of_run, of_target, of_host, of_user, invocations}
-use Rattle.sudo_beyond.specs.Answer.{IsFirst, FirstOf}
+use Rattle.sudo_beyond.specs.Answer.{FirstOf, IsFirstWith}
 use Rattle.sudo_beyond.proofs.AlikeLemmas.{all_weaker, all_flat}
 use Rattle.sudo_beyond.proofs.Counting.{is_counted}
 use Rattle.sudo_beyond.proofs.Everywhere.{beyond_at_case}
@@ -118,7 +118,7 @@ module _ (s : Scope) (a b : List Entry) (c : Cases) (is_a : IsPolicy a) (is_b : 
       (λ at is_at. formed user host target run at is_user is_host is_target is_run is_at) are_timed))
       are_run)) are_aimed)) are_hosted)) are_named)
 
-  pub lies_beyond : (i : Invocation) → IsFirst (IsGap a b) (invocations c) i → LiesBeyond s a b i
+  pub lies_beyond : (i : Invocation) → IsFirstWith (IsGap a b) (invocations c) i → LiesBeyond s a b i
   lies_beyond i first =
       let there : Contains (invocations c) i =
       subst (λ (is : List Invocation). Contains is i) (sym first.list_is)

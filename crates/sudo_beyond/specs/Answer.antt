@@ -10,7 +10,7 @@ use Rattle.sudo_beyond.specs.Beyond.{IsGap}
 use Rattle.sudo_beyond.specs.Cases.{AreCases, product, invocations}
 
 -- P holds of x, and of no element before it in the list
-pub record IsFirst {X : Type 0} (P : X → Type 0) (xs : List X) (x : X) : Type 0 where
+pub record IsFirstWith {X : Type 0} (P : X → Type 0) (xs : List X) (x : X) : Type 0 where
   pub before : List X
   pub after : List X
   pub list_is : xs ≡ before ++ x ∷ after
@@ -20,7 +20,7 @@ pub record IsFirst {X : Type 0} (P : X → Type 0) (xs : List X) (x : X) : Type 
 -- the first element of the list for which P holds, or None if there is none
 abbrev pub FirstOf : {X : Type 0} → (X → Type 0) → List X → Option X → Type 0
 FirstOf P xs None = AllByRecursion (λ x. P x → ⊥) xs
-FirstOf P xs (Some x) = IsFirst P xs x
+FirstOf P xs (Some x) = IsFirstWith P xs x
 
 -- the most cases that are tried
 abbrev pub most_cases : ℕ

@@ -67,5 +67,5 @@ pub record SameNames (i j : Invocation) : Type 0 where
   pub runas : j.runas ≡ i.runas
 
 -- whatever they run, and whenever, the rules answer alike
-abbrev pub AnswerAlike : List PlainRule → List PlainRule → Invocation → Type 0
-AnswerAlike rules others i = (j : Invocation) → SameNames i j → answer rules j ≡ answer others j
+abbrev pub AnswerAlikeFor : List PlainRule → List PlainRule → Invocation → Type 0
+AnswerAlikeFor rules others i = (j : Invocation) → SameNames i j → answer rules j ≡ answer others j

@@ -1,7 +1,7 @@
 //! What rules without aliases answer, and which of them bear on an invocation.
 
 ghost use Rattle.std.specs.Prelude.{◌≡◌};
-ghost use Rattle.sudo_compiled.specs.Compiled.{answer, AnswerAlike};
+ghost use Rattle.sudo_compiled.specs.Compiled.{AnswerAlikeFor, answer};
 
 use crate::plain::PlainRule;
 use crate::rule::{is_about, spoken};
@@ -27,7 +27,7 @@ pub fn decide_among(rules: &[PlainRule], i: &Invocation) -> Decision
 
 /// The rules without those at the end that are not about the user, the host and the target.
 fn without_last<'a>(rules: &'a [PlainRule], i: &Invocation) -> &'a [PlainRule]
-    ensures { AnswerAlike rules.now result.now i.now }
+    ensures { AnswerAlikeFor rules.now result.now i.now }
 {
     let mut rest = rules;
     while let Some((last, others)) = rest.split_last() {
@@ -41,7 +41,7 @@ fn without_last<'a>(rules: &'a [PlainRule], i: &Invocation) -> &'a [PlainRule]
 
 /// The rules without those at the front that are not about the user, the host and the target.
 fn without_first<'a>(rules: &'a [PlainRule], i: &Invocation) -> &'a [PlainRule]
-    ensures { AnswerAlike rules.now result.now i.now }
+    ensures { AnswerAlikeFor rules.now result.now i.now }
 {
     let mut rest = rules;
     while let Some((first, others)) = rest.split_first() {
@@ -56,7 +56,7 @@ fn without_first<'a>(rules: &'a [PlainRule], i: &Invocation) -> &'a [PlainRule]
 /// The rules from the first to the last that are about the user, the host and the target. Whatever
 /// is run, and whenever, they answer what all of the rules answer.
 pub fn bearing_on<'a>(rules: &'a [PlainRule], i: &Invocation) -> &'a [PlainRule]
-    ensures { AnswerAlike rules.now result.now i.now }
+    ensures { AnswerAlikeFor rules.now result.now i.now }
 {
     without_first(without_last(rules, i), i)
 }

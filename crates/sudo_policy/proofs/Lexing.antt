@@ -6,7 +6,7 @@ use Rattle.std.proofs.lemmas.Bool.Decides.{nat_tests}
 use Rattle.std.proofs.lemmas.List.{append-nil, length-append}
 use Rattle.sudo_words.specs.Bytes.{backslash}
 use Rattle.sudo_policy.specs.Span.{Each}
-use Rattle.sudo_policy.specs.private.Cuts.{is_bang, Stops, IsCut, IsFirst}
+use Rattle.sudo_policy.specs.private.Cuts.{IsCut, IsFirstToken, Stops, is_bang}
 use Rattle.sudo_policy.specs.Lex.{is_blank, is_mark, is_word_byte, is_word_text, goes_on, bangs}
 use Rattle.sudo_policy.specs.Lex.{is_some_blank, is_spaced, Tok, word, mark, text_of, IsTok, Lexes}
 use Rattle.sudo_policy.proofs.Spans.{one_cut}
@@ -136,7 +136,7 @@ mark_only bytes blanks s c gap m rest g is e (mark a k ∷ ts) h =
 
 -- a mark after the blanks
 pub lex_mark : (bytes blanks s : List ℕ) → IsCut is_blank bytes blanks s → (gap : Bool) (m : ℕ) (rest : List ℕ)
-    → gap ≡ is_some_blank blanks → is_mark m ≡ true → s ≡ m ∷ rest → IsFirst bytes (mark gap m) rest
+    → gap ≡ is_some_blank blanks → is_mark m ≡ true → s ≡ m ∷ rest → IsFirstToken bytes (mark gap m) rest
 lex_mark bytes blanks s c gap m rest g is e = record {
   adds = adds bytes blanks s c (mark gap m) rest g is e;
   only = mark_only bytes blanks s c gap m rest g is e;
@@ -167,7 +167,7 @@ word_only bytes blanks s c gap n w rest g d (word a m v ∷ ts) h =
     )
 
 pub lex_word_at : (bytes blanks s : List ℕ) → IsCut is_blank bytes blanks s → (gap : Bool) (n : ℕ) (w rest : List ℕ)
-    → gap ≡ is_some_blank blanks → IsWordAt s n w rest → IsFirst bytes (word gap n w) rest
+    → gap ≡ is_some_blank blanks → IsWordAt s n w rest → IsFirstToken bytes (word gap n w) rest
 lex_word_at bytes blanks s c gap n w rest g d = record {
   adds = adds bytes blanks s c (word gap n w) rest g d.is d.whole;
   only = word_only bytes blanks s c gap n w rest g d;
@@ -176,7 +176,7 @@ lex_word_at bytes blanks s c gap n w rest g d = record {
 
 -- ---- one reading
 
-first_of_reading : (bytes : List ℕ) (t : Tok) (ts : List Tok) (h : Lexes bytes (t ∷ ts)) → IsFirst bytes t h.1
+first_of_reading : (bytes : List ℕ) (t : Tok) (ts : List Tok) (h : Lexes bytes (t ∷ ts)) → IsFirstToken bytes t h.1
 first_of_reading bytes (word a n w) ts h =
     lex_word_at bytes h.0 ((bangs n ++ w) ++ h.1) (record { whole = h.5; each = h.2; stops = starts (word a n w) h.1 h.4 }) a n w h.1 h.3
     (record { whole = refl; is = h.4 })

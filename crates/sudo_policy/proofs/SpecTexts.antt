@@ -95,7 +95,7 @@ dates_one ts (d ∷ ds) (e ∷ es) r s g h n k =
     let name : d.word ≡ e.word = cc in
     let time : g.1 ≡ h.1 = cc in
     let left : g.2 ≡ h.2 = cc in
-    let moment = one_spelled h.1 d.moment e.moment (subst (λ (t : List ℕ). moments.Spells t d.moment) time g.3) h.3 in
+    let moment = one_spelled h.1 d.moment e.moment (subst (λ (t : List ℕ). moments.SpellsMoment t d.moment) time g.3) h.3 in
     let more = dates_one h.2 ds es r s (subst (λ (t : List Tok). SpellsDates t ds r) left g.6) h.6 n k in
     (ap (λ (z : Date). z ∷ ds) (date_one d e name moment) ∙ ap (λ (zs : List Date). e ∷ zs) more.0, more.1)
 

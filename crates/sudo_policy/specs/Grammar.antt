@@ -108,7 +108,7 @@ pub record Date : Type 0 where
 abbrev pub SpellsDates : List Tok → List Date → List Tok → Type 0
 SpellsDates ts [] rest = ts ≡ rest
 SpellsDates ts (date ∷ dates) rest =
-    (a : Bool) × (time : List ℕ) × (next : List Tok) × moments.Spells time date.moment
+    (a : Bool) × (time : List ℕ) × (next : List Tok) × moments.SpellsMoment time date.moment
     × (ts ≡ word a 0 date.word ∷ mark false equals ∷ word false 0 time ∷ next)
     × (begins_spaced next ≡ true) × SpellsDates next dates rest
 

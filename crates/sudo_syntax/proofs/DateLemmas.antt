@@ -13,13 +13,13 @@ other_word : codes "NOTAFTER" ≡ codes "NOTBEFORE" → ⊥
 other_word e = absurd cc
 
 -- an option that gives the first bound
-pub first_bound : (before after : Option ℕ) (name time : List ℕ) (t : ℕ) → name ≡ codes "NOTBEFORE" → ((m : ℕ) → moments.Spells time m → m ≡ t)
+pub first_bound : (before after : Option ℕ) (name time : List ℕ) (t : ℕ) → name ≡ codes "NOTBEFORE" → ((m : ℕ) → moments.SpellsMoment time m → m ≡ t)
     → (new_before new_after : Option ℕ) → AddsBound before after name time new_before new_after → (Some t ≡ new_before) × (after ≡ new_after)
 first_bound before after name time t e one new_before new_after (m, spelled, inl g) = (sym (g.2 ∙ ap (λ (n : ℕ). Some n) (one m spelled)), sym g.3)
 first_bound before after name time t e one new_before new_after (m, spelled, inr g) = absurd (other_word (sym g.0 ∙ e))
 
 -- and the one that gives the last
-pub last_bound : (before after : Option ℕ) (name time : List ℕ) (t : ℕ) → name ≡ codes "NOTAFTER" → ((m : ℕ) → moments.Spells time m → m ≡ t)
+pub last_bound : (before after : Option ℕ) (name time : List ℕ) (t : ℕ) → name ≡ codes "NOTAFTER" → ((m : ℕ) → moments.SpellsMoment time m → m ≡ t)
     → (new_before new_after : Option ℕ) → AddsBound before after name time new_before new_after → (before ≡ new_before) × (Some t ≡ new_after)
 last_bound before after name time t e one new_before new_after (m, spelled, inl g) = absurd (other_word (sym e ∙ g.0))
 last_bound before after name time t e one new_before new_after (m, spelled, inr g) = (sym g.3, sym (g.2 ∙ ap (λ (n : ℕ). Some n) (one m spelled)))
@@ -57,7 +57,7 @@ next_is before after ts a name time next e v r f (date ∷ dates) h b =
       new_after = b.1;
       adds = (
         date.moment,
-        subst (λ (w : List ℕ). moments.Spells w date.moment) time_is h.3,
+        subst (λ (w : List ℕ). moments.SpellsMoment w date.moment) time_is h.3,
         subst (λ (w : List ℕ). GivesBound before after (named w date.moment) b.0 b.1) word_is b.2,
       );
       gap = subst (λ (t : List Tok). begins_spaced t ≡ true) next_same h.5;

@@ -23,7 +23,7 @@ use Rattle.sudo_policy.specs.Grammar.{begins_spaced, More, Listed, SpellsItem, S
 use Rattle.sudo_policy.specs.Grammar.{SpellsDates, SpellsTags, SpellsCmndSpec, SpellsPart, SpellsDef, SpellsAliases, SpellsTree}
 use Rattle.sudo_policy.specs.Inheritance.{part_rules, entries_of}
 use Rattle.sudo_policy.specs.Spelling.{SpellsEntries, SpellsLine}
-use Rattle.sudo_syntax.specs.Apart.{AreUsers, AreParts, AreDefs, SpellsBoth}
+use Rattle.sudo_syntax.specs.Apart.{AreColonParts, AreDefs, AreUsers, SpellsBoth}
 use Rattle.sudo_policy.proofs.Lexing.{starts}
 use Rattle.sudo_policy.proofs.LineTexts.{each_append}
 use Rattle.sudo_policy.proofs.One.{line_one}
@@ -293,7 +293,7 @@ user_spec_line u p users parts (ts, lexes, are) t = (
 )
 
 pub parts_apart : (u p q : List ℕ) (users : List (Signed (Item (List ℕ)))) (ps qs : List Part)
-    → AreUsers u users → AreParts p ps → AreParts q qs → SpellsBoth u p q
+    → AreUsers u users → AreColonParts p ps → AreColonParts q qs → SpellsBoth u p q
 parts_apart u p q users ps qs are (tp, lex_p, list_p) (tq, lex_q, list_q) =
     let a = tail_of SpellsPart part_frees p tp ps lex_p list_p in
     let b = tail_of SpellsPart part_frees q tq qs lex_q list_q in

@@ -6,7 +6,7 @@ use Rattle.std.proofs.lemmas.Bool.Decides.{nat_tests}
 use Rattle.std.proofs.lemmas.List.{append-nil}
 use Rattle.sudo_words.specs.Bytes.{bang}
 use Rattle.sudo_policy.specs.Span.{Each}
-use Rattle.sudo_policy.specs.private.Cuts.{is_bang, IsCut, IsFirst}
+use Rattle.sudo_policy.specs.private.Cuts.{IsCut, IsFirstToken, is_bang}
 use Rattle.sudo_policy.specs.Lex.{is_blank, is_mark, is_word_text, goes_on, bangs, is_some_blank, Tok, word, mark, Lexes}
 use Rattle.sudo_syntax.specs.private.Tokens.{IsLast, NoLexing, IsWordCut}
 use Rattle.sudo_policy.proofs.Spans.{one_cut}
@@ -45,7 +45,7 @@ lex_end bytes blanks s c e = record {
 
 -- a word behind the blanks and the `!`
 pub lex_word : (bytes blanks s bs behind w rest : List ℕ) → IsCut is_blank bytes blanks s → IsCut is_bang s bs behind
-    → IsWordCut behind w rest → 0 < length w → (gap : Bool) → gap ≡ is_some_blank blanks → IsFirst bytes (word gap (length bs) w) rest
+    → IsWordCut behind w rest → 0 < length w → (gap : Bool) → gap ≡ is_some_blank blanks → IsFirstToken bytes (word gap (length bs) w) rest
 lex_word bytes blanks s bs behind w rest c d f some gap g = lex_word_at bytes blanks s c gap (length bs) w rest g (record {
   whole = d.whole ∙ ap (λ (t : List ℕ). t ++ behind) (only_bangs bs d.each)
       ∙ ap (λ (t : List ℕ). bangs (length bs) ++ t) f.whole ∙ sym (append_assoc (bangs (length bs)) w rest);
@@ -87,7 +87,7 @@ pub record Leads (line : List ℕ) (out : List Tok) (rest : List ℕ) : Type 0 w
   pub only : (ts : List Tok) → Lexes line ts → (more : List Tok) × (ts ≡ out ++ more) × Lexes rest more
 
 pub leads_more : (line : List ℕ) (out : List Tok) (bytes : List ℕ) (t : Tok) (rest : List ℕ)
-    → Leads line out bytes → IsFirst bytes t rest → Leads line (out ++ t ∷ []) rest
+    → Leads line out bytes → IsFirstToken bytes t rest → Leads line (out ++ t ∷ []) rest
 leads_more line out bytes t rest l f = record {
   adds = λ ts h. rw append_assoc (l.adds (t ∷ ts) (f.adds ts h));
   only = λ ts h. let a = l.only ts h in

@@ -413,15 +413,16 @@ bin_spell =
 
 -- ---- dates, one of which the second command inherits
 
-five_january : (clock : List ℕ) (seconds : ℕ) → IsClockText clock seconds → moments.Spells (codes "20260105" ++ clock ++ codes "Z") (86_400 * 20_458 + seconds)
+five_january : (clock : List ℕ) (seconds : ℕ) → IsClockText clock seconds
+    → moments.SpellsMoment (codes "20260105" ++ clock ++ codes "Z") (86_400 * 20_458 + seconds)
 unfolding date_of date_from_year date_from_month
 five_january clock seconds is =
     spells_from (codes "20260105" ++ clock ++ codes "Z") (codes "20260105") clock 20_458 seconds refl (lit≤ tt) (date_text_is 20_458 (lit≤ tt)) is
 
-eleven : moments.Spells (codes "2026010511Z") 1_767_610_800
+eleven : moments.SpellsMoment (codes "2026010511Z") 1_767_610_800
 eleven = five_january (codes "11") 39_600 (lit< tt, inr (inr (refl, refl, refl)))
 
-nine : moments.Spells (codes "2026010509Z") 1_767_603_600
+nine : moments.SpellsMoment (codes "2026010509Z") 1_767_603_600
 nine = five_january (codes "09") 32_400 (lit< tt, inr (inr (refl, refl, refl)))
 
 abbrev cat : CmndItem

@@ -16,8 +16,8 @@ abbrev pub AreUsers : Text → Names → Type 0
 AreUsers bytes users = (ts : List Tok) × Lexes bytes ts × Users ts users []
 
 -- these parts, with `:` between
-abbrev pub AreParts : Text → List Part → Type 0
-AreParts bytes parts = (ts : List Tok) × Lexes bytes ts × Listed colon SpellsPart ts parts []
+abbrev pub AreColonParts : Text → List Part → Type 0
+AreColonParts bytes parts = (ts : List Tok) × Lexes bytes ts × Listed colon SpellsPart ts parts []
 
 -- these definitions, with `:` between
 abbrev pub AreDefs : {X : Type 0} → (List Tok → Signed X → List Tok → Type 0)

@@ -11,7 +11,7 @@ ghost use Rattle.sudo_policy.specs.declared.tree.Part.{Part};
 ghost use Rattle.sudo_policy.specs.declared.tags.Tag.{Tag};
 ghost use Rattle.sudo_policy.specs.declared.tree.CmndSpec.{CmndSpec};
 ghost use Rattle.sudo_syntax.specs.Alike.{SpellAlike, DifferIn, MayHaveNote, GoesOnWith};
-ghost use Rattle.sudo_syntax.specs.Apart.{AreUsers, AreParts, AreDefs, SpellsBoth};
+ghost use Rattle.sudo_syntax.specs.Apart.{AreColonParts, AreDefs, AreUsers, SpellsBoth};
 ghost use Rattle.sudo_policy.specs.Grammar.{SpellsItem, SpellsCmnd, SpellsCmndSpec};
 ghost use Rattle.sudo_policy.specs.Inheritance.{part_rules};
 ghost use Rattle.sudo_syntax.specs.Inherited.{Gives, HasRule};
@@ -66,8 +66,8 @@ pub fn tags()
 /// their own (sudoers(5), "User specification").
 pub fn joined_parts()
     ensures { (users_text first second : List ℕ) (users : Names) (parts others : List Part)
-        → AreUsers users_text users → AreParts first parts
-        → AreParts second others → SpellsBoth users_text first second }
+        → AreUsers users_text users → AreColonParts first parts
+        → AreColonParts second others → SpellsBoth users_text first second }
 {}
 
 /// Definitions joined by `:` spell what they spell on lines of their own, in each kind (sudoers(5),

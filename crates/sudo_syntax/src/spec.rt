@@ -4,7 +4,7 @@
 ghost use Rattle.std.specs.Prelude.{◌≡◌, ◌≤◌, ◌<◌, ◌∷◌, List, ℕ, Bool, length, IfOk, IfSome};
 ghost use Rattle.std.specs.Prelude.{MatchOption, MatchResult, Option, Some, None, Ok, true, false};
 ghost use Rattle.sudo_words.specs.Bytes.{colon, comma, opening};
-ghost use Rattle.sudo_words.specs.Moment.{Spells};
+ghost use Rattle.sudo_words.specs.Moment.{SpellsMoment};
 ghost use Rattle.sudo_policy.specs.declared.fault.LineFault.TheVariants.{NoMemory};
 ghost use Rattle.sudo_syntax.specs.private.Fronts.{AddsBound, Dated, NoDate, NoTag};
 ghost use Rattle.sudo_syntax.specs.private.Fronts.{Tagged, EndsBy, NoMark, NoWord};
@@ -32,8 +32,8 @@ pub(crate) struct Bounds {
 
 /// The moment that a time spells.
 fn moment_of(time: &str) -> Result<Moment, LineFault>
-    ensures found { IfOk result (λ t. Spells time.now t) }
-    ensures only { (t : ℕ) → Spells time.now t → result ≡ Ok t }
+    ensures found { IfOk result (λ t. SpellsMoment time.now t) }
+    ensures only { (t : ℕ) → SpellsMoment time.now t → result ≡ Ok t }
 {
     Moment::read(time).ok_or(LineFault::BadMoment)
 }

@@ -6,7 +6,7 @@ ghost use Rattle.std.specs.Prelude.{IfOk, IfErr, IfSome, IsSome, None, ℕ, ◌+
 ghost use Rattle.std.specs.List.{list_all};
 ghost use Rattle.sudo_policy.specs.declared.fault.LineFault.TheVariants.{NoMemory};
 ghost use Rattle.sudo_words.specs.Command as command;
-ghost use Rattle.sudo_policy.specs.private.Cuts.{is_bang, IsCut, IsFirst};
+ghost use Rattle.sudo_policy.specs.private.Cuts.{IsCut, IsFirstToken, is_bang};
 ghost use Rattle.sudo_policy.specs.Lex as lex;
 ghost use Rattle.sudo_syntax.specs.private.Tokens as lexing;
 ghost use Rattle.sudo_syntax.specs.private.Tokens.{IsBehindPart, IsWordCut};
@@ -231,7 +231,8 @@ fn no_word(bytes: &[u8]) -> LineFault {
 /// The first token, if there is one, and what follows it.
 fn next_token(bytes: &[u8]) -> Result<Option<(Token<'_>, &[u8])>, LineFault>
     ensures first { IfOk result (λ o.
-        MatchOption o (lexing.IsLast bytes.now) (λ x. IsFirst bytes.now (lexing.tok x.0) x.1.now)) }
+        MatchOption o (lexing.IsLast bytes.now)
+        (λ x. IsFirstToken bytes.now (lexing.tok x.0) x.1.now)) }
     ensures fault { IfErr result (λ e. lexing.NoLexing bytes.now) }
 {
     let (blanks, rest) = cut_blanks(bytes);

@@ -7,7 +7,7 @@ use Rattle.std.proofs.lemmas.Bool.Decides.{nat_tests}
 use Rattle.std.proofs.lemmas.List.{take_at, drop_at, get_or-append-add, get_or-append_right}
 use Rattle.jiff_core.proofs.CalendarLemmas.{day_count_bounds, days_from_civil-day_count}
 use Rattle.jiff_core.proofs.SignedLemmas.{signed_arith}
-use Rattle.sudo_words.specs.Moment.{IsMoment, IsDateText, IsClockText, IsDistance, IsOffsetText, IsStamp, Spells}
+use Rattle.sudo_words.specs.Moment.{IsClockText, IsDateText, IsDistance, IsMoment, IsOffsetText, IsStamp, SpellsMoment}
 use Rattle.sudo_words.specs.Moment.{date_of, date_text, four, hour, is_stamp_byte, minute, second, stamp, two}
 use Rattle.sudo_words.proofs.Days.{date_of_is, date_of_only, numbers_in}
 
@@ -61,7 +61,7 @@ clock_in_day t =
 
 -- a date and a time of day of UTC spell the moment of both
 pub spells_from : (text date clock : List ℕ) (days seconds : ℕ) → text ≡ date ++ clock ++ codes "Z" → days ≤ 47_481
-    → IsDateText date (pos days) → IsClockText clock seconds → Spells text (86_400 * days + seconds)
+    → IsDateText date (pos days) → IsClockText clock seconds → SpellsMoment text (86_400 * days + seconds)
 spells_from text date clock days seconds e below date_is clock_is = record {
   moment = omega (arith, clock_is.0);
   date = date;
@@ -97,7 +97,8 @@ cut_date text date clock zone day e d =
     let whole : text ≡ digits ++ clock ++ zone = e ∙ ap (λ (l : List ℕ). l ++ clock ++ zone) d.text_is in
     (ap (take 8) whole ∙ sym d.text_is, ap (drop 8) whole)
 
-pub parted : (text front rest : List ℕ) (t : ℕ) → front ≡ take 8 text → rest ≡ drop 8 text → (s : Spells text t) → (front ≡ s.date) × (rest ≡ s.clock ++ s.zone)
+pub parted : (text front rest : List ℕ) (t : ℕ) → front ≡ take 8 text → rest ≡ drop 8 text → (s : SpellsMoment text t)
+    → (front ≡ s.date) × (rest ≡ s.clock ++ s.zone)
 parted text front rest t f r s = let cut = cut_date text s.date s.clock s.zone s.day s.text_is s.date_is in (f ∙ cut.0, r ∙ cut.1)
 
 -- what ends a time is `Z`, or five bytes, the last a digit
@@ -168,11 +169,11 @@ same_parts text a x b y e f len = (
 )
 
 -- the canonical text spells its moment
-pub stamp_spells : (text : List ℕ) (t : ℕ) → IsStamp text t → Spells text t
+pub stamp_spells : (text : List ℕ) (t : ℕ) → IsStamp text t → SpellsMoment text t
 stamp_spells text t s =
     let clock = two (hour t) ++ two (minute t) ++ two (second t) in
     let clock_is : clock ≡ two (hour (t % 86_400)) ++ two (minute (t % 86_400)) ++ two (second (t % 86_400)) = clock_in_day t in
-    let whole : Spells text (86_400 * (t / 86_400) + t % 86_400) =
+    let whole : SpellsMoment text (86_400 * (t / 86_400) + t % 86_400) =
     spells_from text s.date clock (t / 86_400) (t % 86_400) (s.text_is ∙ simp append_assoc) (day_in t s.moment) s.date_is (omega arith, inl clock_is) in
     let same : 86_400 * (t / 86_400) + t % 86_400 ≡ t = omega arith in
     rw same at whole

@@ -5,7 +5,7 @@ use Rattle.std.specs.Prelude.{codes}
 use Rattle.jiff_core.specs.Calendar.{days_from_civil}
 use Rattle.jiff_core.proofs.CalendarLemmas.{days_in_month_bounds}
 use Rattle.jiff_core.proofs.SignedLemmas.{signed_arith}
-use Rattle.sudo_words.specs.Moment.{IsDateText, IsClockText, IsDistance, IsOffsetText, IsStamp, Spells, four, two, hour, minute, second}
+use Rattle.sudo_words.specs.Moment.{IsClockText, IsDateText, IsDistance, IsOffsetText, IsStamp, SpellsMoment, four, hour, minute, second, two}
 use Rattle.sudo_words.proofs.MomentLemmas.{clock_in_day, cut_date, ends, same_parts, utc_end}
 
 -- the digits at the front of a text say which number they spell, and what stands behind them
@@ -113,7 +113,7 @@ one_end text a x b y o p e h f k =
 
 -- so whatever a text spells has the day, the seconds and the offset of its parts
 pub spelled_equation : (text date clock zone : List ℕ) (day : ℤ) (seconds : ℕ) (offset : ℤ) (t : ℕ) → text ≡ date ++ clock ++ zone → IsDateText date day
-    → IsClockText clock seconds → IsOffsetText zone offset → Spells text t → pos t ≡ pos 86_400 *ℤ day +ℤ pos seconds -ℤ pos 60 *ℤ offset
+    → IsClockText clock seconds → IsOffsetText zone offset → SpellsMoment text t → pos t ≡ pos 86_400 *ℤ day +ℤ pos seconds -ℤ pos 60 *ℤ offset
 spelled_equation text date clock zone day seconds offset t e date_is clock_is zone_is s =
     let x = cut_date text date clock zone day e date_is in
     let y = cut_date text s.date s.clock s.zone s.day s.text_is s.date_is in
@@ -123,7 +123,7 @@ spelled_equation text date clock zone day seconds offset t e date_is clock_is zo
     let same_offset : offset ≡ s.offset = one_offset zone offset s.offset zone_is (rw (sym parts.1) at s.zone_is) in
     rw (same_day, same_seconds, same_offset) s.moment_is
 
-pub one_spelled : (text : List ℕ) (s t : ℕ) → Spells text s → Spells text t → s ≡ t
+pub one_spelled : (text : List ℕ) (s t : ℕ) → SpellsMoment text s → SpellsMoment text t → s ≡ t
 one_spelled text s t a b =
     let same : pos s ≡ pos t =
     a.moment_is ∙ sym (spelled_equation text a.date a.clock a.zone a.day a.seconds a.offset t a.text_is a.date_is a.clock_is a.zone_is b) in
@@ -146,7 +146,7 @@ whole_clock text seconds (low, inr (inl short)) len = absurd (omega (arith, len,
 whole_clock text seconds (low, inr (inr shortest)) len = absurd (omega (arith, len, ap length shortest.0))
 
 -- a spelling of 15 bytes that ends in `Z` has its minutes and its seconds, so it is the canonical text
-pub stamp_from_length : (text : List ℕ) (t : ℕ) → Spells text t → length text ≡ 15 → get_or text 14 0 ≡ 90 → IsStamp text t
+pub stamp_from_length : (text : List ℕ) (t : ℕ) → SpellsMoment text t → length text ≡ 15 → get_or text 14 0 ≡ 90 → IsStamp text t
 stamp_from_length text t s len last =
     let place : length text - 1 ≡ 14 = omega (arith, len) in
     let utc = utc_end text (s.date ++ s.clock) s.zone s.offset s.text_is s.zone_is (rw place last) in

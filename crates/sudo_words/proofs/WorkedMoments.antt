@@ -5,7 +5,7 @@ use Rattle.std.specs.Prelude.{codes}
 use Rattle.std.proofs.lemmas.List.{drop_at}
 use Rattle.jiff_core.proofs.CalendarLemmas.{day_count-epoch, day_count-last_of_year, day_count-next_year, days_from_civil-day_count}
 use Rattle.jiff_core.proofs.SignedLemmas.{signed_arith}
-use Rattle.sudo_words.specs.Moment.{IsMoment, IsDateText, IsClockText, IsOffsetText, Spells, date_from_month, date_from_year, date_of}
+use Rattle.sudo_words.specs.Moment.{IsClockText, IsDateText, IsMoment, IsOffsetText, SpellsMoment, date_from_month, date_from_year, date_of}
 use Rattle.sudo_words.proofs.MomentLemmas.{date_text_is, ends}
 use Rattle.sudo_words.proofs.MomentTexts.{heads_differ, spelled_equation}
 
@@ -59,7 +59,7 @@ none_behind = inr (inr (codes "0000", 0, refl, (lit< tt, refl), refl))
 -- ---- texts that spell a moment
 
 spelled : (text date clock zone : List ℕ) (day : ℤ) (seconds : ℕ) (offset : ℤ) (t : ℕ) → text ≡ date ++ clock ++ zone → IsMoment t → IsDateText date day
-    → IsClockText clock seconds → IsOffsetText zone offset → pos t ≡ pos 86_400 *ℤ day +ℤ pos seconds -ℤ pos 60 *ℤ offset → Spells text t
+    → IsClockText clock seconds → IsOffsetText zone offset → pos t ≡ pos 86_400 *ℤ day +ℤ pos seconds -ℤ pos 60 *ℤ offset → SpellsMoment text t
 spelled text date clock zone day seconds offset t e moment date_is clock_is zone_is equation = record {
   moment = moment;
   date = date;
@@ -75,34 +75,34 @@ spelled text date clock zone day seconds offset t e moment date_is clock_is zone
   moment_is = equation;
 }
 
-pub ahead : Spells (codes "20260105100000+0100") 1_767_603_600
+pub ahead : SpellsMoment (codes "20260105100000+0100") 1_767_603_600
 ahead = spelled _ (codes "20260105") (codes "100000") (codes "+0100") _ 36_000 _ 1_767_603_600 refl (lit≤ tt) five_january (lit< tt, inl refl) hour_ahead refl
 
-pub behind : Spells (codes "2026010504-0500") 1_767_603_600
+pub behind : SpellsMoment (codes "2026010504-0500") 1_767_603_600
 behind = spelled _ (codes "20260105") (codes "04") (codes "-0500") _ 14_400 _ 1_767_603_600 refl
     (lit≤ tt) five_january (lit< tt, inr (inr (refl, refl, refl))) five_hours_behind refl
 
-pub day_before_first : Spells (codes "19691231230000-0100") 0
+pub day_before_first : SpellsMoment (codes "19691231230000-0100") 0
 day_before_first = spelled _ (codes "19691231") (codes "230000") (codes "-0100") _ 82_800 _ 0 refl (lit≤ tt) day_before (lit< tt, inl refl) hour_behind refl
 
-pub last_with_plus : Spells (codes "20991231235959+0000") 4_102_444_799
+pub last_with_plus : SpellsMoment (codes "20991231235959+0000") 4_102_444_799
 last_with_plus =
     spelled _ (codes "20991231") (codes "235959") (codes "+0000") _ 86_399 _ 4_102_444_799 refl (lit≤ tt) last_day (lit< tt, inl refl) none_ahead refl
 
-pub last_with_minus : Spells (codes "20991231235959-0000") 4_102_444_799
+pub last_with_minus : SpellsMoment (codes "20991231235959-0000") 4_102_444_799
 last_with_minus =
     spelled _ (codes "20991231") (codes "235959") (codes "-0000") _ 86_399 _ 4_102_444_799 refl (lit≤ tt) last_day (lit< tt, inl refl) none_behind refl
 
 -- ---- texts that spell none
 
-pub before_first : (t : ℕ) → Spells (codes "19700101000000+0100") t → ⊥
+pub before_first : (t : ℕ) → SpellsMoment (codes "19700101000000+0100") t → ⊥
 before_first t s =
     let equation = spelled_equation (codes "19700101000000+0100") (codes "19700101") (codes "000000")
     (codes "+0100") (pos 0) 0 (pos 60) t refl first_day (lit< tt, inl refl) hour_ahead s in
     let negative : pos t ≡ negsuc 3599 = equation in
     omega (arith, signed_arith, negative)
 
-pub past_last : (t : ℕ) → Spells (codes "20991231235959-0001") t → ⊥
+pub past_last : (t : ℕ) → SpellsMoment (codes "20991231235959-0001") t → ⊥
 past_last t s =
     let equation = spelled_equation (codes "20991231235959-0001") (codes "20991231") (codes "235959")
     (codes "-0001") (pos 47_481) 86_399 (neg_ℤ (pos 1)) t refl last_day (lit< tt, inl refl) minute_behind s in
@@ -111,7 +111,7 @@ past_last t s =
 
 -- a text that does not end in `Z` ends in five bytes that say its offset
 zone_at_end : (text : List ℕ) (size : ℕ) → length text ≡ size + 5 → get_or text (size + 4) 0 < 90
-    → ((o : ℤ) → IsOffsetText (drop size text) o → ⊥) → (t : ℕ) → Spells text t → ⊥
+    → ((o : ℤ) → IsOffsetText (drop size text) o → ⊥) → (t : ℕ) → SpellsMoment text t → ⊥
 zone_at_end text size len last none t s = elim (ends text (s.date ++ s.clock) s.zone s.offset s.text_is s.zone_is) [
   | inl u ↦
       let at : length (s.date ++ s.clock) ≡ size + 4 = omega (arith, len, u.length_is) in
@@ -138,8 +138,8 @@ no_sign o (inl z) = heads_differ (codes "00+01") (codes "0+01") [] 48 90 (lit≤
 no_sign o (inr (inl h)) = heads_differ (codes "00+01") h.0 (codes "0+01") 43 48 (lit≤ tt) h.2 refl
 no_sign o (inr (inr h)) = heads_differ (codes "00+01") h.0 (codes "0+01") 45 48 (lit≤ tt) h.2 refl
 
-pub hour_24 : (t : ℕ) → Spells (codes "20260105100000+2400") t → ⊥
+pub hour_24 : (t : ℕ) → SpellsMoment (codes "20260105100000+2400") t → ⊥
 hour_24 = zone_at_end (codes "20260105100000+2400") 14 refl (lit< tt) no_hour_24
 
-pub hours_alone : (t : ℕ) → Spells (codes "20260105100000+01") t → ⊥
+pub hours_alone : (t : ℕ) → SpellsMoment (codes "20260105100000+01") t → ⊥
 hours_alone = zone_at_end (codes "20260105100000+01") 12 refl (lit< tt) no_sign

@@ -67,7 +67,7 @@ IsOffsetText text offset =
 
 -- The text spells the moment: 86,400 seconds for each day up to its date, and the seconds into that
 -- day, less 60 for each minute of its offset. The date itself may lie outside the years of moments.
-pub record Spells (text : List ℕ) (t : ℕ) : Type 0 where
+pub record SpellsMoment (text : List ℕ) (t : ℕ) : Type 0 where
   pub moment : IsMoment t
   pub date : List ℕ
   pub clock : List ℕ

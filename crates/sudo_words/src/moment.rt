@@ -43,12 +43,12 @@ impl Model for Moment {
 }
 
 impl Moment {
-    ghost use Rattle.sudo_words.specs.Moment.{IsMoment, IsStamp, Spells};
+    ghost use Rattle.sudo_words.specs.Moment.{IsMoment, IsStamp, SpellsMoment};
 
     /// The moment that the text spells, or `None` where it spells none. It takes no memory.
     pub fn read(text: &str) -> Option<Moment>
-        ensures found { IfSome result (λ t. Spells text.now t) }
-        ensures only { (t : ℕ) → Spells text.now t → result ≡ Some t }
+        ensures found { IfSome result (λ t. SpellsMoment text.now t) }
+        ensures only { (t : ℕ) → SpellsMoment text.now t → result ≡ Some t }
     {
         let (front, rest) = text.as_bytes().split_at_checked(DATE_LENGTH)?;
         let (time, end) = split_offset(rest)?;

@@ -8,7 +8,7 @@ use Rattle.suspects.specs.LookedAt.{AreKnownSuspects}
 use Rattle.store_tables.specs.Sets.{IsNothing, Lists}
 use Rattle.store_tables.specs.declared.arrival.Arrival.{Arrival}
 use Rattle.store_tables.specs.declared.arrival.Arrival.TheVariants.{New, Held}
-use Rattle.desk_store.specs.Keeping.{IsKnownOf}
+use Rattle.desk_store.specs.Keeping.{IsCountOf, IsKnownOf}
 use Rattle.desk.specs.Count.{IsCount}
 use Rattle.desk.specs.declared.loading.Known.{Known}
 use Rattle.desk.specs.declared.opening.Origin.{Origin}
@@ -40,18 +40,18 @@ abbrev pub IsKnownOfUp : (Clean Up : Type 0) → Option Known → Type 0
 IsKnownOfUp Clean Up None = Unit {0}
 IsKnownOfUp Clean Up (Some known) = Clean → Up
 
--- A desk that was made holds nothing, and what the look told of the messages of one that was found,
--- if it told anything, is known of what the desk holds.
+-- A desk that was made holds nothing. What the look told of the messages of one that was found, if
+-- it told anything, is known of what the desk holds, and so is how many they are.
 abbrev pub IsOriginOf : (Message → Type 0) → Origin → Type 0
 IsOriginOf S Made = IsNothing S
-IsOriginOf S (Found told) = IfSome told (IsKnownOf S)
+IsOriginOf S (Found told count) = IfSome told (IsKnownOf S) × IfSome count (IsCountOf S)
 
 -- At first what is gathered from no messages is known of a desk that was made, and of one that was
--- found what the look told; how many its messages are was not counted then, and no report was made.
+-- found what the look told, and how many its messages are, if it told that; no report was made.
 abbrev pub IsKnownAtFirst : Origin → Option Known → Type 0
 IsKnownAtFirst Made None = Unit {0}
 IsKnownAtFirst Made (Some known) =
     AreGathered [] known.gathered × IsCounted [] known.count × (known.suspects ≡ None)
-IsKnownAtFirst (Found told) None = Unit {0}
-IsKnownAtFirst (Found told) (Some known) =
-    (told ≡ Some known.gathered) × (known.count ≡ None) × (known.suspects ≡ None)
+IsKnownAtFirst (Found told count) None = Unit {0}
+IsKnownAtFirst (Found told count) (Some known) =
+    (told ≡ Some known.gathered) × (known.count ≡ count) × (known.suspects ≡ None)

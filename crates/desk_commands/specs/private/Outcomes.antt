@@ -10,7 +10,7 @@ use Rattle.desk_store.specs.declared.keeper.Keeper.{Ghosts}
 use Rattle.desk.specs.declared.refusal.Refusal.TheVariants as desk
 use Rattle.desk_commands.specs.Answers.{IsAnswer, IsCause}
 use Rattle.desk_commands.specs.Files.{HoldsRoster, IsFaultOf, IsRosterFault}
-use Rattle.desk_commands.specs.Kept.{Kept}
+use Rattle.desk_commands.specs.Kept.{AroundJob}
 use Rattle.desk_commands.specs.Leaving.{KeepsAfterRefusal, TellsBefore}
 use Rattle.desk_commands.specs.Printing.{HasManyLines}
 use Rattle.desk_commands.specs.Taking.{MayFailTaking}
@@ -24,7 +24,7 @@ use Rattle.desk_args.specs.declared.task.Store.{Store}
 -- It has an answer, and what is to be said beside it was said on the standard error; or it is
 -- refused for a reason that it may be refused for.
 pub record IsOutcome (job : Job) (files : List (List ℕ))
-    (k : Kept) (input : Option (List ℕ)) (result : Result Answer JobRefusal)
+    (k : AroundJob) (input : Option (List ℕ)) (result : Result Answer JobRefusal)
     (err_before err_after : Option (List ℕ)) : Type 0 where
   pub found : IfOk result (λ a. (said : List ℕ) × IsAnswer job files k input a.status
       (string_bytes a.text) said × Appends err_before err_after said)
@@ -32,7 +32,7 @@ pub record IsOutcome (job : Job) (files : List (List ℕ))
 
 -- What a job leaves if it is refused for a cause: at the keeper, and on the standard error before
 -- the line that says so.
-pub record IsLeft (job : Job) (files : List (List ℕ)) (k : Kept) (Same : Type 0)
+pub record IsLeft (job : Job) (files : List (List ℕ)) (k : AroundJob) (Same : Type 0)
     (input err_before err_after : Option (List ℕ)) : Type 0 where
   pub kept : k.up → KeepsAfterRefusal job files k Same input
   pub told : TellsBefore job files input err_before err_after

@@ -1,5 +1,6 @@
 -- What a keeper tells of what a database is found to keep.
-use Rattle.std.specs.Prelude.{◌≡◌, IfSome}
+use Rattle.std.specs.Prelude.{◌≡◌, ◌≢◌, ℕ, List, AllPairs, IfSome, length}
+use Rattle.messages.specs.declared.message.Message.{Message}
 use Rattle.outcomes.specs.Gathered.{AreGathered}
 use Rattle.store_opening.specs.declared.in_database.Contents.{Contents}
 use Rattle.store_opening.specs.declared.in_database.InDatabase.{InDatabase}
@@ -8,10 +9,15 @@ use Rattle.desk_store.specs.declared.found.Found.{Found}
 use Rattle.desk_store.specs.declared.found.Found.TheVariants as found
 use Rattle.desk_store.specs.declared.found.FoundDesk.{FoundDesk}
 
--- the desk's roster, and what is known of its messages, if something is
+-- the list has so many messages, no two of which are the same
+abbrev pub IsCountIn : List Message → ℕ → Type 0
+IsCountIn list n = AllPairs (λ x y. x ≢ y) list × (length list ≡ n)
+
+-- the desk's roster, what is known of its messages, and how many they are, if that is told
 pub record ShowsDesk (c : Contents) (desk : FoundDesk) : Type 0 where
   pub roster : desk.roster ≡ c.roster
   pub known : IfSome desk.known (AreGathered c.messages.items)
+  pub count : IfSome desk.count (IsCountIn c.messages.items)
 
 abbrev pub IsShown : InDatabase → Found → Type 0
 IsShown database.Empty told = told ≡ found.Empty

@@ -19,7 +19,7 @@ pub record IsCut (p : ℕ → Bool) (bytes front rest : List ℕ) : Type 0 where
   pub stops : Stops p rest
 
 -- The bytes are read as this token and then the rest, and in no other way.
-pub record IsFirst (bytes : List ℕ) (t : Tok) (rest : List ℕ) : Type 0 where
+pub record IsFirstToken (bytes : List ℕ) (t : Tok) (rest : List ℕ) : Type 0 where
   pub adds : (ts : List Tok) → Lexes rest ts → Lexes bytes (t ∷ ts)
   pub only : (ts : List Tok) → Lexes bytes ts
       → (more : List Tok) × (ts ≡ t ∷ more) × Lexes rest more

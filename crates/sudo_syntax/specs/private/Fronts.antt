@@ -66,7 +66,7 @@ begins_upper (b ∷ bs) = is_upper b
 abbrev pub AddsBound : (before after : Option ℕ)
     → (name time : List ℕ) → (new_before new_after : Option ℕ) → Type 0
 AddsBound before after name time new_before new_after =
-    (moment : ℕ) × moments.Spells time moment
+    (moment : ℕ) × moments.SpellsMoment time moment
     × GivesBound before after (record { word = name; moment = moment }) new_before new_after
 
 -- options that give these bounds, after options that gave others

@@ -1,6 +1,6 @@
 -- The lines of a text that are still to be read, and the front that the lines before them left if
 -- the last of those goes on. For private clauses.
-use Rattle.std.specs.Prelude.{◌≡◌, ◌≢◌, ◌<◌, ◌⊎◌, List, [], ◌∷◌, ◌++◌, length}
+use Rattle.std.specs.Prelude.{◌≡◌, ◌<◌, ◌⊎◌, List, [], ◌∷◌, ◌++◌, length}
 use Rattle.sudo_policy.specs.declared.entry.Entry.{Entry}
 use Rattle.sudo_policy.specs.declared.fault.FaultKind.{FaultKind}
 use Rattle.sudo_policy.specs.declared.fault.FaultKind.TheVariants.{Line}

@@ -1,12 +1,10 @@
 use Rattle.std.proofs.Common.{◌≡◌, ◌∙◌, refl, sym, subst, inl, inr, rules}
-use Rattle.std.specs.Prelude.{Option, IfSome, string_bytes}
-use Rattle.outcomes.specs.Gathered.{Known}
-use Rattle.desk_store.specs.Keeping.{IsKnownOf}
+use Rattle.std.specs.Prelude.{string_bytes}
 use Rattle.desk_store.proofs.OutcomeLemmas.{ok_no_err}
 use Rattle.desk_store.proofs.ServingLemmas.{not_err, served_after, served_at_ok}
 use Rattle.desk.proofs.CrashLemmas.{kept_by_opening, leaves_same, made_by_opening}
 use Rattle.desk.proofs.LeftLemmas.{adds_as, adds_none, is_desk, is_old_desk, none_then_adds, told_live}
-use Rattle.desk.proofs.OpeningLemmas.{told_desk, told_empty, told_no_desk, told_old, told_still}
+use Rattle.desk.proofs.OpeningLemmas.{origin_still, told_desk, told_empty, told_no_desk, told_old}
 use Rattle.desk.proofs.RefusalLemmas.{handed_on, told_no_base, told_want}
 use Rattle.desk.proofs.opening.find_or_make.Goals as goal
 
@@ -148,9 +146,8 @@ returns-in-Desk-clause-first g c up =
     let same = c.look.ensures.same up in
     let told = told_desk (K.is_empty old) (K.is_desk old) (K.is_old old)
     (K.roster old) c.in_ok-look.field-0 c.in-Desk.desk c.in-Desk.is (c.in_ok-look.ensures.found up) in
-    let known = told_still (K.holds old) (K.holds new) c.in_ok-look.field-0 c.in-Desk.desk c.in-Desk.is
-    (laws.stays_set old new same told.0) (c.in_ok-look.ensures.known up) in
-    subst (λ (known : Option Known). IfSome known (IsKnownOf (K.holds new))) (sym c.known_in.ensures) known
+    origin_still (K.holds old) (K.holds new) c.in_ok-look.field-0 c.in-Desk.desk c.origin_of.result c.in-Desk.is c.origin_of.ensures
+    (laws.stays_set old new same told.0) (c.in_ok-look.ensures.known up) (c.in_ok-look.ensures.counted up)
 
 pub returns-in-Desk-clause-opens : goal.returns-in-Desk-clause-opens
 returns-in-Desk-clause-opens g c = λ up.

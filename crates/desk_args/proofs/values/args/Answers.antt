@@ -3,7 +3,7 @@ use Rattle.std.specs.List.{list_all}
 use Rattle.sudo_words.specs.Word.{is_arg}
 use Rattle.std.proofs.lemmas.Result.{IfOk-weaker}
 use Rattle.clap.specs.Words.{Text, found_of, rows_of}
-use Rattle.desk_args.specs.CommandLine.{HasWords, values}
+use Rattle.desk_args.specs.CommandLine.{HasWords, given_values}
 use Rattle.desk_args.proofs.Args.{length-texts}
 use Rattle.desk_args.proofs.Rows.{some_values}
 use Rattle.desk_args.proofs.values.args.Goals as goal
@@ -16,7 +16,7 @@ returns-then-texts-gt-MOST_ARGS-clause-only c = λ v h.
 
 pub returns-then-texts-gt-MOST_ARGS-clause-word : goal.returns-then-texts-gt-MOST_ARGS-clause-word
 returns-then-texts-gt-MOST_ARGS-clause-word c = λ e.
-    let count : length c.in-Some.texts.now ≡ length (values c.args.id.now (rows_of (found_of c.args.matches.now))) =
+    let count : length c.in-Some.texts.now ≡ length (given_values c.args.id.now (rows_of (found_of c.args.matches.now))) =
     length-texts c.in-Some.texts.now _ (some_values c.args.matches.now c.args.id.now _ c.in-Some.ensures) in
     inl (omega arith)
 

@@ -1,4 +1,4 @@
-use Rattle.std.proofs.Common.{IfOk, List, subst}
+use Rattle.std.proofs.Common.{IfOk, subst}
 use Rattle.std.specs.List.{Contains}
 use Rattle.std.proofs.lemmas.Result.{IfOk-weaker}
 use Rattle.messages.specs.Names.{SameMessages}

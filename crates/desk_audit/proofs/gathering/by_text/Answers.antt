@@ -1,7 +1,6 @@
 use Rattle.std.proofs.Common.{◌≡◌, ◌∷◌, ◌++◌, [], ◌∙◌, length, List, ap, append_assoc, arith, sym, rules}
 use Rattle.std.specs.Vec.Iter.{into_iter_items}
 use Rattle.messages.specs.declared.message.Message.{Message}
-use Rattle.desk_audit.specs.private.ByText.{AreByText}
 use Rattle.desk_audit.proofs.ByTextLemmas.{all_put, none_by_text, one_more_text}
 use Rattle.desk_audit.proofs.gathering.by_text.Goals as goal
 

@@ -5,5 +5,12 @@ use Rattle.desk_store.specs.private.Showing.{IsShown}
 use Rattle.desk_store.proofs.sqlite_keeper.shown.Goals as goal
 
 pub returns-in-Desk : goal.returns-in-Desk
-returns-in-Desk c = subst (λ (f : InDatabase). IsShown f (found.Desk c.shown_desk.result)) (sym c.in-Desk.is)
-    (c.shown_desk.result, refl, record { roster = c.shown_desk.ensures.roster; known = c.shown_desk.ensures.known })
+returns-in-Desk c = subst (λ (f : InDatabase). IsShown f (found.Desk c.shown_desk.result)) (sym c.in-Desk.is) (
+  c.shown_desk.result,
+  refl,
+  record {
+    roster = c.shown_desk.ensures.roster;
+    known = c.shown_desk.ensures.known;
+    count = c.shown_desk.ensures.count;
+  },
+)

@@ -1,6 +1,6 @@
 use Rattle.std.proofs.Common.{◌≡◌, ℕ, List, sym, subst, ap, ◌∙◌, cond, Bool, true, codes, Result, Ok, Err}
 use Rattle.relay_http.specs.Request.{Action, action_of, grants, host_file_after, named_request, refused, report, requests_after}
-use Rattle.relay_http.specs.Content.{content_of}
+use Rattle.relay_http.specs.Content.{content_by_fields}
 use Rattle.relay_http.specs.Fields.{Fields}
 use Rattle.relay_http.specs.Routes.{second_parameter, parameter}
 use Rattle.relay_http.specs.Stages.{cut, size_of}
@@ -112,5 +112,5 @@ returns-in-Messages c =
     → (fields : Fields) → c.args.size ≡ size_of fields → Dates (by_method p method named fields c.args.rest.now) action)
     (sym c.in-Messages.is)
     (λ named takes _ fields sized. delivered_by (allow Post method) (named (codes "relay")) c.args.taken.now c.args.rest.now
-    (content_of fields c.args.rest.now) c.args.size action allowed takes
+    (content_by_fields fields c.args.rest.now) c.args.size action allowed takes
     (content_is fields c.args.rest.now ∙ ap (λ (s : Result ℕ RequestFault). cut s c.args.rest.now) (sym sized)) c.delivery.ensures)

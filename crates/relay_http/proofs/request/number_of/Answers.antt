@@ -1,4 +1,4 @@
-use Rattle.std.proofs.Common.{◌≡◌, ℕ, Some, None, sym, ap, ◌∙◌, subst}
+use Rattle.std.proofs.Common.{◌≡◌, ℕ, Some, sym, subst}
 use Rattle.relay_http.specs.RequestBytes.{IsNumber}
 use Rattle.relay_http.proofs.NumberLemmas.{read_number}
 use Rattle.relay_http.proofs.request.number_of.Goals as goal

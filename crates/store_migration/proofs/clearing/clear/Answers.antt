@@ -9,6 +9,6 @@ returns-then-is_empty-clause-cleared g c clean inside =
     let a = state g.S.Store c.args.tx.now.conn.now in
     let b = state g.S.Store c.delete.new.tx.conn.now in
     let d = state g.S.Store c.rows_left.new.tx.conn.now in
-    let gone = c.in_ok-delete.ensures.deleted (clean_before b d _ c.rows_left.ensures.step.survives clean) inside in
+    let gone = c.in_ok-delete.ensures.deleted (clean_before b d _ c.rows_left.ensures.step.states.survives clean) inside in
     let none : (length c.in_ok-rows.rows.items == 0) ≡ true = search rules in
     cleared c.args.part a b d c.in_ok-rows.rows.items gone (c.in_ok-rows.ensures.left clean gone.inside.mode) none

@@ -9,8 +9,8 @@ returns-clause-moved g c clean inside =
     let s1 = state g.S.Store c.prepare.new.tx.conn.now in
     let s2 = state g.S.Store c.put_roster.new.tx.conn.now in
     let s3 = state g.S.Store c.refill_rows.new.tx.conn.now in
-    let clean2 = clean_before s2 s3 _ c.refill_rows.ensures.step.survives clean in
-    let clean1 = clean_before s1 s2 _ c.put_roster.ensures.survives clean2 in
+    let clean2 = clean_before s2 s3 _ c.refill_rows.ensures.step.states.survives clean in
+    let clean1 = clean_before s1 s2 _ c.put_roster.ensures.step.states.survives clean2 in
     let one = c.in_ok-prepare.ensures.prepared clean1 inside in
     let two = c.in_ok-put_roster.ensures.marked clean2 one.mode in
     on_ok c.refill_rows.result _ _ (moved c.args.roster.now c.args.messages.now s0 s1 s2 s3 c.utf8.roster one two)

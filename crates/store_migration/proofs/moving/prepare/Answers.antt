@@ -8,5 +8,5 @@ returns-clause-prepared g c clean inside =
     let a = state g.S.Store c.args.tx.now.conn.now in
     let b = state g.S.Store c.clear_all.new.tx.conn.now in
     let d = state g.S.Store c.add_table.new.tx.conn.now in
-    let empties = c.in_ok-clear_all.ensures.emptied (clean_before b d _ c.add_table.ensures.step.survives clean) inside in
+    let empties = c.in_ok-clear_all.ensures.emptied (clean_before b d _ c.add_table.ensures.step.states.survives clean) inside in
     prepared a b d empties (c.in_ok-add_table.ensures.added clean empties.mode)

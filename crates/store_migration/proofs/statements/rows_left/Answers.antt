@@ -1,5 +1,5 @@
 use Rattle.sqlite.specs.Held.{state}
-use Rattle.store_tables.proofs.QueryLemmas.{keeps_query}
+use Rattle.store_tables.proofs.QueryLemmas.{query_steps}
 use Rattle.store_migration.proofs.EmptyLemmas.{rows_shown}
 use Rattle.store_migration.proofs.statements.rows_left.Goals as goal
 
@@ -10,7 +10,7 @@ returns-clause-left g c clean inside =
 
 pub returns-clause-step : goal.returns-clause-step
 returns-clause-step g c = record {
-  survives = c.query_all.ensures.survives;
-  kept = λ clean inside. keeps_query _ _ (state g.S.Store c.args.tx.now.conn.now)
-      (state g.S.Store c.query_all.new.self.conn.now) c.query_all.result inside (c.query_all.ensures.ok clean) (c.query_all.ensures.err clean);
+  same_reference = c.query_all.ensures.same_reference;
+  states = query_steps _ _ (state g.S.Store c.args.tx.now.conn.now) (state g.S.Store c.query_all.new.self.conn.now)
+      c.query_all.result c.query_all.ensures.survives c.query_all.ensures.ok c.query_all.ensures.err;
 }

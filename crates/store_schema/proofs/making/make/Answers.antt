@@ -15,7 +15,7 @@ returns-clause-survives g c =
     let last = state g.S.Store c.fill.new.tx.conn.now in
     let end = state g.S.Store c.commit.new.self.0 in
     let begun = c.transaction-tx.ensures.begun in
-    let step = rw begun at c.fill.ensures.step in
+    let step = rw begun at c.fill.ensures.step.states in
     let filled = λ (clean : HasCleanDisk last). (rw begun at c.in_ok-fill.ensures.filled) clean refl in
     let same : c.commit.new.self.0 ≡ c.conn-2-1.given.0 = search rules in
     subst (λ h. Survives old (state g.S.Store h) (λ trees. IsUp old × FoundsAt roster old.now trees)) same

@@ -7,8 +7,5 @@ use Rattle.store_tables.proofs.arrival.count_verdict.Goals as goal
 pub returns-clause-turned : goal.returns-clause-turned
 returns-clause-turned g c clean inside =
     counts_verdict c.args.verdict.now _ _ _ _ _ (state g.S.Store c.args.tx.now.conn.now) (state g.S.Store c.put_verdict.new.tx.conn.now)
-    (c.as_str.ensures.value ∙ c.of.ensures.value) (c.as_str-2.ensures.value ∙ c.by.ensures.value) (c.word_of.ensures ∙ ap kind_text c.kind.ensures.value)
+    (c.as_str.ensures.value ∙ c.of.ensures.value) (c.as_str-2.ensures.value ∙ c.by.ensures.value) (c.word.ensures ∙ ap kind_text c.kind.ensures.value)
     c.no.ensures.value (c.secs-at.ensures.value ∙ c.at.ensures.value) (c.in_ok-put_verdict.ensures.wrote clean inside)
-
-pub returns-clause-step : goal.returns-clause-step
-returns-clause-step g c = record { survives = c.put_verdict.ensures.survives; kept = c.put_verdict.ensures.kept }

@@ -12,6 +12,6 @@ loop-row-preserved g c =
     let rows = c.args.rows.now in
     let row = c.row-item.result in
     let more = take_more rows c.loop-row.row-index row c.loop-row-test.true ∙ ap (λ x. take c.loop-row.row-index rows ++ x ∷ []) (sym c.row-item.is) in (
-      c.join_one.ensures.same_reference ∙ c.loop-row.invariant.0,
-      joining_more _ _ row a b d more c.loop-row.invariant.1 c.join_one.ensures.step (λ clean inside. c.in_ok-join_one.ensures.turned clean inside),
+      c.join_one.ensures.step.same_reference ∙ c.loop-row.invariant.0,
+      joining_more _ _ row a b d more c.loop-row.invariant.1 c.join_one.ensures.step.states (λ clean inside. c.in_ok-join_one.ensures.turned clean inside),
     )

@@ -16,8 +16,8 @@ returns-clause-joined g c clean inside =
     let b = state g.S.Store c.parked_of.new.tx.conn.now in
     let mid = state g.S.Store c.join.new.tx.conn.now in
     let d = state g.S.Store c.take_parked.new.tx.conn.now in
-    let clean_c = clean_before mid d _ c.take_parked.ensures.survives clean in
-    let clean_b = clean_before b mid _ c.join.ensures.step.survives clean_c in
+    let clean_c = clean_before mid d _ c.take_parked.ensures.step.states.survives clean in
+    let clean_b = clean_before b mid _ c.join.ensures.step.states.survives clean_c in
     let finds = subst (λ n. FindsParked n c.in_ok-rows.rows.items a b)
     (name_is q _ _ (c.as_str.ensures.value ∙ c.by.ensures.value) c.no.ensures.value) (c.in_ok-rows.ensures.finds clean_b inside) in
     let joined =

@@ -14,8 +14,8 @@ returns-clause-turned g c clean inside =
     let b = state g.S.Store c.has_name.new.tx.conn.now in
     let mid = state g.S.Store c.take_name.new.tx.conn.now in
     let d = state g.S.Store c.put_name.new.tx.conn.now in
-    let clean_c = clean_before mid d _ c.put_name.ensures.survives clean in
-    let clean_b = clean_before b mid _ c.take_name.ensures.survives clean_c in
+    let clean_c = clean_before mid d _ c.put_name.ensures.step.states.survives clean in
+    let clean_b = clean_before b mid _ c.take_name.ensures.step.states.survives clean_c in
     let finds = subst (λ n. Finds n c.in_ok-disputed.disputed a b)
     (name_is q _ _ (c.as_str.ensures.value ∙ c.by.ensures.value) c.no.ensures.value) (c.in_ok-disputed.ensures.finds clean_b inside) in
     let lost = subst (λ n. Wrote (Rattle.std.proofs.Common.codes "names") (Loses (OfName 0 n)) b mid)

@@ -8,6 +8,6 @@ returns-clause-settled g c clean inside =
     let a = state g.S.Store c.args.tx.now.conn.now in
     let b = state g.S.Store c.rename.new.tx.conn.now in
     let d = state g.S.Store c.join_parked.new.tx.conn.now in
-    let clean_b = clean_before b d _ c.join_parked.ensures.step.survives clean in
+    let clean_b = clean_before b d _ c.join_parked.ensures.step.states.survives clean in
     let turned = c.in_ok-rename.ensures.turned clean_b inside in
     on_ok c.join_parked.result _ _ (request_settled c.args.request.now c.rename.ensures.request a b d turned) (c.join_parked.ensures.joined clean turned.mode)

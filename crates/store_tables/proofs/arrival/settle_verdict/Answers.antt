@@ -10,7 +10,7 @@ returns-then-branch-clause-settled g c clean inside =
     let old = state g.S.Store c.args.tx.now.conn.now in
     let mid = state g.S.Store c.has_name.new.tx.conn.now in
     let new = state g.S.Store c.count_verdict.new.tx.conn.now in
-    let honest = clean_before mid new _ c.count_verdict.ensures.step.survives clean in
+    let honest = clean_before mid new _ c.count_verdict.ensures.step.states.survives clean in
     let finds = subst (λ n. Finds n c.in_ok-has_name.field-0 old mid)
     (meant_is v _ _ (c.as_str.ensures.value ∙ c.of.ensures.value) c.no.ensures.value) (c.in_ok-has_name.ensures.finds honest inside) in
     on_ok c.count_verdict.result _ _ (verdict_counted v c.of.ensures.verdict c.in_ok-has_name.field-0 old mid new finds c.if-branch.true)
@@ -22,7 +22,7 @@ returns-else-branch-clause-settled g c clean inside =
     let old = state g.S.Store c.args.tx.now.conn.now in
     let mid = state g.S.Store c.has_name.new.tx.conn.now in
     let new = state g.S.Store c.park.new.tx.conn.now in
-    let honest = clean_before mid new _ c.park.ensures.step.survives clean in
+    let honest = clean_before mid new _ c.park.ensures.step.states.survives clean in
     let finds = subst (λ n. Finds n c.in_ok-has_name.field-0 old mid)
     (meant_is v _ _ (c.as_str.ensures.value ∙ c.of.ensures.value) c.no.ensures.value) (c.in_ok-has_name.ensures.finds honest inside) in
     on_ok c.park.result _ _ (verdict_parked v c.of.ensures.verdict c.in_ok-has_name.field-0 old mid new finds c.if-branch.false)

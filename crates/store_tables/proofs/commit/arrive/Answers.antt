@@ -22,7 +22,7 @@ returns g c =
     let last = state g.S.Store c.receive.new.tx.conn.now in
     let end = state g.S.Store c.commit.new.self.0 in
     let begun = c.transaction-tx.ensures.begun in
-    let step = rw begun at c.receive.ensures.step in
+    let step = rw begun at c.receive.ensures.step.states in
     let received = λ (clean : HasCleanDisk last). (rw begun at c.in_ok-arrival.ensures.received) clean refl in
     let told = λ (clean : HasCleanDisk last). (rw begun at c.in_ok-arrival.ensures.told) clean refl in
     let ok = λ (clean : HasCleanDisk end). let it = c.in_ok-commit.ensures.ok clean in
@@ -61,7 +61,7 @@ returns-in_err-commit-clause-survives g c =
     let last = state g.S.Store c.receive.new.tx.conn.now in
     let end = state g.S.Store c.commit.new.self.0 in
     let begun = c.transaction-tx.ensures.begun in
-    let step = rw begun at c.receive.ensures.step in
+    let step = rw begun at c.receive.ensures.step.states in
     let received = λ (clean : HasCleanDisk last). (rw begun at c.in_ok-arrival.ensures.received) clean refl in
     let same : c.commit.new.self.0 ≡ c.conn-2-1.given.0 = search rules in
     subst (λ h. Survives old (state g.S.Store h) (λ trees. IsUp old × ArrivesAt text old.now trees)) same
@@ -91,7 +91,7 @@ returns-in_err-commit-clause-explained g c up clean there =
     let same : c.commit.new.self.0 ≡ c.conn-2-1.given.0 = search rules in
     let clean_end = subst (λ h. HasCleanDisk (state g.S.Store h)) (sym same) clean in
     let clean_last = clean_before last end _ c.commit.ensures.survives clean_end in
-    let step = rw begun at c.receive.ensures.step in
+    let step = rw begun at c.receive.ensures.step.states in
     let received = (rw begun at c.in_ok-arrival.ensures.received) clean_last refl in
     rw (p.1, p.2) (subst (λ h. IsExplained old (state g.S.Store h) (fault.Database c.in_err-commit.field-0.0)) same
     (explained_commit old last end _ c.commit.ensures.survives step c.in_err-commit.field-0.0 up clean_last received.mode

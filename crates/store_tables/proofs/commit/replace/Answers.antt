@@ -16,7 +16,7 @@ returns g c =
     let last = state g.S.Store c.replace_within.new.tx.conn.now in
     let end = state g.S.Store c.commit.new.self.0 in
     let begun = c.transaction-tx.ensures.begun in
-    let step = rw begun at c.replace_within.ensures.step in
+    let step = rw begun at c.replace_within.ensures.step.states in
     let received = λ (clean : HasCleanDisk last). (rw begun at c.in_ok-replace_within.ensures.replaced) clean refl in
     let ok = λ (clean : HasCleanDisk end). let it = c.in_ok-commit.ensures.ok clean in
     let both : IsTrue last.in_transaction × Shows last end last.now last.now false = (it.0, it.1) in
@@ -50,7 +50,7 @@ returns-in_err-commit-clause-survives g c =
     let last = state g.S.Store c.replace_within.new.tx.conn.now in
     let end = state g.S.Store c.commit.new.self.0 in
     let begun = c.transaction-tx.ensures.begun in
-    let step = rw begun at c.replace_within.ensures.step in
+    let step = rw begun at c.replace_within.ensures.step.states in
     let received = λ (clean : HasCleanDisk last). (rw begun at c.in_ok-replace_within.ensures.replaced) clean refl in
     let same : c.commit.new.self.0 ≡ c.conn-2-1.given.0 = search rules in
     subst (λ h. Survives old (state g.S.Store h) (λ trees. IsUp old × ChangesAt roster old.now trees)) same (replace_survives roster old last end

@@ -15,8 +15,8 @@ loop-message-preserved g c =
     let within = c.loop-message-test.true in
     let at = c.message-item.is in
     let more = take_more ms i m within ∙ ap (λ x. take i ms ++ x ∷ []) (sym at) in (
-      c.refill_one.ensures.same_reference ∙ c.loop-message.invariant.0,
+      c.refill_one.ensures.step.same_reference ∙ c.loop-message.invariant.0,
       refilling_more _ _ m a b d more (known_at ms i m c.requires.messages within at)
           (λ n there. (known_before ms i n c.requires.messages there, before_differs ms i m c.requires.once within at n there))
-          c.loop-message.invariant.1 c.refill_one.ensures.step (λ clean inside. c.in_ok-refill_one.ensures.settled clean inside),
+          c.loop-message.invariant.1 c.refill_one.ensures.step.states (λ clean inside. c.in_ok-refill_one.ensures.settled clean inside),
     )

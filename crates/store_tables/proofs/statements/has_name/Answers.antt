@@ -8,7 +8,7 @@ use Rattle.store_tables.specs.Rows.{IsRow}
 use Rattle.store_tables.specs.private.Changes.{Tells}
 use Rattle.store_tables.specs.Kept.{table_in}
 use Rattle.store_tables.specs.private.Stepping.{Finds}
-use Rattle.store_tables.proofs.QueryLemmas.{asks_inside, keeps_query, names_plain, shown_same}
+use Rattle.store_tables.proofs.QueryLemmas.{asks_inside, query_steps, names_plain, shown_same}
 use Rattle.store_tables.proofs.StepLemmas.{name_told}
 use Rattle.store_tables.proofs.Where.{names_select}
 use Rattle.store_tables.proofs.statements.has_name.Goals as goal
@@ -27,10 +27,16 @@ returns-clause-finds g c clean inside =
     step (record { by = c.args.asker.now; no = c.args.number }) (state g.S.Store c.args.tx.now.conn.now) (state g.S.Store c.query_all.new.self.conn.now)
     c.in_ok-rows.rows.items c.is_empty.result inside (rw (c.params-to_sql.ensures, c.params-to_sql-2.ensures) at (c.in_ok-rows.ensures.ok clean)) (search rules)
 
-pub returns-clause-kept : goal.returns-clause-kept
-returns-clause-kept g c clean inside = keeps_query _ _ (state g.S.Store c.args.tx.now.conn.now)
-    (state g.S.Store c.query_all.new.self.conn.now) c.query_all.result inside (c.query_all.ensures.ok clean) (c.query_all.ensures.err clean)
+pub returns-clause-step : goal.returns-clause-step
+returns-clause-step g c = record {
+  same_reference = c.query_all.ensures.same_reference;
+  states = query_steps _ _ (state g.S.Store c.args.tx.now.conn.now) (state g.S.Store c.query_all.new.self.conn.now)
+      c.query_all.result c.query_all.ensures.survives c.query_all.ensures.ok c.query_all.ensures.err;
+}
 
-pub returns-in_err-rows-clause-kept : goal.returns-in_err-rows-clause-kept
-returns-in_err-rows-clause-kept g c clean inside = keeps_query _ _ (state g.S.Store c.args.tx.now.conn.now)
-    (state g.S.Store c.query_all.new.self.conn.now) c.query_all.result inside (c.query_all.ensures.ok clean) (c.query_all.ensures.err clean)
+pub returns-in_err-rows-clause-step : goal.returns-in_err-rows-clause-step
+returns-in_err-rows-clause-step g c = record {
+  same_reference = c.query_all.ensures.same_reference;
+  states = query_steps _ _ (state g.S.Store c.args.tx.now.conn.now) (state g.S.Store c.query_all.new.self.conn.now)
+      c.query_all.result c.query_all.ensures.survives c.query_all.ensures.ok c.query_all.ensures.err;
+}

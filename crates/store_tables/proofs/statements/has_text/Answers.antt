@@ -8,7 +8,7 @@ use Rattle.store_tables.specs.Stored.{tree_of}
 use Rattle.store_tables.specs.private.Stepping.{FindsText}
 use Rattle.store_tables.proofs.CauseLemmas.{explained}
 use Rattle.store_tables.proofs.Found.{text_select, text_selects, text_told}
-use Rattle.store_tables.proofs.QueryLemmas.{asks_inside, keeps_query, shown_same}
+use Rattle.store_tables.proofs.QueryLemmas.{asks_inside, query_steps, shown_same}
 use Rattle.store_tables.proofs.TextSets.{contains_bodies}
 use Rattle.store_tables.proofs.statements.has_text.Goals as goal
 
@@ -28,13 +28,19 @@ returns-clause-finds g c clean inside =
     step c.args.text.now (state g.S.Store c.args.tx.now.conn.now) (state g.S.Store c.query_all.new.self.conn.now)
     c.in_ok-rows.rows.items c.is_empty.result inside (rw c.params-to_sql.ensures at (c.in_ok-rows.ensures.ok clean)) (search rules)
 
-pub returns-clause-kept : goal.returns-clause-kept
-returns-clause-kept g c clean inside = keeps_query _ _ (state g.S.Store c.args.tx.now.conn.now)
-    (state g.S.Store c.query_all.new.self.conn.now) c.query_all.result inside (c.query_all.ensures.ok clean) (c.query_all.ensures.err clean)
+pub returns-clause-step : goal.returns-clause-step
+returns-clause-step g c = record {
+  same_reference = c.query_all.ensures.same_reference;
+  states = query_steps _ _ (state g.S.Store c.args.tx.now.conn.now) (state g.S.Store c.query_all.new.self.conn.now)
+      c.query_all.result c.query_all.ensures.survives c.query_all.ensures.ok c.query_all.ensures.err;
+}
 
-pub returns-in_err-rows-clause-kept : goal.returns-in_err-rows-clause-kept
-returns-in_err-rows-clause-kept g c clean inside = keeps_query _ _ (state g.S.Store c.args.tx.now.conn.now)
-    (state g.S.Store c.query_all.new.self.conn.now) c.query_all.result inside (c.query_all.ensures.ok clean) (c.query_all.ensures.err clean)
+pub returns-in_err-rows-clause-step : goal.returns-in_err-rows-clause-step
+returns-in_err-rows-clause-step g c = record {
+  same_reference = c.query_all.ensures.same_reference;
+  states = query_steps _ _ (state g.S.Store c.args.tx.now.conn.now) (state g.S.Store c.query_all.new.self.conn.now)
+      c.query_all.result c.query_all.ensures.survives c.query_all.ensures.ok c.query_all.ensures.err;
+}
 
 pub returns-in_err-rows-clause-explained : goal.returns-in_err-rows-clause-explained
 returns-in_err-rows-clause-explained g c clean inside =

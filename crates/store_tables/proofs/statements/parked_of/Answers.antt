@@ -7,7 +7,7 @@ use Rattle.sqlite.specs.State.{State, Shown}
 use Rattle.sqlite.specs.Held.{state}
 use Rattle.messages.specs.declared.request_name.RequestName.{RequestName}
 use Rattle.store_tables.specs.private.Stepping.{FindsParked}
-use Rattle.store_tables.proofs.QueryLemmas.{asks_inside, keeps_query, parked_plain, shown_same}
+use Rattle.store_tables.proofs.QueryLemmas.{asks_inside, query_steps, parked_plain, shown_same}
 use Rattle.store_tables.proofs.StepLemmas.{parked_shown}
 use Rattle.store_tables.proofs.Where.{parked_select}
 use Rattle.store_tables.proofs.statements.parked_of.Goals as goal
@@ -26,6 +26,9 @@ returns-clause-finds g c clean inside =
     step (record { by = c.args.asker.now; no = c.args.number }) (state g.S.Store c.args.tx.now.conn.now) (state g.S.Store c.query_all.new.self.conn.now)
     c.query_all.result inside (rw (c.params-to_sql.ensures, c.params-to_sql-2.ensures) at (c.query_all.ensures.ok clean))
 
-pub returns-clause-kept : goal.returns-clause-kept
-returns-clause-kept g c clean inside = keeps_query _ _ (state g.S.Store c.args.tx.now.conn.now)
-    (state g.S.Store c.query_all.new.self.conn.now) c.query_all.result inside (c.query_all.ensures.ok clean) (c.query_all.ensures.err clean)
+pub returns-clause-step : goal.returns-clause-step
+returns-clause-step g c = record {
+  same_reference = c.query_all.ensures.same_reference;
+  states = query_steps _ _ (state g.S.Store c.args.tx.now.conn.now) (state g.S.Store c.query_all.new.self.conn.now)
+      c.query_all.result c.query_all.ensures.survives c.query_all.ensures.ok c.query_all.ensures.err;
+}

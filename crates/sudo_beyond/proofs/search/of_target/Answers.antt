@@ -1,7 +1,7 @@
 use Rattle.std.proofs.Common.{ℕ, List, map, sym, ap, ◌∙◌, subst}
 use Rattle.sudo_decide.specs.declared.invocation.Invocation.{Invocation}
 use Rattle.sudo_compiled.specs.declared.plain.PlainRule.{PlainRule}
-use Rattle.sudo_compiled.specs.Compiled.{SameNames, AnswerAlike}
+use Rattle.sudo_compiled.specs.Compiled.{AnswerAlikeFor, SameNames}
 use Rattle.sudo_beyond.specs.Cases.{of_run, of_target, invocation_of}
 use Rattle.sudo_beyond.specs.Answer.{FirstOf}
 use Rattle.sudo_beyond.specs.private.Compared.{IsAnsweredGap}
@@ -22,8 +22,8 @@ returns c =
     let x : List PlainRule = c.bearing_on-allowing.result.now in
     let y : List PlainRule = c.bearing_on-refusing.result.now in
     let i : Invocation = c.in_ok-i.i in
-    let by_a : AnswerAlike a x i = subst (λ (rules : List PlainRule). AnswerAlike rules x i) c.rules.ensures c.bearing_on-allowing.ensures in
-    let by_b : AnswerAlike b y i = subst (λ (rules : List PlainRule). AnswerAlike rules y i) c.rules-2.ensures c.bearing_on-refusing.ensures in
+    let by_a : AnswerAlikeFor a x i = subst (λ (rules : List PlainRule). AnswerAlikeFor rules x i) c.rules.ensures c.bearing_on-allowing.ensures in
+    let by_b : AnswerAlikeFor b y i = subst (λ (rules : List PlainRule). AnswerAlikeFor rules y i) c.rules-2.ensures c.bearing_on-refusing.ensures in
     if_ok c.try_runs.result (λ found first. subst (λ (is : List Invocation). FirstOf (IsAnsweredGap a b) is found)
     (ap (λ (j : Invocation). of_target c.args.cases.now j.user j.host j.runas) c.in_ok-i.ensures) (first_of_same_on (SameNames i)
     (IsAnsweredGap x y) (IsAnsweredGap a b) (of_target c.args.cases.now i.user i.host i.runas) found (λ j. gap_of_those a b x y i j by_a by_b)

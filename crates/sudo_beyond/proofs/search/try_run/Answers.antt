@@ -4,7 +4,7 @@ use Rattle.std.proofs.lemmas.Bool.{false≢true}
 use Rattle.std.proofs.lemmas.List.Concat.{flat_map_single}
 use Rattle.sudo_decide.specs.declared.invocation.Invocation.{Invocation}
 use Rattle.sudo_beyond.specs.Cases.{invocation_of}
-use Rattle.sudo_beyond.specs.Answer.{IsFirst}
+use Rattle.sudo_beyond.specs.Answer.{IsFirstWith}
 use Rattle.sudo_beyond.specs.private.Compared.{IsAnsweredGap}
 use Rattle.sudo_beyond.proofs.Gaps.{NoGap, gaps_more, gap_here}
 use Rattle.sudo_beyond.proofs.search.try_run.Goals as goal
@@ -22,7 +22,7 @@ returns-then-is_gap-clause-found c =
     let at : ℕ → Invocation = invocation_of c.args.i.now.user c.args.i.now.host c.args.i.now.runas c.args.run.now in
     let one : ℕ → List Invocation = λ t. at t ∷ [] in
     let moments : List ℕ = c.as_slice-at-items.result.now in
-    subst (λ (is : List Invocation). IsFirst P is (at_moment c.at-item.result c.loop-at.i))
+    subst (λ (is : List Invocation). IsFirstWith P is (at_moment c.at-item.result c.loop-at.i))
     (flat_map_single at moments ∙ ap (λ (ts : List ℕ). map at ts) c.as_slice-at-items.ensures)
     (gap_here P one moments c.loop-at.at-index c.at-item.result (at_moment c.at-item.result c.loop-at.i) c.loop-at-test.true c.at-item.is
     (subst (λ (ts : List ℕ). NoGap P (flat_map one (take c.loop-at.at-index ts))) (sym c.as_slice-at-items.ensures) c.loop-at.invariant.none) (record {

@@ -3,7 +3,7 @@ use Rattle.std.specs.List.{flat_map}
 use Rattle.sudo_decide.specs.declared.invocation.Invocation.{Invocation}
 use Rattle.sudo_beyond.specs.declared.run.Run.{Run}
 use Rattle.sudo_beyond.specs.Cases.{of_run}
-use Rattle.sudo_beyond.specs.Answer.{IsFirst, FirstOf}
+use Rattle.sudo_beyond.specs.Answer.{FirstOf, IsFirstWith}
 use Rattle.sudo_beyond.specs.private.Compared.{IsAnsweredGap}
 use Rattle.sudo_beyond.proofs.Gaps.{NoGap, gap_here}
 use Rattle.sudo_beyond.proofs.search.try_runs.Goals as goal
@@ -20,7 +20,7 @@ returns-then-branch c =
     ap (λ (u : List ℕ). of_run c.args.cases.now u c.loop-run.i.host c.loop-run.i.runas c.run-item.result) c.loop-run.invariant.user_is
     ∙ ap (λ (h : List ℕ). of_run c.args.cases.now c.args.first.user h c.loop-run.i.runas c.run-item.result) c.loop-run.invariant.host_is
     ∙ ap (λ (r : List ℕ). of_run c.args.cases.now c.args.first.user c.args.first.host r c.run-item.result) c.loop-run.invariant.runas_is in
-    subst (λ (xs : List Run). IsFirst P (flat_map f xs) c.try_run.new.i) c.as_slice-run-items.ensures
+    subst (λ (xs : List Run). IsFirstWith P (flat_map f xs) c.try_run.new.i) c.as_slice-run-items.ensures
     (gap_here P f runs c.loop-run.run-index c.run-item.result c.try_run.new.i c.loop-run-test.true c.run-item.is
     (subst (λ (xs : List Run). NoGap P (flat_map f (take c.loop-run.run-index xs))) (sym c.as_slice-run-items.ensures) c.loop-run.invariant.none)
-    (subst (λ (is : List Invocation). IsFirst P is c.try_run.new.i) names gap))
+    (subst (λ (is : List Invocation). IsFirstWith P is c.try_run.new.i) names gap))

@@ -1,4 +1,4 @@
-use Rattle.std.proofs.Common.{◌∙◌, List}
+use Rattle.std.proofs.Common.{List}
 use Rattle.std.specs.List.{Contains}
 use Rattle.std.specs.Prelude.{map, string_bytes}
 use Rattle.messages.specs.Wire.{IsMessage}
@@ -8,7 +8,7 @@ use Rattle.outcomes.specs.Parked.{AreParked}
 use Rattle.outcomes.proofs.SetLemmas.{parked_of_set}
 use Rattle.suspects.specs.LookedAt.{AreReviewed}
 use Rattle.suspects.proofs.ReviewLemmas.{reviewed_of_set}
-use Rattle.desk.proofs.KnownLemmas.{known_looked}
+use Rattle.desk.proofs.KnownLemmas.{desk_looked_at}
 use Rattle.desk.proofs.QueryLemmas.{same_listed}
 use Rattle.desk.proofs.desk.Desk.holdings_at.Goals as goal
 
@@ -43,26 +43,14 @@ returns-clause-parked g c =
 -- what a report looked for is known from here on, whether or not it has an answer
 pub invariant_of-self-in_err-held : goal.invariant_of-self-in_err-held
 invariant_of-self-in_err-held g c =
-    let K = g.K.Keeper in
     let k = c.known_of.new.keeper in
-    let is = c.in_ok-known.ensures in (
-      c.self.invariant.0,
-      is.desk,
-      λ up. is.roster up ∙ c.self.invariant.2 (is.served.was_up up),
-      is.durable,
-      λ up. known_looked (K.holds k) (g.met.K.Keeper.holds_messages k) _ _ c.holdings_at-held.ensures.known (is.still_known up),
-      is.live,
-    )
+    let is = c.in_ok-known.ensures in
+    desk_looked_at (g.K.Keeper.holds k) (g.met.K.Keeper.holds_messages k) c.holdings_at-held.ensures.known c.self.invariant.0
+    is.desk is.roster c.self.invariant.2 is.served.was_up is.durable is.still_known is.live
 
 pub invariant_of-self-2 : goal.invariant_of-self-2
 invariant_of-self-2 g c =
-    let K = g.K.Keeper in
     let k = c.known_of.new.keeper in
-    let is = c.in_ok-known.ensures in (
-      c.self.invariant.0,
-      is.desk,
-      λ up. is.roster up ∙ c.self.invariant.2 (is.served.was_up up),
-      is.durable,
-      λ up. known_looked (K.holds k) (g.met.K.Keeper.holds_messages k) _ _ c.holdings_at-held.ensures.known (is.still_known up),
-      is.live,
-    )
+    let is = c.in_ok-known.ensures in
+    desk_looked_at (g.K.Keeper.holds k) (g.met.K.Keeper.holds_messages k) c.holdings_at-held.ensures.known c.self.invariant.0
+    is.desk is.roster c.self.invariant.2 is.served.was_up is.durable is.still_known is.live

@@ -4,7 +4,7 @@ use Rattle.messages.specs.Wire.{IsMessage}
 use Rattle.messages.specs.declared.message.Message.{Message}
 use Rattle.store_tables.specs.Sets.{Lists}
 use Rattle.store_tables.specs.Steps.{texts_in}
-use Rattle.desk_store.specs.Memory.{MemoryContent, Holds}
+use Rattle.desk_store.specs.Memory.{MemoryHolds, MemoryContent}
 use Rattle.desk_store.specs.Left.{Left, Nothing, ADesk}
 use Rattle.desk_store.specs.Crash.{LeavesContent}
 use Rattle.desk_store.proofs.Listed.{told_by_texts}
@@ -14,7 +14,7 @@ abbrev LeavesSome : MemoryContent → Type 0
 LeavesSome k = ⊤ → (k.roster ≡ None) ⊎ (IsSome k.roster ⊎ ⊥) → (left : Left) × LeavesContent k left
 
 abbrev IsListed : MemoryContent → Type 0
-IsListed k = ⊤ → IsSome k.roster ⊎ ⊥ → (list : List Message) × Lists (Holds k) list
+IsListed k = ⊤ → IsSome k.roster ⊎ ⊥ → (list : List Message) × Lists (MemoryHolds k) list
 
 pub returns-clause-left : goal.returns-clause-left
 returns-clause-left c =

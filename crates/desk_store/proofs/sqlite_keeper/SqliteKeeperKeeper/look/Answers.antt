@@ -3,7 +3,7 @@ use Rattle.sqlite.specs.Held.{state}
 use Rattle.desk_store.proofs.FoundLemmas.{as_kept, none_more}
 use Rattle.store_schema.proofs.BesideLemmas.{same_beside}
 use Rattle.desk_store.proofs.OutcomeLemmas.{ok_no_err}
-use Rattle.desk_store.proofs.TellLemmas.{live_of, told, told_known}
+use Rattle.desk_store.proofs.TellLemmas.{live_of, told, told_count, told_known}
 use Rattle.desk_store.proofs.sqlite_keeper.SqliteKeeperKeeper.look.Goals as goal
 
 pub returns-in-Ok-clause-found : goal.returns-in-Ok-clause-found
@@ -12,6 +12,10 @@ returns-in-Ok-clause-found g c up = told (state g.S.Store c.args.self.now.conn).
 pub returns-in-Ok-clause-known : goal.returns-in-Ok-clause-known
 returns-in-Ok-clause-known g c up =
     told_known (state g.S.Store c.args.self.now.conn).now c.in-Ok.found c.shown.result c.shown.ensures (c.in-Ok.ensures.found up)
+
+pub returns-in-Ok-clause-counted : goal.returns-in-Ok-clause-counted
+returns-in-Ok-clause-counted g c up =
+    told_count (state g.S.Store c.args.self.now.conn).now c.in-Ok.found c.shown.result c.shown.ensures (c.in-Ok.ensures.found up)
 
 pub returns-in-Ok-clause-same : goal.returns-in-Ok-clause-same
 returns-in-Ok-clause-same g c up = c.look.ensures.reads.same up
@@ -36,6 +40,9 @@ returns-in-Err-clause-found g c up = tt
 
 pub returns-in-Err-clause-known : goal.returns-in-Err-clause-known
 returns-in-Err-clause-known g c up = tt
+
+pub returns-in-Err-clause-counted : goal.returns-in-Err-clause-counted
+returns-in-Err-clause-counted g c up = tt
 
 pub returns-in-Err-clause-same : goal.returns-in-Err-clause-same
 returns-in-Err-clause-same g c up = c.look.ensures.reads.same up
