@@ -91,8 +91,8 @@ counted S list None lists told = tt
 counted S list (Some n) lists told = record {
   each = told.0;
   same = same_listed S list told.0 lists told.1;
-  once = told.2;
-  counted = told.3;
+  once = told.2.0;
+  counted = told.2.1;
 }
 
 -- what is known at first is known of what is held

@@ -51,7 +51,7 @@ counted_still S T tells desk is same told = still desk.count (subst (TellsCount 
   where
     still : (count : Option ℕ) → IfSome count (IsCountOf S) → IfSome count (IsCountOf T)
     still None told = tt
-    still (Some count) told = (told.0, lists_still S T told.0 same told.1, told.2, told.3)
+    still (Some count) told = (told.0, lists_still S T told.0 same told.1, told.2)
 
 -- so both are what the desk begins with
 pub origin_still : (S T : Message → Type 0) (tells : Found) (desk : FoundDesk) (from : Origin) → tells ≡ found.Desk desk

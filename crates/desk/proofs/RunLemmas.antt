@@ -10,7 +10,7 @@ use Rattle.store_tables.specs.Sets.{SameSet, IsWith}
 use Rattle.desk.specs.declared.ack.Ack.{Ack}
 use Rattle.desk.specs.declared.refusal.Refusal.{Refusal}
 use Rattle.desk.specs.Delivery.{AcknowledgesAmong, AreAnswers, Delivery, HeldAfter, HeldAfterAll, IsDeliveryAnswer}
-use Rattle.desk.specs.Runs.{Event, Delivered, Asked, IsRun, IsAckedIn, SameAcked, run_of}
+use Rattle.desk.specs.Runs.{Event, Delivered, Asked, IsRun, IsAckedIn, SameAcked, run_of_deliveries}
 use Rattle.desk.proofs.DeliveryLemmas.{held_at_ok}
 
 -- ---- what a run leaves
@@ -103,7 +103,7 @@ none_left : (old new : List Message) → HeldAfterAll (λ m. Contains old m) [] 
 none_left old new all = λ m. (λ h. (all m).0 (inl h), λ h. elim ((all m).1 h) as (λ _. Contains old m) [ inl held ↦ held | inr none ↦ absurd none ])
 
 pub deliveries_run : (f : RosterFields Cmnd) (old new : List Message) (ds : List Delivery) (answers : List (Result Ack Refusal)) → AreAnswers f ds answers
-    → HeldAfterAll (λ m. Contains old m) ds answers (λ m. Contains new m) → IsRun f old (run_of ds answers) new
+    → HeldAfterAll (λ m. Contains old m) ds answers (λ m. Contains new m) → IsRun f old (run_of_deliveries ds answers) new
 deliveries_run f old new [] [] are all = none_left old new all
 deliveries_run f old new [] (a ∷ answers) are all = absurd are
 deliveries_run f old new (d ∷ ds) [] are all = absurd are

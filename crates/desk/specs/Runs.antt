@@ -37,7 +37,7 @@ abbrev pub SameAcked : List Event → List Event → Type 0
 SameAcked r u = SameSet (IsAckedIn r) (IsAckedIn u)
 
 -- the deliveries, each with its answer, as a run
-abbrev pub run_of : List Delivery → List (Result Ack Refusal) → List Event
-run_of [] answers = []
-run_of (d ∷ ds) [] = []
-run_of (d ∷ ds) (answer ∷ answers) = Delivered d answer ∷ run_of ds answers
+abbrev pub run_of_deliveries : List Delivery → List (Result Ack Refusal) → List Event
+run_of_deliveries [] answers = []
+run_of_deliveries (d ∷ ds) [] = []
+run_of_deliveries (d ∷ ds) (answer ∷ answers) = Delivered d answer ∷ run_of_deliveries ds answers

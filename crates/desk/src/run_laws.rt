@@ -9,7 +9,7 @@ ghost use Rattle.store_tables.specs.Sets.{SameSet};
 ghost use Rattle.desk.specs.declared.ack.Ack.{Ack as AnyAck};
 ghost use Rattle.desk.specs.declared.refusal.Refusal.{Refusal as AnyRefusal};
 ghost use Rattle.desk.specs.Delivery.{Answers, AreAnswers, Delivery, HeldAfterAll};
-ghost use Rattle.desk.specs.Runs.{Event, IsRun, IsAckedIn, SameAcked, run_of};
+ghost use Rattle.desk.specs.Runs.{Event, IsRun, IsAckedIn, SameAcked, run_of_deliveries};
 
 /// A delivery has at most one right answer.
 pub fn one_answer()
@@ -29,5 +29,5 @@ pub fn run_free()
     ensures deliveries { (f : RosterFields AnyCmnd) (old new : List AnyMessage)
         (ds : List Delivery) (answers : List (Result AnyAck AnyRefusal)) → AreAnswers f ds answers
         → HeldAfterAll (λ m. Contains old m) ds answers (λ m. Contains new m)
-        → IsRun f old (run_of ds answers) new }
+        → IsRun f old (run_of_deliveries ds answers) new }
 {}

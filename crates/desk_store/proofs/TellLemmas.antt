@@ -16,8 +16,8 @@ use Rattle.store_opening.specs.Opened.{IsSomeDesk as IsFoundDesk}
 use Rattle.store_opening.proofs.OpenedLemmas.{not_old, not_vacant}
 use Rattle.store_opening.proofs.Shown.{recorded_two}
 use Rattle.desk_store.specs.declared.found.Found.{Found}
-use Rattle.desk_store.specs.Keeping.{FindsSomeDesk, IsCountOf, IsKnownOf, Tells, TellsCount, TellsKnown}
-use Rattle.desk_store.specs.private.Showing.{IsCountIn, IsShown}
+use Rattle.desk_store.specs.Keeping.{FindsSomeDesk, IsCountIn, IsCountOf, IsKnownOf, Tells, TellsCount, TellsKnown}
+use Rattle.desk_store.specs.private.Showing.{IsShown}
 
 -- a look that answers that there is a desk was answered so by the database
 pub live_of : {Up : Type 0} (f : InDatabase) (g : Found) → IsShown f g → (IsFoundDesk f → Up) → FindsSomeDesk g → Up
@@ -81,7 +81,7 @@ module _ (db : Database) where
   count_as : (count : Option ℕ) (messages : List Message) → Lists (HoldsText db) messages
       → IfSome count (IsCountIn messages) → IfSome count (IsCountOf (HoldsText db))
   count_as None messages lists is = tt
-  count_as (Some count) messages lists is = (messages, lists, is.0, is.1)
+  count_as (Some count) messages lists is = (messages, lists, is)
 
   pub told_count : (f : InDatabase) (g : Found) → IsShown f g → FoundIn db f → TellsCount (HoldsText db) g
   told_count database.Empty g is found = subst (TellsCount (HoldsText db)) (sym is) tt

@@ -7,6 +7,7 @@ use Rattle.store_tables.specs.Sets.{Lists}
 use Rattle.outcomes.specs.Gathered.{AreGathered, Known}
 pub use Rattle.store_tables.specs.Causes.{HasFailed}
 use Rattle.desk_store.specs.declared.found.Found.{Found}
+use Rattle.desk_store.specs.declared.found.FoundDesk.{FoundDesk}
 use Rattle.desk_store.specs.declared.found.Found.TheVariants as found
 
 -- a look tells exactly one of the four, and a desk's roster text
@@ -28,24 +29,28 @@ FindsSomeDesk found.NotADesk = ⊥
 abbrev pub IsKnownOf : (Message → Type 0) → Known → Type 0
 IsKnownOf S known = (list : List Message) × Lists S list × AreGathered list known
 
--- what a look tells of a desk's messages, if it tells anything of them, is known of these
-abbrev pub TellsKnown : (Message → Type 0) → Found → Type 0
-TellsKnown S found.Empty = ⊤
-TellsKnown S (found.Desk desk) = IfSome desk.known (IsKnownOf S)
-TellsKnown S found.OldDesk = ⊤
-TellsKnown S found.NotADesk = ⊤
+-- the list has so many messages, no two of which are the same
+abbrev pub IsCountIn : List Message → ℕ → Type 0
+IsCountIn list n = AllPairs (λ x y. x ≢ y) list × (length list ≡ n)
 
 -- The set has so many messages: as many as a list that has each of them once, and no other.
 abbrev pub IsCountOf : (Message → Type 0) → ℕ → Type 0
-IsCountOf S n =
-    (list : List Message) × Lists S list × AllPairs (λ x y. x ≢ y) list × (length list ≡ n)
+IsCountOf S n = (list : List Message) × Lists S list × IsCountIn list n
 
--- If a look tells how many messages a desk has, the set has so many.
+-- if the look found a desk, this holds of what it tells of it
+abbrev pub IfDesk : (FoundDesk → Type 0) → Found → Type 0
+IfDesk Says found.Empty = ⊤
+IfDesk Says (found.Desk desk) = Says desk
+IfDesk Says found.OldDesk = ⊤
+IfDesk Says found.NotADesk = ⊤
+
+-- what a look tells of a desk's messages, if it tells anything of them, is known of these
+abbrev pub TellsKnown : (Message → Type 0) → Found → Type 0
+TellsKnown S = IfDesk (λ desk. IfSome desk.known (IsKnownOf S))
+
+-- if a look tells how many messages a desk has, the set has so many
 abbrev pub TellsCount : (Message → Type 0) → Found → Type 0
-TellsCount S found.Empty = ⊤
-TellsCount S (found.Desk desk) = IfSome desk.count (IsCountOf S)
-TellsCount S found.OldDesk = ⊤
-TellsCount S found.NotADesk = ⊤
+TellsCount S = IfDesk (λ desk. IfSome desk.count (IsCountOf S))
 
 -- two counts of failures as one, up to the greatest number of 64 bits
 abbrev pub together : (below own : ℕ) → ℕ

@@ -5,7 +5,7 @@ ghost use Rattle.std.specs.Cmp.Lexicographic.{slice_cmp};
 ghost use Rattle.std.specs.List.Sorted.{IsStrictlySortedBy};
 ghost use Rattle.std.specs.Ordering.{nat_cmp};
 ghost use Rattle.messages.specs.Wire.{wire};
-ghost use Rattle.desk_store.specs.private.Showing.{IsCountIn};
+ghost use Rattle.desk_store.specs.Keeping.{IsCountIn};
 
 use std::alloc::Global;
 use store_opening::Stored;

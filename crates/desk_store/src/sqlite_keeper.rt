@@ -13,7 +13,8 @@ ghost use Rattle.store_opening.specs.Opened.{IsKept, IsOldDesk};
 ghost use Rattle.outcomes.specs.Gathered.{AreGathered};
 ghost use Rattle.desk_store.specs.Crash.{MayLeave};
 ghost use Rattle.desk_store.specs.private.Props.{Rests-prop};
-ghost use Rattle.desk_store.specs.private.Showing.{IsCountIn, IsShown};
+ghost use Rattle.desk_store.specs.Keeping.{IsCountIn};
+ghost use Rattle.desk_store.specs.private.Showing.{IsShown};
 ghost use Rattle.desk_store.specs.private.SqliteLaws as laws;
 
 use crate::counting::count_of;

@@ -4,7 +4,8 @@ use Rattle.std.specs.List.{flat_map}
 use Rattle.std.specs.Prelude.{codes, nat_lt, replicate}
 use Rattle.std.proofs.lemmas.List.{append-nil}
 use Rattle.std.proofs.lemmas.List.Elements.{filter-append}
-use Rattle.findings.specs.Terminal.{beside_heading, gap, headed, ink, is_ink, line, room_after, spaces, wrapped}
+use Rattle.sudo_words.specs.Bytes.{spaces}
+use Rattle.findings.specs.Terminal.{beside_heading, gap, headed, ink, is_ink, line, room_after, wrapped}
 
 no_ink : (count : ℕ) → ink (replicate count 32) ≡ []
 no_ink zero = refl

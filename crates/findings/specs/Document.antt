@@ -19,7 +19,7 @@ use Rattle.grants.specs.declared.outcome.Window.{Window}
 use Rattle.grants.specs.declared.weighing.Weight.TheVariants.{Counts, Asker, Duty, Conflict}
 use Rattle.findings.specs.Effects.{effect_text}
 use Rattle.findings.specs.Judging.{approvers, asked_at, effect_on, IsCompletionOn, lacks}
-use Rattle.findings.specs.Judging.{status_word}
+use Rattle.findings.specs.Judging.{only_request, status_word}
 use Rattle.findings.specs.declared.by_host.HostWindow.{HostWindow}
 use Rattle.findings.specs.declared.effects.Effect.{Effect}
 use Rattle.findings.specs.declared.effects.Effect.TheVariants.{Weighs, Late}
@@ -135,15 +135,10 @@ entry_json f until e complete denial =
     ++ lacks_json (lacks f e) (asked_at f e until) (approvers f e) ++ codes "}"
 
 -- the only request of a name that lapsed
-abbrev pub lapsed_one : List RequestFields → Option RequestFields
-lapsed_one [] = None
-lapsed_one (q ∷ []) = Some q
-lapsed_one (q ∷ r ∷ more) = None
-
 abbrev pub lapsed : Option Status → List RequestFields → Option RequestFields
 lapsed None qs = None
 lapsed (Some Disputed) qs = None
-lapsed (Some Lapsed) qs = lapsed_one qs
+lapsed (Some Lapsed) qs = only_request qs
 lapsed (Some Refused) qs = None
 lapsed (Some Waiting) qs = None
 lapsed (Some Void) qs = None

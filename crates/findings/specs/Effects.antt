@@ -9,7 +9,7 @@ use Rattle.messages.specs.declared.kind.VerdictKind.{VerdictKind}
 use Rattle.messages.specs.declared.kind.VerdictKind.TheVariants.{Approve, Refuse, Revoke}
 use Rattle.roster.specs.Fields.{CeilingFields, RosterFields}
 use Rattle.grants.specs.Verdicts.{counts}
-use Rattle.grants.specs.Weights.{weight, weight_text}
+use Rattle.grants.specs.Weights.{weighed, weight_text}
 use Rattle.grants.specs.declared.outcome.Status.{Status}
 use Rattle.grants.specs.declared.outcome.Status.TheVariants as statuses
 use Rattle.grants.specs.declared.weighing.Weight.{Weight}
@@ -85,7 +85,7 @@ effect_by late Conflict = Weighs Conflict
 abbrev pub effect_under : RosterFields Cmnd → Option (CeilingFields Cmnd)
     → (complete : Option ℕ) → VerdictFields → Effect
 effect_under f None complete v = Lapsed
-effect_under f (Some c) complete v = effect_by (is_late complete v) (weight f c v)
+effect_under f (Some c) complete v = effect_by (is_late complete v) (weighed f c v)
 
 -- on a name of this status
 abbrev pub effect_at : RosterFields Cmnd → Option (CeilingFields Cmnd)

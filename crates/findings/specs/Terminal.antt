@@ -1,11 +1,11 @@
 -- What an audit tells, as a text for a terminal: a heading in its column and words beside it, in
 -- lines of at most 100 columns unless a single word does not fit.
 use Rattle.std.specs.Prelude.{◌≡◌, ℕ, ◌+◌, ◌-◌, ◌==◌, Bool, true, false, not, ◌||◌}
-use Rattle.std.specs.Prelude.{List, [], ◌∷◌, ◌++◌, filter, length, replicate, Option, Some, None}
+use Rattle.std.specs.Prelude.{List, [], ◌∷◌, ◌++◌, filter, length, Option, Some, None}
 use Rattle.std.specs.Prelude.{nat_lt, if◌then◌else◌, is_some, is_none, codes, decimal}
 use Rattle.std.specs.List.{concat, flat_map, slice_split}
 use Rattle.std.specs.Str.{bytes_eq}
-use Rattle.sudo_words.specs.Bytes.{space}
+use Rattle.sudo_words.specs.Bytes.{space, spaces}
 use Rattle.sudo_words.specs.Command.{cmnd_text}
 use Rattle.sudo_words.specs.Moment.{stamp}
 use Rattle.sudo_words.specs.declared.cmnd.Cmnd.{Cmnd}
@@ -30,9 +30,6 @@ use Rattle.findings.specs.declared.entry.AuditEntry.{AuditEntry}
 use Rattle.findings.specs.declared.pick.Pick.{Pick}
 
 -- ---- lines
-
-abbrev pub spaces : ℕ → List ℕ
-spaces count = replicate count 32
 
 -- a heading; what is said of it begins at column 12
 abbrev pub headed : List ℕ → List ℕ

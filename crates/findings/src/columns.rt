@@ -2,7 +2,7 @@
 
 ghost use Rattle.std.specs.Prelude.{◌≡◌, ◌++◌, ◌==◌, false, map, IfOk, OnOk, string_bytes};
 ghost use Rattle.std.specs.List.{slice_split};
-ghost use Rattle.sudo_words.specs.Bytes.{space};
+ghost use Rattle.sudo_words.specs.Bytes.{space, spaces};
 ghost use Rattle.findings.specs.Terminal as terminal;
 
 use std::alloc::{AllocError, Global};
@@ -21,7 +21,7 @@ const THIRD: usize = 14;
 const NEW_LINE: &str = "\n              ";
 
 fn push_spaces(out: &mut String, count: usize) -> Result<(), NoMemory>
-    ensures { OnOk result (string_bytes out.new ≡ string_bytes out.old ++ terminal.spaces count) }
+    ensures { OnOk result (string_bytes out.new ≡ string_bytes out.old ++ spaces count) }
 {
     for _place in 0..count {
         out.push_str(" ")?;

@@ -13,7 +13,7 @@ use Rattle.roster.specs.Fields.{CeilingFields, RosterFields}
 use Rattle.roster.specs.Relations.{ceiling_at, has_person, holds}
 use Rattle.roster.specs.Rules.{is_among}
 use Rattle.grants.specs.private.Forms.{is_inside}
-use Rattle.grants.specs.Denials.{number}
+use Rattle.grants.specs.Denials.{denial_number}
 use Rattle.grants.specs.Admission.{LiesInsideOne, IsWithin, MayAskUnder, AdmitsRequest, UnderCeiling}
 use Rattle.grants.specs.Admission.{HasHostOutside, HasCommandOutside, DeniesRequest, IsDenial}
 use Rattle.grants.specs.declared.denial.Denial.{Denial}
@@ -30,23 +30,24 @@ denial_at n =
     cond (n == 1) UnknownPerson (cond (n == 2) UnknownCeiling (cond (n == 3) NotAsker (cond (n == 4) HostOutside
     (cond (n == 5) RunasOutside (cond (n == 6) CommandOutside (cond (n == 7) WindowTooLong WindowBackwards))))))
 
-at_its_number : (d : Denial) → denial_at (number d) ≡ d
+at_its_number : (d : Denial) → denial_at (denial_number d) ≡ d
 at_its_number UnknownPerson = refl
 at_its_number _ = refl
 
-pub same_denial : (d e : Denial) → number d ≡ number e → d ≡ e
+pub same_denial : (d e : Denial) → denial_number d ≡ denial_number e → d ≡ e
 same_denial d e same = sym (at_its_number d) ∙ ap denial_at same ∙ at_its_number e
 
-pub none_below_one : (d : Denial) → number d < 1 → ⊥
+pub none_below_one : (d : Denial) → denial_number d < 1 → ⊥
 none_below_one UnknownPerson l = omega arith
 none_below_one _ l = omega arith
 
 -- what holds for a denial, and for those with lower numbers, holds for all below the next number
-below_next : (P : Denial → Type 0) (d : Denial) → ((e : Denial) → number e < number d → P e) → P d → (e : Denial) → number e < number d + 1 → P e
+below_next : (P : Denial → Type 0) (d : Denial) → ((e : Denial) → denial_number e < denial_number d → P e) → P d
+    → (e : Denial) → denial_number e < denial_number d + 1 → P e
 below_next P d below at_it e l =
-    elim (cases_lt (number e) (number d)) as (λ _. P e) [
+    elim (cases_lt (denial_number e) (denial_number d)) as (λ _. P e) [
       | inl lower ↦ below e lower
-      | inr more ↦ let same : number d ≡ number e = omega arith in subst P (same_denial d e same) at_it
+      | inr more ↦ let same : denial_number d ≡ denial_number e = omega arith in subst P (same_denial d e same) at_it
     ]
 
 -- ---- requests
@@ -54,7 +55,7 @@ below_next P d below at_it e l =
 module _ (f : RosterFields Cmnd) (r : RequestFields) where
   -- no denial below this number applies
   abbrev Clear : ℕ → Type 0
-  Clear n = (d : Denial) → number d < n → ¬ DeniesRequest f r d
+  Clear n = (d : Denial) → denial_number d < n → ¬ DeniesRequest f r d
 
   at_first : Clear 1
   at_first d l = absurd (none_below_one d l)

@@ -9,7 +9,7 @@ use Rattle.messages.specs.declared.message.Message.{Message}
 use Rattle.messages.specs.declared.message.Message.TheVariants.{Request, Verdict}
 use Rattle.roster.specs.Fields.{CeilingFields, RosterFields}
 use Rattle.roster.specs.Relations.{has_person, holds}
-use Rattle.grants.specs.Denials.{number}
+use Rattle.grants.specs.Denials.{denial_number}
 use Rattle.grants.specs.Admission.{AdmitsRequest, AdmitsVerdict, Admits, UnderCeiling, HasHostOutside}
 use Rattle.grants.specs.Admission.{HasCommandOutside, DeniesRequest, DeniesVerdict, Denies, IsDenial}
 use Rattle.grants.specs.declared.denial.Denial.{Denial}
@@ -45,8 +45,8 @@ no_denial f (Verdict v) d a h = no_denial_verdict f v d a h
 
 pub one_denial : (f : RosterFields Cmnd) (m : Message) (d e : Denial) → IsDenial f m d → IsDenial f m e → d ≡ e
 one_denial f m d e a b =
-    let not_below : ¬ (number d < number e) = λ l. b.first d l a.applies in
-    let not_above : ¬ (number e < number d) = λ l. a.first e l b.applies in
+    let not_below : ¬ (denial_number d < denial_number e) = λ l. b.first d l a.applies in
+    let not_above : ¬ (denial_number e < denial_number d) = λ l. a.first e l b.applies in
     same_denial d e (omega (arith, not_below, not_above))
 
 -- an answer that is right is the only one

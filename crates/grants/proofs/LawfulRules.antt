@@ -14,7 +14,7 @@ use Rattle.sudo_policy.specs.declared.entry.Entry.TheVariants as entries
 use Rattle.sudo_policy.specs.declared.tags.Tag.TheVariants.{NoPasswd}
 use Rattle.sudo_policy.specs.declared.tags.Tags.{Tags}
 use Rattle.sudo_policy.specs.Policy.{IsRule, IsEntry, IsPlaced, ArePlaced, KnowsRule, IsPolicy, entry_weight, rule_weight, weight_below}
-use Rattle.sudo_policy.specs.Printing.{canon, date_text, line_text, what_text, who_text}
+use Rattle.sudo_policy.specs.Printing.{canon, date_option_text, line_text, what_text, who_text}
 use Rattle.sudo_policy.specs.Tags.{tag_text, tags_text}
 use Rattle.sudo_policy.specs.Reading.{with_rules}
 use Rattle.grants.specs.Bases.{FitsBase}
@@ -73,11 +73,11 @@ within v w m n a b = omega (arith, length-append v w, a, b)
 alone : (w : List ℕ) (n : ℕ) → length w ≤ n → length (w ++ []) ≤ n
 alone w n a = omega (arith, length-append w [], a)
 
-before_short : (moment : Option ℕ) → length (date_text (codes "NOTBEFORE") moment) ≤ 26
+before_short : (moment : Option ℕ) → length (date_option_text (codes "NOTBEFORE") moment) ≤ 26
 before_short None = lit≤ tt
 before_short (Some moment) = lit≤ tt
 
-after_short : (moment : Option ℕ) → length (date_text (codes "NOTAFTER") moment) ≤ 25
+after_short : (moment : Option ℕ) → length (date_option_text (codes "NOTAFTER") moment) ≤ 25
 after_short None = lit≤ tt
 after_short (Some moment) = lit≤ tt
 
@@ -116,8 +116,8 @@ module _ (r : Rule) (g : IsGrantRule r) where
 
   what_short : length (what_text plain) ≤ 1_085
   what_short =
-      let before = date_text (codes "NOTBEFORE") g.not_before in
-      let after = date_text (codes "NOTAFTER") g.not_after in
+      let before = date_option_text (codes "NOTBEFORE") g.not_before in
+      let after = date_option_text (codes "NOTAFTER") g.not_after in
       let dates = within before after 26 25 (before_short g.not_before) (after_short g.not_after) in
       let tagged = within (before ++ after) (tags_text g.tags) 51 10 dates (tags_short g.tags) in
       within ((before ++ after) ++ tags_text g.tags) (cmnd_text g.cmnd) 61 1_024 tagged g.lawful.short

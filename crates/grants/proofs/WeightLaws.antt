@@ -10,7 +10,7 @@ use Rattle.messages.specs.declared.kind.VerdictKind.TheVariants.{Approve, Refuse
 use Rattle.roster.specs.Fields.{CeilingFields, RosterFields}
 use Rattle.roster.specs.Relations.{holds, holds_against}
 use Rattle.grants.specs.Verdicts.{counts, may_give}
-use Rattle.grants.specs.Weights.{weight, weight_of}
+use Rattle.grants.specs.Weights.{weighed, weight_of}
 use Rattle.grants.specs.declared.weighing.Weight.{Weight}
 use Rattle.grants.specs.declared.weighing.Weight.TheVariants.{Counts, Asker, Duty, Conflict}
 
@@ -123,16 +123,17 @@ module _ (f : RosterFields Cmnd) (c : CeilingFields Cmnd) (person asker : List �
 
 -- ---- of a verdict
 
-pub weighs_counts : (f : RosterFields Cmnd) (c : CeilingFields Cmnd) (v : VerdictFields) → (weight f c v ≡ Counts) ↔ (counts f c v ≡ true)
+pub weighs_counts : (f : RosterFields Cmnd) (c : CeilingFields Cmnd) (v : VerdictFields) → (weighed f c v ≡ Counts) ↔ (counts f c v ≡ true)
 weighs_counts f c v = of_counting f c v.by v.of v.at v.kind
 
-pub weighs_asker : (f : RosterFields Cmnd) (c : CeilingFields Cmnd) (v : VerdictFields) → (weight f c v ≡ Asker) ↔ ((v.kind ≢ Revoke) × (v.by ≡ v.of))
+pub weighs_asker : (f : RosterFields Cmnd) (c : CeilingFields Cmnd) (v : VerdictFields) → (weighed f c v ≡ Asker) ↔ ((v.kind ≢ Revoke) × (v.by ≡ v.of))
 weighs_asker f c v = of_asker f c v.by v.of v.at v.kind
 
 pub weighs_duty : (f : RosterFields Cmnd) (c : CeilingFields Cmnd) (v : VerdictFields)
-    → (weight f c v ≡ Duty) ↔ ((v.by ≢ v.of) × (holds f v.by c.approve v.at ≡ false))
+    → (weighed f c v ≡ Duty) ↔ ((v.by ≢ v.of) × (holds f v.by c.approve v.at ≡ false))
 weighs_duty f c v = of_duty f c v.by v.of v.at v.kind
 
 pub weighs_conflict : (f : RosterFields Cmnd) (c : CeilingFields Cmnd) (v : VerdictFields)
-    → (weight f c v ≡ Conflict) ↔ ((v.kind ≢ Revoke) × (v.by ≢ v.of) × (holds f v.by c.approve v.at ≡ true) × (holds_against f v.by c.approve v.at ≡ true))
+    → (weighed f c v ≡ Conflict) ↔ ((v.kind ≢ Revoke) × (v.by ≢ v.of) × (holds f v.by c.approve v.at ≡ true)
+    × (holds_against f v.by c.approve v.at ≡ true))
 weighs_conflict f c v = of_conflict f c v.by v.of v.at v.kind

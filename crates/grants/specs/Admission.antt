@@ -8,7 +8,7 @@ use Rattle.messages.specs.declared.message.Message.TheVariants.{Request, Verdict
 use Rattle.roster.specs.Fields.{CeilingFields, RosterFields}
 use Rattle.roster.specs.Relations.{ceiling_at, has_person, holds}
 use Rattle.grants.specs.Reach.{LiesInside}
-use Rattle.grants.specs.Denials.{number}
+use Rattle.grants.specs.Denials.{denial_number}
 use Rattle.grants.specs.declared.denial.Denial.{Denial}
 use Rattle.grants.specs.declared.denial.Denial.TheVariants.{UnknownPerson, UnknownCeiling}
 use Rattle.grants.specs.declared.denial.Denial.TheVariants.{NotAsker, HostOutside}
@@ -97,4 +97,4 @@ Denies f (Verdict v) d = DeniesVerdict f v d
 -- the first denial that applies to the message
 pub record IsDenial (f : RosterFields Cmnd) (m : Message) (d : Denial) : Type 0 where
   pub applies : Denies f m d
-  pub first : (lower : Denial) → number lower < number d → ¬ Denies f m lower
+  pub first : (lower : Denial) → denial_number lower < denial_number d → ¬ Denies f m lower

@@ -7,15 +7,15 @@ use Rattle.grants.specs.declared.denial.Denial.TheVariants.{RunasOutside, Comman
 use Rattle.grants.specs.declared.denial.Denial.TheVariants.{WindowTooLong, WindowBackwards}
 
 -- the number in a denial's code
-abbrev pub number : Denial → ℕ
-number UnknownPerson = 1
-number UnknownCeiling = 2
-number NotAsker = 3
-number HostOutside = 4
-number RunasOutside = 5
-number CommandOutside = 6
-number WindowTooLong = 7
-number WindowBackwards = 8
+abbrev pub denial_number : Denial → ℕ
+denial_number UnknownPerson = 1
+denial_number UnknownCeiling = 2
+denial_number NotAsker = 3
+denial_number HostOutside = 4
+denial_number RunasOutside = 5
+denial_number CommandOutside = 6
+denial_number WindowTooLong = 7
+denial_number WindowBackwards = 8
 
 -- how a denial is printed
 abbrev pub denial_text : Denial → List ℕ

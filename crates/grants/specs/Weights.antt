@@ -33,8 +33,8 @@ weight_of f c Refuse person asker at = answer_weight f c person asker at
 weight_of f c Revoke person asker at = revocation_weight f c person asker at
 
 -- the verdict's, by its author's rights at its own moment
-abbrev pub weight : RosterFields Cmnd → CeilingFields Cmnd → VerdictFields → Weight
-weight f c v = weight_of f c v.kind v.by v.of v.at
+abbrev pub weighed : RosterFields Cmnd → CeilingFields Cmnd → VerdictFields → Weight
+weighed f c v = weight_of f c v.kind v.by v.of v.at
 
 -- the word for it
 abbrev pub weight_text : Weight → List ℕ

@@ -39,17 +39,17 @@ abbrev pub shorter : RosterFields Cmnd
 shorter = record team { ceilings = (codes "db-root", record by_two { longest = 7199 }) ∷ [] }
 
 -- what somebody says at a moment about ann's request for nine to eleven
-abbrev pub says : VerdictKind → (by : List ℕ) → (at : ℕ) → VerdictFields
-says kind by at = record { at = at; by = by; kind = kind; no = 7; of = codes "ann" }
+abbrev pub verdict_on_ann : VerdictKind → (by : List ℕ) → (at : ℕ) → VerdictFields
+verdict_on_ann kind by at = record { at = at; by = by; kind = kind; no = 7; of = codes "ann" }
 
 abbrev pub approves : (by : List ℕ) → (at : ℕ) → VerdictFields
-approves = says Approve
+approves = verdict_on_ann Approve
 
 abbrev pub refuses : (by : List ℕ) → (at : ℕ) → VerdictFields
-refuses = says Refuse
+refuses = verdict_on_ann Refuse
 
 abbrev pub revokes : (by : List ℕ) → (at : ℕ) → VerdictFields
-revokes = says Revoke
+revokes = verdict_on_ann Revoke
 
 -- bob approves, then dave does, which completes it; and then further verdicts
 abbrev pub both_and : List VerdictFields → List VerdictFields

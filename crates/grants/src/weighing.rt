@@ -98,7 +98,7 @@ pub fn weight_of(
 
 /// What the verdict weighs under the ceiling, by its author's rights at its own moment.
 pub fn weigh(roster: &Roster, ceiling: &Ceiling, verdict: &Verdict) -> Weight
-    ensures { result ≡ weights.weight roster.now.says ceiling.now verdict.now }
+    ensures { result ≡ weights.weighed roster.now.says ceiling.now verdict.now }
 {
     let (kind, person, asker) = (verdict.kind(), verdict.by(), verdict.of());
     weight_of(roster, ceiling, kind, person, asker, verdict.at())

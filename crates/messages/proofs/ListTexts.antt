@@ -9,7 +9,8 @@ use Rattle.json.specs.declared.value.Value.{Value}
 use Rattle.sudo_words.specs.Command.{cmnd_text}
 use Rattle.sudo_words.specs.declared.cmnd.Cmnd.{Cmnd}
 use Rattle.messages.specs.private.Members.{text_items}
-use Rattle.messages.specs.Order.{is_before, rises_from}
+use Rattle.sudo_words.specs.Lists.{is_before}
+use Rattle.messages.specs.Order.{rises_from}
 
 -- as many values as texts
 pub length-strings : (vs : List (Value Global)) (ws : List (List ℕ)) → items_view vs ≡ text_items ws → length vs ≡ length ws

@@ -8,7 +8,7 @@ use Rattle.std.proofs.lemmas.Grind.{flat_map-append}
 use Rattle.std.proofs.lemmas.List.{append_cancel_left, length-append, take-append-drop, take_more}
 use Rattle.std.proofs.lemmas.Str.{IsUtf8-from_ascii}
 use Rattle.std.proofs.Math.Seq.{take-append_seam}
-use Rattle.sudo_words.specs.Command.{arg_text, cmnd_text, escaped_byte, is_escaped, rule_text, spaced_arg}
+use Rattle.sudo_words.specs.Command.{arg_text, cmnd_text, escaped_byte, is_escaped, arg_rule_text, spaced_arg}
 use Rattle.sudo_words.specs.Moment.{IsMoment, IsStamp, stamp}
 use Rattle.sudo_words.specs.declared.cmnd.ArgRule.{ArgRule}
 use Rattle.sudo_words.specs.declared.cmnd.Cmnd.{Cmnd}
@@ -170,8 +170,8 @@ pub all_text : codes "ALL" ≡ escaped (cmnd_text commands.All)
 unfolding escaped
 all_text = refl
 
-pub path_text : (w file : List ℕ) (rule : ArgRule) → w ≡ file → escaped w ++ escaped (rule_text rule) ≡ escaped (cmnd_text (commands.Path file rule))
-path_text w file rule same = rw same (sym (escaped_append file (rule_text rule)))
+pub path_text : (w file : List ℕ) (rule : ArgRule) → w ≡ file → escaped w ++ escaped (arg_rule_text rule) ≡ escaped (cmnd_text (commands.Path file rule))
+path_text w file rule same = rw same (sym (escaped_append file (arg_rule_text rule)))
 
 -- ---- messages: comparing one member after another compares their texts appended
 

@@ -16,7 +16,7 @@ use Rattle.serde_json.specs.declared.value.Value.{the_lemmas}
 use Rattle.serde_json.specs.declared.value.Value.TheVariants as values
 use Rattle.sudo_words.specs.Word.{is_lower, is_name, is_name_byte, is_host_name, is_host_byte, is_label, is_path_byte, is_arg, is_arg_byte}
 use Rattle.sudo_words.specs.Moment.{IsMoment, IsStamp, SpellsMoment, is_stamp_byte, stamp}
-use Rattle.sudo_words.specs.Command.{IsLawful, IsHead, IsArgRule, cmnd_text, head_text, rule_of, rule_text, spaced_arg}
+use Rattle.sudo_words.specs.Command.{IsLawful, IsHead, IsArgRule, cmnd_text, head_text, rule_of, arg_rule_text, spaced_arg}
 use Rattle.sudo_words.specs.declared.cmnd.Cmnd.{Cmnd}
 use Rattle.sudo_words.specs.declared.cmnd.Cmnd.TheVariants as commands
 use Rattle.sudo_words.specs.declared.cmnd.ArgRule.{ArgRule}
@@ -162,13 +162,13 @@ args_printed (a ∷ args) h =
     append_printed (spaced_arg a) (flat_map spaced_arg args)
     (refl, arg_text_each (λ (b : ℕ). is_printed_byte b ≡ true) refl arg_byte_printed a (arg_parts a h.0).bytes) (args_printed args h.1)
 
-rule_printed : (r : ArgRule) → IsArgRule r → IsPrinted (rule_text r)
+rule_printed : (r : ArgRule) → IsArgRule r → IsPrinted (arg_rule_text r)
 rule_printed Any h = tt
 rule_printed Empty h = (refl, (refl, (refl, tt)))
 rule_printed (Exactly args) h = args_printed args h.0
 
 pub cmnd_printed : (c : Cmnd) → IsLawful c → IsPrinted (cmnd_text c)
-cmnd_printed c h = append_printed (head_text c) (rule_text (rule_of c)) (head_printed c h.head) (rule_printed (rule_of c) h.args)
+cmnd_printed c h = append_printed (head_text c) (arg_rule_text (rule_of c)) (head_printed c h.head) (rule_printed (rule_of c) h.args)
 
 stamped_plain : (w : List ℕ) → AllByRecursion (λ b. is_stamp_byte b ≡ true) w → IsPlain w
 stamped_plain [] h = tt

@@ -5,8 +5,8 @@ use Rattle.messages.specs.declared.fault.MessageFault.TheVariants.{TooLong, NotC
 use Rattle.messages.specs.declared.fault.MessageFault.TheVariants.{BadField, NoMemory}
 
 -- its code and name
-abbrev pub fault_text : MessageFault → List ℕ
-fault_text TooLong = codes "M1 TooLong"
-fault_text NotCanonical = codes "M2 NotCanonical"
-fault_text BadField = codes "M3 BadField"
-fault_text NoMemory = codes "M4 NoMemory"
+abbrev pub message_fault_text : MessageFault → List ℕ
+message_fault_text TooLong = codes "M1 TooLong"
+message_fault_text NotCanonical = codes "M2 NotCanonical"
+message_fault_text BadField = codes "M3 BadField"
+message_fault_text NoMemory = codes "M4 NoMemory"

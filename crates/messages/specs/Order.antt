@@ -1,7 +1,6 @@
 -- Lists in a strict order; the byte order of texts, and lists of texts that rise strictly in it.
 use Rattle.std.specs.Prelude.{◌≡◌, ℕ, Bool, true, ◌&&◌, List, [], ◌∷◌}
-use Rattle.std.specs.Ordering.{nat_cmp, is_lt}
-use Rattle.std.specs.Cmp.Lexicographic.{slice_cmp}
+use Rattle.sudo_words.specs.Lists.{is_before}
 
 -- ---- lists in a strict order
 
@@ -16,11 +15,6 @@ AreInOrder Precedes [] = Unit {0}
 AreInOrder Precedes (x ∷ more) = AllAfter Precedes x more × AreInOrder Precedes more
 
 -- ---- texts in byte order
-
--- One text comes before another: where they first differ its byte is the lower one, or it is a
--- proper prefix of the other.
-abbrev pub is_before : List ℕ → List ℕ → Bool
-is_before low high = is_lt (slice_cmp nat_cmp low high)
 
 abbrev pub TextPrecedes : (a b : List ℕ) → Type 0
 TextPrecedes a b = is_before a b ≡ true

@@ -33,6 +33,7 @@ unfoldable pub list_text : List (List ℕ) → List ℕ
 list_text [] = codes "[]"
 list_text (w ∷ ws) = codes "[" ++ quoted w ++ rest_text ws
 
+-- the word for what a verdict does
 abbrev pub kind_text : VerdictKind → List ℕ
 kind_text Approve = codes "approve"
 kind_text Refuse = codes "refuse"

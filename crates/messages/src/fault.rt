@@ -23,9 +23,9 @@ pub enum MessageFault {
 
 impl fmt::Display for MessageFault {
     ghost use Rattle.std.specs.Prelude.{Some};
-    ghost use Rattle.messages.specs.Faults.{fault_text};
+    ghost use Rattle.messages.specs.Faults.{message_fault_text};
 
-    ghost output = { λ f. Some (fault_text f) };
+    ghost output = { λ f. Some (message_fault_text f) };
 
     fn fmt<W: fmt::Write>(&self, f: &mut fmt::Formatter<W>) -> fmt::Result {
         let line = self.line();
@@ -38,11 +38,11 @@ impl Error for MessageFault {}
 impl MessageFault {
     ghost use Rattle.std.specs.Prelude.{◌++◌, ◌∷◌, []};
     ghost use Rattle.sudo_words.specs.Bytes.{newline};
-    ghost use Rattle.messages.specs.Faults.{fault_text};
+    ghost use Rattle.messages.specs.Faults.{message_fault_text};
 
     /// Its code and name, and a newline.
     pub fn line(self) -> &'static str
-        ensures { result.now ≡ fault_text self ++ newline ∷ [] }
+        ensures { result.now ≡ message_fault_text self ++ newline ∷ [] }
     {
         match self {
             MessageFault::TooLong => "M1 TooLong\n",

@@ -6,7 +6,7 @@ ghost use Rattle.std.specs.Prelude.{◌≡◌, ◌==◌, ◌||◌, ◌++◌, ◌
 ghost use Rattle.std.specs.Prelude.{IsTrue, Some, codes, decimal, map};
 ghost use Rattle.std.specs.List.{flat_map};
 ghost use Rattle.sudo_words.specs.Command.{arg_text, cmnd_text, escaped_byte};
-ghost use Rattle.sudo_words.specs.Command.{rule_text, spaced_arg};
+ghost use Rattle.sudo_words.specs.Command.{arg_rule_text, spaced_arg};
 ghost use Rattle.sudo_words.specs.Moment.{IsMoment};
 ghost use Rattle.messages.specs.Wire as wires;
 ghost use Rattle.messages.specs.private.Past.{IsPast, left_of};
@@ -178,7 +178,7 @@ fn past_args<'b>(rest: Option<&'b [u8]>, args: &[Arg]) -> Option<&'b [u8]>
 }
 
 fn past_rule<'b>(rest: Option<&'b [u8]>, rule: &ArgRule) -> Option<&'b [u8]>
-    ensures { IsPast (wires.escaped (rule_text rule.now)) rest.entry result }
+    ensures { IsPast (wires.escaped (arg_rule_text rule.now)) rest.entry result }
 {
     match rule {
         ArgRule::Any => rest,

@@ -8,14 +8,14 @@ lines [] = []
 lines (line ∷ more) = line ++ (line_end ++ lines more)
 
 -- an approval, of 70 bytes
-abbrev pub approval : List ℕ
-approval =
+abbrev pub approval_body : List ℕ
+approval_body =
     codes "{\"at\":\"20260105083000Z\",\"by\":\"bob\",\"kind\":\"approve\",\"no\":7,\"of\":\"ann\"}"
 
 -- its delivery by the relay `web`, with this value of Content-Length
 abbrev pub posted : (size : List ℕ) → List ℕ
 posted size = lines (codes "POST /v1/relays/web/messages HTTP/1.1"
-    ∷ codes "Host: desk" ∷ (codes "Content-Length: " ++ size) ∷ [] ∷ []) ++ approval
+    ∷ codes "Host: desk" ∷ (codes "Content-Length: " ++ size) ∷ [] ∷ []) ++ approval_body
 
 -- a head of this request line and one Host field
 abbrev pub head_with_host : (request_line : List ℕ) → List ℕ

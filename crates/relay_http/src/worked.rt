@@ -7,7 +7,7 @@ ghost use Rattle.relay_http.specs.Request.{host_file_after, named_request, parke
 ghost use Rattle.relay_http.specs.Request.{report, requests, requests_after};
 ghost use Rattle.relay_http.specs.Response.{fault_line, status_of, written};
 ghost use Rattle.relay_http.specs.RequestBytes.{IsHttpRequest};
-ghost use Rattle.relay_http.specs.Worked.{approval, head_with_host, lines, posted};
+ghost use Rattle.relay_http.specs.Worked.{approval_body, head_with_host, lines, posted};
 ghost use Rattle.relay_http.specs.declared.fault.RequestFault.TheVariants.{BadHead, BadLength};
 ghost use Rattle.relay_http.specs.declared.fault.RequestFault.TheVariants.{BadMethod, BadMoment};
 ghost use Rattle.relay_http.specs.declared.fault.RequestFault.TheVariants.{BadTarget};
@@ -22,9 +22,9 @@ ghost use Rattle.relay_http.specs.declared.status.ResponseStatus.TheVariants as 
 /// and a query of HTTP/1.0 without Host.
 pub fn worked_requests()
     ensures delivery { IsHttpRequest (posted (codes "70"))
-        (record { with_body = true; action = deliver (codes "web") approval }) }
+        (record { with_body = true; action = deliver (codes "web") approval_body }) }
     ensures zeros { IsHttpRequest (posted (codes "0070"))
-        (record { with_body = true; action = deliver (codes "web") approval }) }
+        (record { with_body = true; action = deliver (codes "web") approval_body }) }
     ensures all_messages { IsHttpRequest (head_with_host (codes "GET /v1/messages HTTP/1.1"))
         (record { with_body = true; action = all_messages }) }
     ensures count { IsHttpRequest (head_with_host (codes "GET /v1/count HTTP/1.1"))

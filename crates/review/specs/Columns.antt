@@ -1,10 +1,8 @@
 -- The columns of a report's lines, and its lines as one text.
-use Rattle.std.specs.Prelude.{ℕ, ◌-◌, List, ◌++◌, length, replicate, codes, decimal}
+use Rattle.std.specs.Prelude.{ℕ, ◌-◌, List, ◌++◌, length, codes, decimal}
 use Rattle.std.specs.List.{flat_map}
+use Rattle.sudo_words.specs.Bytes.{spaces}
 use Rattle.messages.specs.declared.request_name.RequestName.{RequestName}
-
-abbrev pub spaces : ℕ → List ℕ
-spaces count = replicate count 32
 
 -- a word, left-aligned in 32 places
 abbrev pub left : List ℕ → List ℕ

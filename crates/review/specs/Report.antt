@@ -17,7 +17,7 @@ use Rattle.messages.specs.declared.request_name.RequestName.{RequestName}
 use Rattle.messages.specs.declared.message.Message.{Message}
 use Rattle.messages.specs.declared.message.Message.TheVariants.{Request}
 use Rattle.roster.specs.Fields.{CeilingFields, Entry, RosterFields}
-use Rattle.roster.specs.Relations.{ceiling_at, holds, is_before, pair_order}
+use Rattle.roster.specs.Relations.{ceiling_at, holds, pair_order}
 use Rattle.grants.specs.Statuses.{IsStatus, window_at}
 use Rattle.grants.specs.Verdicts.{StandsAlone}
 use Rattle.grants.specs.declared.outcome.Status.{Status}
@@ -27,7 +27,7 @@ use Rattle.grants.specs.declared.outcome.Window.{Window}
 use Rattle.outcomes.specs.Parked.{AreParked}
 use Rattle.review.specs.declared.need.Need.{Need}
 use Rattle.review.specs.Barred.{AreBarredLines, HasApproved}
-use Rattle.sudo_words.specs.Lists.{AreParts, IsEachOnce, text_order}
+use Rattle.sudo_words.specs.Lists.{AreParts, IsEachOnce, is_before, text_order}
 use Rattle.review.specs.Columns.{left, name_columns, lines_text}
 use Rattle.review.specs.Needs.{IsNeed, need_text}
 

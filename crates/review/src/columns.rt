@@ -1,6 +1,7 @@
 //! The columns of a report's lines.
 
 ghost use Rattle.std.specs.Prelude.{◌≡◌, ◌++◌, OnOk, codes, string_bytes};
+ghost use Rattle.sudo_words.specs.Bytes.{spaces};
 ghost use Rattle.messages.specs.Names.{name_of};
 ghost use Rattle.review.specs.Columns as columns;
 
@@ -15,7 +16,7 @@ const WORD_WIDTH: usize = 32;
 const NUMBER_WIDTH: usize = 9;
 
 fn push_spaces(out: &mut String, count: usize) -> Result<(), NoMemory>
-    ensures { OnOk result (string_bytes out.new ≡ string_bytes out.old ++ columns.spaces count) }
+    ensures { OnOk result (string_bytes out.new ≡ string_bytes out.old ++ spaces count) }
 {
     for _place in 0..count {
         out.push_str(" ")?;

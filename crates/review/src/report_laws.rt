@@ -12,7 +12,7 @@ ghost use Rattle.sudo_policy.specs.Policy.{IsPolicy};
 ghost use Rattle.sudo_decide.specs.declared.invocation.Invocation.{Invocation};
 ghost use Rattle.messages.specs.Fields.{IsRequest, RequestFields, VerdictFields};
 ghost use Rattle.messages.specs.Names.{IsAbout, NamePrecedes, SameMessages, name_cmp, name_of};
-ghost use Rattle.messages.specs.Order.{TextPrecedes, is_before as comes_before};
+ghost use Rattle.messages.specs.Order.{TextPrecedes};
 ghost use Rattle.messages.specs.Wire.{IsMessage};
 ghost use Rattle.messages.specs.declared.request_name.RequestName.{RequestName};
 ghost use Rattle.messages.specs.declared.kind.VerdictKind.TheVariants.{Approve};
@@ -20,7 +20,7 @@ ghost use Rattle.messages.specs.declared.message.Message.{Message};
 ghost use Rattle.messages.specs.declared.message.Message.TheVariants.{Verdict};
 ghost use Rattle.roster.specs.Faults.{IsRosterText};
 ghost use Rattle.roster.specs.Fields.{CeilingFields, RosterFields};
-ghost use Rattle.roster.specs.Relations.{ceiling_at, eligible, is_before};
+ghost use Rattle.roster.specs.Relations.{ceiling_at, eligible};
 ghost use Rattle.grants.specs.Statuses.{IsFirstMoment, IsLastMoment, IsStatus};
 ghost use Rattle.grants.specs.Verdicts.{StandsAlone};
 ghost use Rattle.grants.specs.declared.outcome.Status.{Status};
@@ -87,7 +87,6 @@ pub fn needless_gives_nothing()
 pub fn orders_agree()
     ensures names { (a b : RequestName) → (name_cmp a b ≡ Less) ↔ NamePrecedes a b }
     ensures texts { (a b : List ℕ) → (text_order a b ≡ Less) ↔ TextPrecedes a b }
-    ensures rosters { (a b : List ℕ) → is_before a b ≡ comes_before a b }
 {}
 
 /// There is a reason against an approval exactly if its author is not eligible at its moment (NIST

@@ -24,7 +24,7 @@ use Rattle.sudo_words.specs.declared.cmnd.ArgRule.{ArgRule}
 use Rattle.sudo_words.specs.declared.cmnd.ArgRule.TheVariants.{Any, Empty, Exactly}
 use Rattle.roster.specs.Commands.{is_dir, is_file}
 use Rattle.roster.specs.private.LookupOrders.{args_order, AreCmndsInOrder, cmnd_order, is_at, place, Place, place_order, rank}
-use Rattle.roster.specs.Relations.{text_order}
+use Rattle.sudo_words.specs.Lists.{text_order}
 use Rattle.roster.specs.private.LookupOrders.{IsInOrder}
 use Rattle.roster.proofs.DutyLemmas.{any_same}
 use Rattle.roster.proofs.Listed.{absent}

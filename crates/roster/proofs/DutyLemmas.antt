@@ -11,7 +11,7 @@ use Rattle.sudo_words.specs.Moment.{day_of}
 use Rattle.roster.specs.Fields.{CeilingFields, Entry, RosterFields}
 use Rattle.roster.specs.Rules.{has_self_conflict}
 use Rattle.roster.specs.declared.days.Days.TheVariants.{Between}
-use Rattle.roster.specs.Relations.{entries_of, or_none, entry_of, hold, gives, holds, joins, conflicting, is_against, holds_against, eligible}
+use Rattle.roster.specs.Relations.{entries_for, or_none, entry_of, hold, gives, holds, joins, conflicting, is_against, holds_against, eligible}
 
 same : (v w : List ℕ) → bytes_eq v w ≡ true → v ≡ w
 same v w = (bytes_eq-Decides v w).0
@@ -111,7 +111,7 @@ against_one f person duty approve at held against =
     (λ e t.
     let p = and_parts (bytes_eq e.0 duty) (hold e.1 (day_of at)) t in
     both _ _ p.1 (ap (λ d. conflicting f d approve) (same e.0 duty p.0) ∙ against))
-    (entries_of f person) held
+    (entries_for f person) held
 
 pub not_against : (f : RosterFields Cmnd) (person asker duty : List ℕ) (c : CeilingFields Cmnd) (at : ℕ) → holds f person duty at ≡ true
     → conflicting f duty c.approve ≡ true → eligible f person asker c at ≡ false
@@ -123,16 +123,16 @@ pub more_conflicts : (f g : RosterFields Cmnd) (person asker : List ℕ) (c : Ce
     → ((d e : List ℕ) → conflicting f d e ≡ true → conflicting g d e ≡ true) → eligible g person asker c at ≡ true → eligible f person asker c at ≡ true
 more_conflicts f g person asker c at people more e =
     let a = approver g person asker c at e in
-    let entries : entries_of g person ≡ entries_of f person = ap (λ ps. or_none (entry_of ps person)) people in
+    let entries : entries_for g person ≡ entries_for f person = ap (λ ps. or_none (entry_of ps person)) people in
     let day = day_of at in
     may_approve f person asker c at (record {
       someone_else = a.someone_else;
       holds_it = ap (list_any (gives c.approve day)) (sym entries) ∙ a.holds_it;
       none_against = false_from_ne_true (holds_against f person c.approve at) (λ t.
-          let same_in_g : list_any (is_against f c.approve day) (entries_of g person) ≡ true = ap (list_any (is_against f c.approve day)) entries ∙ t in
+          let same_in_g : list_any (is_against f c.approve day) (entries_for g person) ≡ true = ap (list_any (is_against f c.approve day)) entries ∙ t in
           let weaker : (x : Entry) → is_against f c.approve day x ≡ true → is_against g c.approve day x ≡ true =
           λ x u. let p = and_parts (hold x.1 day) (conflicting f x.0 c.approve) u in both _ _ p.0 (more x.0 c.approve p.1) in
-          true≢false (sym (any_weaker (is_against f c.approve day) (is_against g c.approve day) weaker (entries_of g person) same_in_g)
+          true≢false (sym (any_weaker (is_against f c.approve day) (is_against g c.approve day) weaker (entries_for g person) same_in_g)
           ∙ a.none_against));
     })
 
@@ -160,10 +160,10 @@ more_duties f g person asker c at conflicts more held e =
       someone_else = a.someone_else;
       holds_it = held;
       none_against = false_from_ne_true (holds_against f person c.approve at) (λ t.
-          let in_g : list_any (is_against f c.approve day) (entries_of g person) ≡ true =
-          any_held day (λ d. conflicting f d c.approve) (entries_of f person) (entries_of g person) more t in
+          let in_g : list_any (is_against f c.approve day) (entries_for g person) ≡ true =
+          any_held day (λ d. conflicting f d c.approve) (entries_for f person) (entries_for g person) more t in
           let of_g : holds_against g person c.approve at ≡ true =
-          ap (λ ps. list_any (λ (x : Entry). hold x.1 day && list_any (joins x.0 c.approve) ps) (entries_of g person)) conflicts ∙ in_g in
+          ap (λ ps. list_any (λ (x : Entry). hold x.1 day && list_any (joins x.0 c.approve) ps) (entries_for g person)) conflicts ∙ in_g in
           true≢false (sym of_g ∙ a.none_against));
     })
 

@@ -6,7 +6,7 @@ use Rattle.sudo_words.specs.declared.cmnd.Cmnd.{Cmnd}
 use Rattle.toml.specs.Data.{Members}
 use Rattle.toml.specs.Parse.{parse_document}
 use Rattle.roster.specs.Document.{has_known_keys, fields_of}
-use Rattle.roster.specs.Faults.{Has, IsLeastFault, IsRosterText, TextSays, number}
+use Rattle.roster.specs.Faults.{Has, IsLeastFault, IsRosterText, TextSays, fault_number}
 use Rattle.roster.specs.Fields.{RosterFields, in_texts}
 use Rattle.roster.specs.Rules.{IsCmndText, GoodNames, are_known, has_self_conflict, in_range}
 use Rattle.roster.specs.private.Stages.{IsDraftOf}
@@ -57,15 +57,15 @@ fault_at n =
     cond (n == 1) NotToml (cond (n == 2) UnknownKey (cond (n == 3) WrongType (cond (n == 4) BadName
     (cond (n == 5) UnknownName (cond (n == 6) SelfConflict (cond (n == 7) OutOfRange NoMemory))))))
 
-at_its_number : (fault : RosterFault) → fault_at (number fault) ≡ fault
+at_its_number : (fault : RosterFault) → fault_at (fault_number fault) ≡ fault
 at_its_number NotToml = refl
 at_its_number _ = refl
 
 pub one_fault : (text : List ℕ) (d e : RosterFault) → IsLeastFault text d → IsLeastFault text e → d ≡ e
 one_fault text d e a b =
-    let not_below : ¬ (number d < number e) = λ l. b.1 d l a.0 in
-    let not_above : ¬ (number e < number d) = λ l. a.1 e l b.0 in
-    let same : number d ≡ number e = omega (arith, not_below, not_above) in
+    let not_below : ¬ (fault_number d < fault_number e) = λ l. b.1 d l a.0 in
+    let not_above : ¬ (fault_number e < fault_number d) = λ l. a.1 e l b.0 in
+    let same : fault_number d ≡ fault_number e = omega (arith, not_below, not_above) in
     sym (at_its_number d) ∙ ap fault_at same ∙ at_its_number e
 
 -- what the draft of a text says is all that it says
@@ -73,12 +73,12 @@ one_saying : (text : List ℕ) (t u : RosterFields (List ℕ)) → IsDraftOf tex
 one_saying text t u d s = same_Some t u (sym d.types ∙ ap fields_of (one_document text d.document s.0 d.toml s.1) ∙ s.2)
 
 -- the first fault has no lower one
-pub none_below_one : (text : List ℕ) (lower : RosterFault) → number lower < 1 → ¬ Has text lower
+pub none_below_one : (text : List ℕ) (lower : RosterFault) → fault_number lower < 1 → ¬ Has text lower
 none_below_one text NoMemory l h = h
 none_below_one text _ l h = omega arith
 
 only_from_three : (text : List ℕ) (d : Members) → parse_document text ≡ Some d
-    → has_known_keys d ≡ true → (lower : RosterFault) → number lower < 3 → ¬ Has text lower
+    → has_known_keys d ≡ true → (lower : RosterFault) → fault_number lower < 3 → ¬ Has text lower
 only_from_three text d toml keys NotToml l h = none-some d (sym h ∙ toml)
 only_from_three text d toml keys UnknownKey l h =
     true≢false (sym keys ∙ ap has_known_keys (one_document text d h.0 toml h.1) ∙ h.2)
@@ -90,7 +90,7 @@ pub of_wrong_type : (text : List ℕ) (d : Members) → parse_document text ≡ 
 of_wrong_type text d toml keys wrong = ((d, toml, wrong), only_from_three text d toml keys)
 
 -- a text with known keys only, whose values have their types, has only greater faults than that
-only_from_four : (text : List ℕ) (t : RosterFields (List ℕ)) → IsDraftOf text t → (lower : RosterFault) → number lower < 4 → ¬ Has text lower
+only_from_four : (text : List ℕ) (t : RosterFields (List ℕ)) → IsDraftOf text t → (lower : RosterFault) → fault_number lower < 4 → ¬ Has text lower
 only_from_four text t d NotToml l h = none-some d.document (sym h ∙ d.toml)
 only_from_four text t d UnknownKey l h =
     true≢false (sym d.keys ∙ ap has_known_keys (one_document text d.document h.0 d.toml h.1) ∙ h.2)
@@ -104,7 +104,7 @@ of_bad_name text t d bad = ((t, (d.document, d.toml, d.types), bad), only_from_f
 
 -- if its names are good, only greater faults than a bad name
 only_from_five : (text : List ℕ) (t : RosterFields (List ℕ)) → IsDraftOf text t
-    → GoodNames IsCmndText t → (lower : RosterFault) → number lower < 5 → ¬ Has text lower
+    → GoodNames IsCmndText t → (lower : RosterFault) → fault_number lower < 5 → ¬ Has text lower
 only_from_five text t d good NotToml l h = only_from_four text t d NotToml (omega arith) h
 only_from_five text t d good UnknownKey l h = only_from_four text t d UnknownKey (omega arith) h
 only_from_five text t d good WrongType l h = only_from_four text t d WrongType (omega arith) h
@@ -118,7 +118,7 @@ of_unknown_name text t d good unknown = ((t, (d.document, d.toml, d.types), unkn
 
 -- if they are also listed, only greater faults than an unknown name
 only_from_six : (text : List ℕ) (t : RosterFields (List ℕ)) → IsDraftOf text t → GoodNames IsCmndText t
-    → are_known t ≡ true → (lower : RosterFault) → number lower < 6 → ¬ Has text lower
+    → are_known t ≡ true → (lower : RosterFault) → fault_number lower < 6 → ¬ Has text lower
 only_from_six text t d good known NotToml l h = only_from_five text t d good NotToml (omega arith) h
 only_from_six text t d good known UnknownKey l h = only_from_five text t d good UnknownKey (omega arith) h
 only_from_six text t d good known WrongType l h = only_from_five text t d good WrongType (omega arith) h
@@ -134,7 +134,7 @@ of_self_conflict text t d good known itself = ((t, (d.document, d.toml, d.types)
 
 -- if also no duty conflicts with itself, only greater faults than that
 only_from_seven : (text : List ℕ) (t : RosterFields (List ℕ)) → IsDraftOf text t → GoodNames IsCmndText t → are_known t ≡ true → has_self_conflict t ≡ false
-    → (lower : RosterFault) → number lower < 7 → ¬ Has text lower
+    → (lower : RosterFault) → fault_number lower < 7 → ¬ Has text lower
 only_from_seven text t d good known apart NotToml l h = only_from_six text t d good known NotToml (omega arith) h
 only_from_seven text t d good known apart UnknownKey l h = only_from_six text t d good known UnknownKey (omega arith) h
 only_from_seven text t d good known apart WrongType l h = only_from_six text t d good known WrongType (omega arith) h
@@ -149,7 +149,7 @@ pub of_out_of_range : (text : List ℕ) (t : RosterFields (List ℕ)) → IsDraf
 of_out_of_range text t d good known apart out = ((t, (d.document, d.toml, d.types), out), only_from_seven text t d good known apart)
 
 -- a text with a document is TOML, and has only greater faults than that
-pub read_at_all : (text : List ℕ) (d : Members) → parse_document text ≡ Some d → (lower : RosterFault) → number lower < 2 → ¬ Has text lower
+pub read_at_all : (text : List ℕ) (d : Members) → parse_document text ≡ Some d → (lower : RosterFault) → fault_number lower < 2 → ¬ Has text lower
 read_at_all text d p NotToml l h = none-some d (sym h ∙ p)
 read_at_all text d p NoMemory l h = h
 read_at_all text d p _ l h = omega arith

@@ -3,11 +3,10 @@ use Rattle.std.proofs.Common.{◌≡◌, ◌<◌, ℕ, suc, Bool, false, ◌&&�
 use Rattle.std.specs.List.{list_all, list_any}
 use Rattle.std.specs.Str.{bytes_eq}
 use Rattle.std.proofs.lemmas.Slice.Eq.{bytes_eq-Decides}
-use Rattle.sudo_words.specs.Lists.{IsEachOnce}
+use Rattle.sudo_words.specs.Lists.{IsEachOnce, text_order}
 use Rattle.sudo_words.proofs.Lists.{any_once}
 use Rattle.sudo_words.specs.declared.cmnd.Cmnd.{Cmnd}
 use Rattle.roster.specs.Fields.{RosterFields}
-use Rattle.roster.specs.Relations.{text_order}
 use Rattle.roster.specs.Rules.{are_known, is_among, is_known_ceiling, is_known_entry, is_known_pair, is_known_person, names_only}
 
 pub absent : {X : Type 0} (test : X → Bool) (xs : List X) → ((k : ℕ) (d : X) → k < length xs → test (get_or xs k d) ≡ false) → list_any test xs ≡ false

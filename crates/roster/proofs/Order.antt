@@ -9,7 +9,7 @@ use Rattle.std.specs.Ordering.{nat_cmp, is_lt, ordering_reverse}
 use Rattle.std.proofs.lemmas.Bool.{and_parts, false_from_ne_true, true≢false, not-true, not_from_false}
 use Rattle.std.proofs.lemmas.List.Folds.{list_all_more, list_any_at}
 use Rattle.roster.specs.Rules.{is_among}
-use Rattle.roster.specs.Relations.{is_before}
+use Rattle.sudo_words.specs.Lists.{is_before}
 
 less : (r : Ordering) → is_lt r ≡ true → r ≡ Less
 less Less e = refl

@@ -9,7 +9,7 @@ use Rattle.sudo_words.specs.declared.cmnd.Cmnd.{Cmnd}
 use Rattle.roster.specs.Faults.{IsRosterText}
 use Rattle.roster.specs.Fields.{CeilingFields, RosterFields}
 use Rattle.roster.specs.Relations.{entry_of, ceiling_at}
-use Rattle.roster.specs.Rules.{is_within, is_ranged, has_ceiling_counts, in_range}
+use Rattle.roster.specs.Rules.{is_between, is_ranged, has_ceiling_counts, in_range}
 
 -- what holds for each entry holds for the one that is found
 found_holds : {X : Type 0} (test : List ℕ × X → Bool) (entries : List (List ℕ × X)) (name : List ℕ) (x : X)
@@ -30,7 +30,7 @@ ceilings_ranged text f r =
 
 few : (e : List ℕ × CeilingFields Cmnd) → is_ranged e ≡ true → (1 ≤ e.1.needs) × (e.1.needs ≤ 3)
 few e ranged =
-    let needs : is_within 1 3 e.1.needs ≡ true = (and_parts _ _ (and_parts _ _ (and_parts _ _ (and_parts _ _ ranged).0).0).0).0 in
+    let needs : is_between 1 3 e.1.needs ≡ true = (and_parts _ _ (and_parts _ _ (and_parts _ _ (and_parts _ _ ranged).0).0).0).0 in
     let both = and_parts (nat_le 1 e.1.needs) (nat_le e.1.needs 3) needs in
     (leb-true 1 e.1.needs both.0, leb-true e.1.needs 3 both.1)
 

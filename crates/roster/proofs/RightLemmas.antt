@@ -14,7 +14,7 @@ use Rattle.roster.specs.Agreement.{AgreeUntil}
 use Rattle.roster.specs.Fields.{CeilingFields, Entry, RosterFields}
 use Rattle.roster.specs.declared.days.Days.{Days}
 use Rattle.roster.specs.declared.days.Days.TheVariants.{Always, Between}
-use Rattle.roster.specs.Relations.{ceiling_at, conflicting, eligible, entries_of, entry_of, gives}
+use Rattle.roster.specs.Relations.{ceiling_at, conflicting, eligible, entries_for, entry_of, gives}
 use Rattle.roster.specs.Relations.{has_person, hold, holds, holds_against, joins, may_revoke, or_none}
 use Rattle.roster.proofs.DutyLemmas.{any_held}
 
@@ -30,8 +30,8 @@ against_too : (f g : RosterFields Cmnd) (person approve : List ℕ) (at : ℕ) �
     → ((duty : List ℕ) → holds f person duty at ≡ holds g person duty at) → holds_against f person approve at ≡ true → holds_against g person approve at ≡ true
 against_too f g person approve at conflicts held e =
     let day = day_of at in
-    ap (λ ps. list_any (λ (x : Entry). hold x.1 day && list_any (joins x.0 approve) ps) (entries_of g person)) (sym conflicts)
-    ∙ any_held day (λ d. conflicting f d approve) (entries_of f person) (entries_of g person) (λ d h. sym (held d) ∙ h) e
+    ap (λ ps. list_any (λ (x : Entry). hold x.1 day && list_any (joins x.0 approve) ps) (entries_for g person)) (sym conflicts)
+    ∙ any_held day (λ d. conflicting f d approve) (entries_for f person) (entries_for g person) (λ d h. sym (held d) ∙ h) e
 
 pub against_alike : (f g : RosterFields Cmnd) (person approve : List ℕ) (at : ℕ) → f.conflicts ≡ g.conflicts
     → ((duty : List ℕ) → holds f person duty at ≡ holds g person duty at) → holds_against f person approve at ≡ holds_against g person approve at
@@ -131,18 +131,18 @@ passes : {X : Type 0} (p : X → Bool) (xs : List X) (x : X) → Contains xs x �
 passes p xs x m e = list_any-from_Any p xs (m.0, x, m.1, m.2, e)
 
 module _ (f : RosterFields Cmnd) (person duty : List ℕ) (at : ℕ) where
-  pub held_always : Contains (entries_of f person) (duty, Always) → holds f person duty at ≡ true
+  pub held_always : Contains (entries_for f person) (duty, Always) → holds f person duty at ≡ true
   held_always m =
-      passes (gives duty (day_of at)) (entries_of f person) (duty, Always) m (and_from (bytes_eq duty duty) true ((bytes_eq-Decides duty duty).1 refl) refl)
+      passes (gives duty (day_of at)) (entries_for f person) (duty, Always) m (and_from (bytes_eq duty duty) true ((bytes_eq-Decides duty duty).1 refl) refl)
 
   module _ (g : RosterFields Cmnd) where
-    by_entries : (xs ys : List Entry) → entries_of f person ≡ xs → entries_of g person ≡ ys
+    by_entries : (xs ys : List Entry) → entries_for f person ≡ xs → entries_for g person ≡ ys
         → list_any (gives duty (day_of at)) xs ≡ list_any (gives duty (day_of at)) ys → holds f person duty at ≡ holds g person duty at
     by_entries xs ys of_f of_g same =
         ap (list_any (gives duty (day_of at))) of_f ∙ same ∙ sym (ap (list_any (gives duty (day_of at))) of_g)
 
-    pub always_alike : (other : List ℕ) (before after : List Entry) → IsMoment at → entries_of f person ≡ before ++ (other, Always) ∷ after
-        → entries_of g person ≡ before ++ (other, Between 0 47_481) ∷ after → holds f person duty at ≡ holds g person duty at
+    pub always_alike : (other : List ℕ) (before after : List Entry) → IsMoment at → entries_for f person ≡ before ++ (other, Always) ∷ after
+        → entries_for g person ≡ before ++ (other, Between 0 47_481) ∷ after → holds f person duty at ≡ holds g person duty at
     always_alike other before after moment of_f of_g =
         let day = day_of at in
         let there : day ≤ 47_481 = omega (arith, moment) in
@@ -151,8 +151,8 @@ module _ (f : RosterFields Cmnd) (person duty : List ℕ) (at : ℕ) where
         (ap (λ b. (bytes_eq other duty && b) || list_any (gives duty day) after) (every_day day there)))
 
     pub cut_alike : (other : List ℕ) (before after : List Entry) (from middle until : ℕ) → from ≤ middle
-        → middle < until → entries_of f person ≡ before ++ (other, Between from until) ∷ after
-        → entries_of g person ≡ before ++ (other, Between from middle) ∷ (other, Between (middle + 1) until) ∷ after
+        → middle < until → entries_for f person ≡ before ++ (other, Between from until) ∷ after
+        → entries_for g person ≡ before ++ (other, Between from middle) ∷ (other, Between (middle + 1) until) ∷ after
         → holds f person duty at ≡ holds g person duty at
     cut_alike other before after from middle until low high of_f of_g =
         let day = day_of at in
@@ -166,11 +166,12 @@ module _ (f : RosterFields Cmnd) (person duty : List ℕ) (at : ℕ) where
         shared true false y r = refl
         shared false x y r = refl
 
-    pub set_alike : ((e : Entry) → Contains (entries_of f person) e ↔ Contains (entries_of g person) e) → holds f person duty at ≡ holds g person duty at
-    set_alike same = same_bool _ _ (λ e. let one = one_passes (gives duty (day_of at)) (entries_of f person) e in
-        passes (gives duty (day_of at)) (entries_of g person) one.0 ((same one.0).0 one.1) one.2)
-        (λ e. let one = one_passes (gives duty (day_of at)) (entries_of g person) e in
-        passes (gives duty (day_of at)) (entries_of f person) one.0 ((same one.0).1 one.1) one.2)
+    pub set_alike : ((e : Entry) → Contains (entries_for f person) e ↔ Contains (entries_for g person) e)
+        → holds f person duty at ≡ holds g person duty at
+    set_alike same = same_bool _ _ (λ e. let one = one_passes (gives duty (day_of at)) (entries_for f person) e in
+        passes (gives duty (day_of at)) (entries_for g person) one.0 ((same one.0).0 one.1) one.2)
+        (λ e. let one = one_passes (gives duty (day_of at)) (entries_for g person) e in
+        passes (gives duty (day_of at)) (entries_for f person) one.0 ((same one.0).1 one.1) one.2)
 
 -- ---- rosters that differ in later days
 

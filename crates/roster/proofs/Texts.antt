@@ -11,7 +11,7 @@ use Rattle.sudo_words.specs.declared.cmnd.Cmnd.{Cmnd}
 use Rattle.roster.specs.Faults.{IsRosterText}
 use Rattle.roster.specs.Fields.{CeilingFields, RosterFields, entry_in_texts, in_texts}
 use Rattle.roster.specs.Rules.{IsCmndText, IsNamedCeiling, GoodNames, good_names, are_known, has_self_conflict, in_range, is_ranged}
-use Rattle.roster.specs.Rules.{is_within, is_known_ceiling, is_known_pair, is_known_person, has_counts, has_ceiling_counts}
+use Rattle.roster.specs.Rules.{is_between, is_known_ceiling, is_known_pair, is_known_person, has_counts, has_ceiling_counts}
 use Rattle.roster.specs.private.Stages.{IsDraftOf, KeepsRules}
 
 commands_in_texts : (cs : List Cmnd) → All IsLawful cs → All IsCmndText (map cmnd_text cs)
@@ -52,8 +52,8 @@ ranged_in_texts : (cs : List (List ℕ × CeilingFields Cmnd)) → list_all is_r
 ranged_in_texts [] = refl
 ranged_in_texts (c ∷ cs) =
     let one : is_ranged (entry_in_texts c) ≡ is_ranged c =
-    ap (λ n. is_within 1 3 c.1.needs && is_within 1 256 (length c.1.hosts) && is_within 1 256 (length c.1.runas)
-    && is_within 1 256 n && is_within 1 2_592_000 c.1.longest) (length-map c.1.commands cmnd_text) in
+    ap (λ n. is_between 1 3 c.1.needs && is_between 1 256 (length c.1.hosts) && is_between 1 256 (length c.1.runas)
+    && is_between 1 256 n && is_between 1 2_592_000 c.1.longest) (length-map c.1.commands cmnd_text) in
     ap₂ (λ a b. a && b) one (ranged_in_texts cs)
 
 pub range_in_texts : (text : List ℕ) (f : RosterFields Cmnd) → in_range text (in_texts f) ≡ in_range text f

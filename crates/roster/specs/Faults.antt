@@ -43,28 +43,29 @@ Has text OutOfRange = (t : RosterFields (List ℕ)) × TextSays text t × (in_ra
 Has text NoMemory = ⊥
 
 -- the number in a fault's code
-abbrev pub number : RosterFault → ℕ
-number NotToml = 1
-number UnknownKey = 2
-number WrongType = 3
-number BadName = 4
-number UnknownName = 5
-number SelfConflict = 6
-number OutOfRange = 7
-number NoMemory = 8
+abbrev pub fault_number : RosterFault → ℕ
+fault_number NotToml = 1
+fault_number UnknownKey = 2
+fault_number WrongType = 3
+fault_number BadName = 4
+fault_number UnknownName = 5
+fault_number SelfConflict = 6
+fault_number OutOfRange = 7
+fault_number NoMemory = 8
 
 -- the text has the fault, and none of a lower number
 abbrev pub IsLeastFault : List ℕ → RosterFault → Type 0
 IsLeastFault text fault =
-    Has text fault × ((lower : RosterFault) → number lower < number fault → ¬ Has text lower)
+    Has text fault
+    × ((lower : RosterFault) → fault_number lower < fault_number fault → ¬ Has text lower)
 
 -- how a fault is printed
-abbrev pub fault_text : RosterFault → List ℕ
-fault_text NotToml = codes "O1 NotToml"
-fault_text UnknownKey = codes "O2 UnknownKey"
-fault_text WrongType = codes "O3 WrongType"
-fault_text BadName = codes "O4 BadName"
-fault_text UnknownName = codes "O5 UnknownName"
-fault_text SelfConflict = codes "O6 SelfConflict"
-fault_text OutOfRange = codes "O7 OutOfRange"
-fault_text NoMemory = codes "O8 NoMemory"
+abbrev pub roster_fault_text : RosterFault → List ℕ
+roster_fault_text NotToml = codes "O1 NotToml"
+roster_fault_text UnknownKey = codes "O2 UnknownKey"
+roster_fault_text WrongType = codes "O3 WrongType"
+roster_fault_text BadName = codes "O4 BadName"
+roster_fault_text UnknownName = codes "O5 UnknownName"
+roster_fault_text SelfConflict = codes "O6 SelfConflict"
+roster_fault_text OutOfRange = codes "O7 OutOfRange"
+roster_fault_text NoMemory = codes "O8 NoMemory"

@@ -6,9 +6,9 @@ use Rattle.std.specs.List.{list_all, list_any}
 use Rattle.std.specs.List.Sorted.{IsStrictlySortedBy}
 use Rattle.std.specs.Map.{keys_of}
 use Rattle.std.specs.declared.cmp.Ordering.{Ordering}
-use Rattle.std.specs.Ordering.{nat_cmp, is_lt, ordering_then}
-use Rattle.std.specs.Cmp.Lexicographic.{slice_cmp}
+use Rattle.std.specs.Ordering.{ordering_then}
 use Rattle.std.specs.Str.{bytes_eq}
+use Rattle.sudo_words.specs.Lists.{is_before, text_order}
 use Rattle.sudo_words.specs.Moment.{day_of}
 use Rattle.roster.specs.Fields.{CeilingFields, Entry, RosterFields}
 use Rattle.roster.specs.Rules.{is_among}
@@ -25,8 +25,8 @@ abbrev pub or_none : Option (List Entry) → List Entry
 or_none None = []
 or_none (Some entries) = entries
 
-abbrev pub entries_of : {C : Type 0} → RosterFields C → (person : List ℕ) → List Entry
-entries_of f person = or_none (entry_of f.people person)
+abbrev pub entries_for : {C : Type 0} → RosterFields C → (person : List ℕ) → List Entry
+entries_for f person = or_none (entry_of f.people person)
 
 -- the day is one of the days
 abbrev pub hold : Days → (day : ℕ) → Bool
@@ -39,7 +39,7 @@ gives duty day e = bytes_eq e.0 duty && hold e.1 day
 
 -- the person holds the duty at the moment
 abbrev pub holds : {C : Type 0} → RosterFields C → (person duty : List ℕ) (at : ℕ) → Bool
-holds f person duty at = list_any (gives duty (day_of at)) (entries_of f person)
+holds f person duty at = list_any (gives duty (day_of at)) (entries_for f person)
 
 -- the pair is these two, this way round
 abbrev pub is_pair : (first second : List ℕ) → List ℕ × List ℕ → Bool
@@ -59,7 +59,7 @@ is_against f duty day e = hold e.1 day && conflicting f e.0 duty
 
 -- the person holds at the moment a duty that conflicts with this one
 abbrev pub holds_against : {C : Type 0} → RosterFields C → (person duty : List ℕ) (at : ℕ) → Bool
-holds_against f person duty at = list_any (is_against f duty (day_of at)) (entries_of f person)
+holds_against f person duty at = list_any (is_against f duty (day_of at)) (entries_for f person)
 
 -- Separation of duties: whoever approves at a moment is not the asker, holds the approving duty
 -- then, and holds no duty then that conflicts with it.
@@ -84,10 +84,6 @@ has_person f person = is_some (entry_of f.people person)
 
 -- ---- byte order
 
--- the text comes before the other in byte order
-abbrev pub is_before : List ℕ → List ℕ → Bool
-is_before low high = is_lt (slice_cmp nat_cmp low high)
-
 -- one of the words, and none of them comes before it
 pub record IsFirst (words : List (List ℕ)) (w : List ℕ) : Type 0 where
   pub among : is_among words w ≡ true
@@ -95,15 +91,12 @@ pub record IsFirst (words : List (List ℕ)) (w : List ℕ) : Type 0 where
 
 -- each name comes before those after it, so none comes twice
 abbrev pub AreRising : {X : Type 0} → List (List ℕ × X) → Type 0
-AreRising entries = IsStrictlySortedBy (slice_cmp nat_cmp) (keys_of entries)
+AreRising entries = IsStrictlySortedBy text_order (keys_of entries)
 
 -- a roster's people and ceilings are in the byte order of their names, each name once
 pub record IsOrdered {C : Type 0} (f : RosterFields C) : Type 0 where
   pub people : AreRising f.people
   pub ceilings : AreRising f.ceilings
-
-abbrev pub text_order : List ℕ → List ℕ → Ordering
-text_order = slice_cmp nat_cmp
 
 -- pairs by the first of the two, then by the second
 abbrev pub pair_order : (p q : List ℕ × List ℕ) → Ordering

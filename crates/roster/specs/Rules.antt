@@ -81,14 +81,15 @@ has_self_conflict f = list_any (λ p. bytes_eq p.0 p.1) f.conflicts
 
 -- ---- numbers and counts
 
-abbrev pub is_within : (least most n : ℕ) → Bool
-is_within least most n = nat_le least n && nat_le n most
+abbrev pub is_between : (least most n : ℕ) → Bool
+is_between least most n = nat_le least n && nat_le n most
 
 -- 1 to 3 approvals; 1 to 256 hosts, targets and commands; a window of 1 second to 30 days
 abbrev pub is_ranged : {C : Type 0} → List ℕ × CeilingFields C → Bool
 is_ranged c =
-    is_within 1 3 c.1.needs && is_within 1 256 (length c.1.hosts) && is_within 1 256
-    (length c.1.runas) && is_within 1 256 (length c.1.commands) && is_within 1 2_592_000 c.1.longest
+    is_between 1 3 c.1.needs && is_between 1 256 (length c.1.hosts)
+    && is_between 1 256 (length c.1.runas) && is_between 1 256 (length c.1.commands)
+    && is_between 1 2_592_000 c.1.longest
 
 -- every day, or from a day to the same or a later one, up to 2099-12-31
 abbrev pub are_in_range : Days → Bool
@@ -105,8 +106,8 @@ is_ranged_person p = nat_le (length p.1) 256 && list_all is_ranged_entry p.1
 -- 1 to 64 relays, 1 to 1,024 hosts, up to 256 duties, 4,096 conflicts and 4,096 people
 abbrev pub has_list_counts : {C : Type 0} → RosterFields C → Bool
 has_list_counts f =
-    is_within 1 64 (length f.relays)
-    && is_within 1 1024 (length f.hosts) && nat_le (length f.duties) 256
+    is_between 1 64 (length f.relays)
+    && is_between 1 1024 (length f.hosts) && nat_le (length f.duties) 256
     && nat_le (length f.conflicts) 4096 && nat_le (length f.people) 4096
 
 -- and each person in range

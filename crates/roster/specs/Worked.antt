@@ -104,8 +104,8 @@ shop = record {
 }
 
 -- a text with one relay and these hosts, duties, pairs and people, and no ceilings
-abbrev pub text_of : (hosts duties conflicts people : List ℕ) → List ℕ
-text_of hosts duties conflicts people =
+abbrev pub roster_text : (hosts duties conflicts people : List ℕ) → List ℕ
+roster_text hosts duties conflicts people =
     codes "relays=['r']\nhosts=[" ++ hosts ++ codes "]\nduties=["
     ++ duties ++ codes "]\nconflicts=[" ++ conflicts
     ++ codes "]\npeople={" ++ people ++ codes "}\nceilings={}"

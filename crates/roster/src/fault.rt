@@ -33,9 +33,9 @@ pub enum RosterFault {
 
 impl fmt::Display for RosterFault {
     ghost use Rattle.std.specs.Prelude.{Some};
-    ghost use Rattle.roster.specs.Faults.{fault_text};
+    ghost use Rattle.roster.specs.Faults.{roster_fault_text};
 
-    ghost output = { λ e. Some (fault_text e) };
+    ghost output = { λ e. Some (roster_fault_text e) };
 
     fn fmt<W: fmt::Write>(&self, f: &mut fmt::Formatter<W>) -> fmt::Result {
         f.write_str(match self {

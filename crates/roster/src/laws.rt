@@ -10,7 +10,7 @@ ghost use Rattle.roster.specs.Faults.{Has, IsLeastFault, IsRosterText};
 ghost use Rattle.roster.specs.Fields.{CeilingFields, RosterFields};
 ghost use Rattle.roster.specs.Relations.{conflicting, eligible, hold, holds, may_revoke};
 ghost use Rattle.roster.specs.Worked.{office, everything, shop, shop_text, smallest};
-ghost use Rattle.roster.specs.Worked.{smallest_text, text_of, text_with_days, with_days};
+ghost use Rattle.roster.specs.Worked.{smallest_text, roster_text, text_with_days, with_days};
 ghost use Rattle.roster.specs.declared.days.Days.TheVariants.{Between};
 ghost use Rattle.roster.specs.declared.fault.RosterFault.{RosterFault};
 ghost use Rattle.roster.specs.declared.fault.RosterFault.TheVariants.{BadName, NotToml, OutOfRange};
@@ -161,12 +161,14 @@ pub fn worked_roster()
 /// conflicts with itself, no host; and, for a text with two faults, the lower one.
 pub fn worked_faults()
     ensures bad_name { IsLeastFault
-        (text_of (codes "'H'") (codes "'d'") [] (codes "a=['d']")) BadName }
+        (roster_text (codes "'H'") (codes "'d'") [] (codes "a=['d']")) BadName }
     ensures unknown_name { IsLeastFault
-        (text_of (codes "'h'") (codes "'d'") [] (codes "a=['e']")) UnknownName }
+        (roster_text (codes "'h'") (codes "'d'") [] (codes "a=['e']")) UnknownName }
     ensures self_conflict { IsLeastFault
-        (text_of (codes "'h'") (codes "'d'") (codes "['d','d']") (codes "a=['d']")) SelfConflict }
-    ensures out_of_range { IsLeastFault (text_of [] (codes "'d'") [] (codes "a=['d']")) OutOfRange }
+        (roster_text (codes "'h'") (codes "'d'") (codes "['d','d']") (codes "a=['d']"))
+        SelfConflict }
+    ensures out_of_range { IsLeastFault
+        (roster_text [] (codes "'d'") [] (codes "a=['d']")) OutOfRange }
     ensures lesser { IsLeastFault
-        (text_of [] (codes "'d'") (codes "['d','d']") (codes "a=['d']")) SelfConflict }
+        (roster_text [] (codes "'d'") (codes "['d','d']") (codes "a=['d']")) SelfConflict }
 {}

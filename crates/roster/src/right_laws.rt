@@ -5,7 +5,7 @@ ghost use Rattle.sudo_words.specs.declared.cmnd.Cmnd.{Cmnd};
 ghost use Rattle.sudo_words.specs.Moment.{day_of, IsMoment};
 ghost use Rattle.roster.specs.Agreement.{AgreeUntil};
 ghost use Rattle.roster.specs.Fields.{CeilingFields, Entry, RosterFields};
-ghost use Rattle.roster.specs.Relations.{ceiling_at, eligible, entries_of};
+ghost use Rattle.roster.specs.Relations.{ceiling_at, eligible, entries_for};
 ghost use Rattle.roster.specs.Relations.{has_person, hold, holds, may_revoke};
 ghost use Rattle.roster.specs.Worked.{longer_office, office};
 ghost use Rattle.roster.specs.declared.days.Days.{Days as AnyDays};
@@ -15,11 +15,11 @@ ghost use Rattle.roster.specs.declared.days.Days.TheVariants.{Always, Between};
 /// same as one with the days from 1970-01-01 to 2099-12-31.
 pub fn always_is_every_day()
     ensures held { (f : RosterFields Cmnd) (person duty : List ℕ) (at : ℕ) →
-        Contains (entries_of f person) (duty, Always) → holds f person duty at ≡ true }
+        Contains (entries_for f person) (duty, Always) → holds f person duty at ≡ true }
     ensures same { (f g : RosterFields Cmnd) (person duty other : List ℕ)
         (before after : List Entry) (at : ℕ)
-        → IsMoment at → entries_of f person ≡ before ++ (other, Always) ∷ after
-        → entries_of g person ≡ before ++ (other, Between 0 47_481) ∷ after
+        → IsMoment at → entries_for f person ≡ before ++ (other, Always) ∷ after
+        → entries_for g person ≡ before ++ (other, Between 0 47_481) ∷ after
         → holds f person duty at ≡ holds g person duty at }
 {}
 
@@ -28,7 +28,8 @@ pub fn always_is_every_day()
 pub fn cut_days_are_the_same()
     ensures { (f g : RosterFields Cmnd) (person duty other : List ℕ)
         (before after : List Entry) (from middle until at : ℕ) → from ≤ middle → middle < until
-        → entries_of f person ≡ before ++ (other, Between from until) ∷ after → entries_of g person
+        → entries_for f person ≡ before ++ (other, Between from until) ∷ after
+        → entries_for g person
         ≡ before ++ (other, Between from middle) ∷ (other, Between (middle + 1) until) ∷ after
         → holds f person duty at ≡ holds g person duty at }
 {}
@@ -36,7 +37,7 @@ pub fn cut_days_are_the_same()
 /// A person's entries are a set: neither their order nor repeats mean anything.
 pub fn entries_are_a_set()
     ensures { (f g : RosterFields Cmnd) (person duty : List ℕ) (at : ℕ) →
-        ((e : Entry) → Contains (entries_of f person) e ↔ Contains (entries_of g person) e) →
+        ((e : Entry) → Contains (entries_for f person) e ↔ Contains (entries_for g person) e) →
         holds f person duty at ≡ holds g person duty at }
 {}
 

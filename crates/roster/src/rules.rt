@@ -4,9 +4,8 @@
 ghost use Rattle.std.specs.Prelude.{◌≡◌, ◌&&◌, IfOk, nat_le};
 ghost use Rattle.std.specs.List.{list_all, list_any};
 ghost use Rattle.std.specs.Str.{bytes_eq};
-ghost use Rattle.roster.specs.Relations.{text_order};
 ghost use Rattle.roster.specs.private.LookupOrders.{AreTextsInOrder};
-ghost use Rattle.sudo_words.specs.Lists.{IsEachOnce};
+ghost use Rattle.sudo_words.specs.Lists.{IsEachOnce, text_order};
 ghost use Rattle.roster.specs.Rules as rules;
 
 use crate::ceiling::Ceiling;
@@ -107,8 +106,8 @@ pub(crate) fn has_self_conflict(draft: &Draft) -> bool
     has_equal_pair(draft.conflicts.as_slice())
 }
 
-fn is_within(least: usize, most: usize, n: usize) -> bool
-    ensures { result ≡ rules.is_within least most n }
+fn is_between(least: usize, most: usize, n: usize) -> bool
+    ensures { result ≡ rules.is_between least most n }
 {
     least <= n && n <= most
 }
@@ -139,7 +138,7 @@ fn are_people_ranged(people: &[(Text, Items<(Text, Days)>)]) -> bool
 }
 
 fn is_number_within(least: u64, most: u64, n: u64) -> bool
-    ensures { result ≡ rules.is_within least most n }
+    ensures { result ≡ rules.is_between least most n }
 {
     least <= n && n <= most
 }
@@ -148,9 +147,9 @@ fn is_ranged(ceiling: &(Text, DraftCeiling)) -> bool
     ensures { result ≡ rules.is_ranged ceiling.now }
 {
     is_number_within(1, 3, ceiling.1.needs)
-        && is_within(1, 256, ceiling.1.hosts.as_slice().len())
-        && is_within(1, 256, ceiling.1.runas.as_slice().len())
-        && is_within(1, 256, ceiling.1.commands.as_slice().len())
+        && is_between(1, 256, ceiling.1.hosts.as_slice().len())
+        && is_between(1, 256, ceiling.1.runas.as_slice().len())
+        && is_between(1, 256, ceiling.1.commands.as_slice().len())
         && is_number_within(1, 2_592_000, ceiling.1.longest)
 }
 
@@ -163,8 +162,8 @@ fn are_ranged(ceilings: &[(Text, DraftCeiling)]) -> bool
 fn has_list_counts(draft: &Draft) -> bool
     ensures { result ≡ rules.has_list_counts draft.now }
 {
-    is_within(1, 64, draft.relays.as_slice().len())
-        && is_within(1, 1024, draft.hosts.as_slice().len())
+    is_between(1, 64, draft.relays.as_slice().len())
+        && is_between(1, 1024, draft.hosts.as_slice().len())
         && is_up_to(256, draft.duties.as_slice().len())
         && is_up_to(4096, draft.conflicts.as_slice().len())
         && is_up_to(4096, draft.people.as_slice().len())

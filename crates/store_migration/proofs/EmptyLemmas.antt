@@ -26,7 +26,7 @@ use Rattle.store_tables.proofs.Where as where'
 use Rattle.store_schema.specs.declared.part.DeskPart.{DeskPart}
 use Rattle.store_schema.specs.declared.part.DeskPart.TheVariants.{Desk, Messages, Names, Marks, Verdicts, Parked}
 use Rattle.store_schema.specs.Migratable.{IsMigratable}
-use Rattle.store_schema.specs.Parts.{name_of}
+use Rattle.store_schema.specs.Parts.{part_name}
 use Rattle.store_schema.specs.Shapes.{FindsPart, IsOld}
 use Rattle.store_schema.proofs.ShapeLemmas.{tree_in}
 use Rattle.store_opening.specs.Statements.{select_of}
@@ -38,7 +38,7 @@ use Rattle.store_migration.proofs.PartLemmas.{mark_of, still}
 
 -- ---- the DELETE
 
-parts : (p : DeskPart) → IsClear (delete_of p) (name_of p)
+parts : (p : DeskPart) → IsClear (delete_of p) (part_name p)
 unfolding everything
 parts Desk = record { p = _; parsed = refl; statement = refl; formats = refl }
 parts Messages = record { p = _; parsed = refl; statement = refl; formats = refl }
@@ -49,15 +49,15 @@ parts Parked = record { p = _; parsed = refl; statement = refl; formats = refl }
 
 means : (p : DeskPart) (s : Schema) (it : FindsPart s p)
     → Means s (delete_of p) (command.Delete it.at (record { lets = []; body = scanning it.table.tree }))
-means p s it = where'.clears s (delete_of p) (name_of p) (parts p) it.at it.table it.finds
+means p s it = where'.clears s (delete_of p) (part_name p) (parts p) it.at it.table it.finds
 
 deletes : (p : DeskPart) (old new : State) (count : ℕ) → FindsPart old.now.schema p
-    → IsUnreferred old.now.schema (tree_of old.now.schema (name_of p)) → Executes (delete_of p) [] old new (Ok count) → Deletes p old.now new.now
+    → IsUnreferred old.now.schema (tree_of old.now.schema (part_name p)) → Executes (delete_of p) [] old new (Ok count) → Deletes p old.now new.now
 deletes p old new count it alone ran =
     let s = old.now.schema in
     let sql = delete_of p in
     let t = it.table in
-    let tree : tree_of s (name_of p) ≡ t.tree = tree_in s p it in
+    let tree : tree_of s (part_name p) ≡ t.tree = tree_in s p it in
     let is = means p s it in
     let w = runs_as sql [] old new s refl (command.Delete it.at (record { lets = []; body = scanning t.tree })) is.command is.plain count ran in
     let done = takes.clears t s it.at it.finds.has it.finds.stored (subst (IsUnreferred s) tree alone) old.step_limit
@@ -89,11 +89,11 @@ none_stored f [] e = refl
 none_stored f (r ∷ rows) e = absurd (omega (arith, e))
 
 -- where nothing is shown, the table has no row
-bare : (p : DeskPart) (db : Database) (rows : List Row) → ShowsPart p db rows → (length rows == 0) ≡ true → table_in db (name_of p) ≡ []
+bare : (p : DeskPart) (db : Database) (rows : List Row) → ShowsPart p db rows → (length rows == 0) ≡ true → table_in db (part_name p) ≡ []
 bare p db rows shows none =
     let empty : length rows ≡ 0 = (Decides-eqb (length rows) 0).0 none in
-    let lengths = length_permutation (map (shown_of p) (table_in db (name_of p))) rows shows in
-    none_stored (shown_of p) (table_in db (name_of p)) (sym (sym empty ∙ lengths))
+    let lengths = length_permutation (map (shown_of p) (table_in db (part_name p))) rows shows in
+    none_stored (shown_of p) (table_in db (part_name p)) (sym (sym empty ∙ lengths))
 
 pub cleared : (p : DeskPart) (a b c : State) (rows : List Row) → Deleted p a b → Left p rows b c → (length rows == 0) ≡ true → Cleared p a c
 cleared p a b c rows gone left none = record {
@@ -117,7 +117,7 @@ none_done a = record { schema = refl; empty = tt; others = λ t there apart. ref
 
 module _ (p : DeskPart) (old a b : Database) (it : FindsPart a.schema p) (gone : Clears p a b) where
   all_still : (done : List DeskPart) → AllByRecursion (Other a.schema p) done
-      → AllByRecursion (λ q. table_in a (name_of q) ≡ []) done → AllByRecursion (λ q. table_in b (name_of q) ≡ []) done
+      → AllByRecursion (λ q. table_in a (part_name q) ≡ []) done → AllByRecursion (λ q. table_in b (part_name q) ≡ []) done
   all_still [] others empty = tt
   all_still (q ∷ done) others empty = (still p q a b it others.0.0 others.0.1 gone.schema gone.others ∙ empty.0, all_still done others.1 empty.1)
 
@@ -125,8 +125,8 @@ module _ (p : DeskPart) (old a b : Database) (it : FindsPart a.schema p) (gone :
   one_more done others e = record {
     schema = gone.schema ∙ e.schema;
     empty = (gone.empty, all_still done others e.empty);
-    others = λ t there apart. all_has (λ (u : Table). u.tree ≢ tree_of a.schema (name_of p) → b.trees u.tree ≡ a.trees u.tree) a.schema.tables t gone.others
-        (subst (λ (s : Schema). Has s.tables t) (sym e.schema) there) (λ same. apart.0 (same ∙ ap (λ s. tree_of s (name_of p)) e.schema))
+    others = λ t there apart. all_has (λ (u : Table). u.tree ≢ tree_of a.schema (part_name p) → b.trees u.tree ≡ a.trees u.tree) a.schema.tables t gone.others
+        (subst (λ (s : Schema). Has s.tables t) (sym e.schema) there) (λ same. apart.0 (same ∙ ap (λ s. tree_of s (part_name p)) e.schema))
         ∙ e.others t there apart.1;
   }
 

@@ -11,7 +11,7 @@ use Rattle.sqlite_rules.specs.Lists.{Has}
 use Rattle.messages.specs.declared.message.Message.{Message}
 use Rattle.store_tables.specs.Kept.{HasRows, Holds, HoldsText, IsDeskDatabase, Spares, table_in}
 use Rattle.store_tables.specs.Sets.{Lists}
-use Rattle.store_tables.specs.Stored.{Texts, content_of, is_stray, recorded, recorded_before, texts_of}
+use Rattle.store_tables.specs.Stored.{Texts, content_of, is_stray, recorded, recorded_before, row_texts}
 use Rattle.store_tables.specs.Steps.{IsBare, Marked, Marks, Says}
 use Rattle.store_tables.specs.Steps.{Refilled, Refills, texts_in}
 use Rattle.store_tables.proofs.OneSchema.{again, same_tables, unused_again}
@@ -49,7 +49,7 @@ module _ (roster : List ℕ) (utf8 : IsUtf8 roster) (ms : List Message) (a b c d
   messages = r.messages_same ∙ same_messages b c p.tidy put.schema put.others ∙ p.messages
 
   texts : (content_of d).texts ≡ (content_of a).texts
-  texts = ap texts_of messages
+  texts = ap row_texts messages
 
   desk : IsDeskDatabase d
   desk = record {

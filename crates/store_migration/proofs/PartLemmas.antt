@@ -15,7 +15,7 @@ use Rattle.store_tables.specs.Steps.{KeepsBut}
 use Rattle.store_tables.proofs.AddLemmas.{all_at}
 use Rattle.store_schema.specs.declared.part.DeskPart.{DeskPart}
 use Rattle.store_schema.specs.declared.part.DeskPart.TheVariants.{Desk, Messages, Names, Marks, Verdicts, Parked}
-use Rattle.store_schema.specs.Parts.{name_of}
+use Rattle.store_schema.specs.Parts.{part_name}
 use Rattle.store_schema.specs.Shapes.{FindsPart}
 use Rattle.store_schema.proofs.Grown.{grows, indexes_grow}
 use Rattle.store_schema.proofs.RecognizedLemmas.{name_in}
@@ -34,7 +34,7 @@ mark_of Marks = 28001
 mark_of Verdicts = 30309
 mark_of Parked = 28769
 
-mark_is : (p : DeskPart) → letters (name_of p) ≡ mark_of p
+mark_is : (p : DeskPart) → letters (part_name p) ≡ mark_of p
 mark_is Desk = refl
 mark_is Messages = refl
 mark_is Names = refl
@@ -46,7 +46,7 @@ marked : (s : Schema) (p : DeskPart) (it : FindsPart s p) → letters it.table.n
 marked s p it = ap letters (name_in p it.table it.is) ∙ mark_is p
 
 -- two parts have two trees
-pub apart : (s : Schema) (p q : DeskPart) → FindsPart s p → FindsPart s q → mark_of p ≢ mark_of q → tree_of s (name_of p) ≢ tree_of s (name_of q)
+pub apart : (s : Schema) (p q : DeskPart) → FindsPart s p → FindsPart s q → mark_of p ≢ mark_of q → tree_of s (part_name p) ≢ tree_of s (part_name q)
 apart s p q one two differ same =
     let t = one.table in
     let u = two.table in
@@ -57,12 +57,12 @@ apart s p q one two differ same =
 
 -- a change of one part's table leaves another's as it is
 pub still : (p q : DeskPart) (a b : Database) → FindsPart a.schema p → FindsPart a.schema q → mark_of p ≢ mark_of q
-    → b.schema ≡ a.schema → KeepsBut (name_of p) a b → table_in b (name_of q) ≡ table_in a (name_of q)
+    → b.schema ≡ a.schema → KeepsBut (part_name p) a b → table_in b (part_name q) ≡ table_in a (part_name q)
 still p q a b one two differ schema others =
-    let tree : two.table.tree ≡ tree_of a.schema (name_of q) = sym (tree_in a.schema q two) in
-    let same = all_at (λ (v : Table). v.tree ≢ tree_of a.schema (name_of p) → b.trees v.tree ≡ a.trees v.tree) a.schema.tables two.at
+    let tree : two.table.tree ≡ tree_of a.schema (part_name q) = sym (tree_in a.schema q two) in
+    let same = all_at (λ (v : Table). v.tree ≢ tree_of a.schema (part_name p) → b.trees v.tree ≡ a.trees v.tree) a.schema.tables two.at
     two.table two.finds.has others (λ e. apart a.schema p q one two differ (sym e ∙ tree)) in
-    ap (λ s. b.trees (tree_of s (name_of q))) schema ∙ ap b.trees (sym tree) ∙ same ∙ ap a.trees tree
+    ap (λ s. b.trees (tree_of s (part_name q))) schema ∙ ap b.trees (sym tree) ∙ same ∙ ap a.trees tree
 
 -- ---- the tables of a schema
 

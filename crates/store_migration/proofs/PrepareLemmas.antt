@@ -14,7 +14,7 @@ use Rattle.store_tables.proofs.StepLemmas.{keyed_none, neat_none}
 use Rattle.store_schema.specs.declared.part.DeskPart.{DeskPart}
 use Rattle.store_schema.specs.declared.part.DeskPart.TheVariants as part
 use Rattle.store_schema.specs.Migratable.{IsMigratable}
-use Rattle.store_schema.specs.Parts.{name_of, table_at}
+use Rattle.store_schema.specs.Parts.{part_name, table_at}
 use Rattle.store_schema.specs.Shapes.{FindsPart, IsOld, Lacks}
 use Rattle.store_schema.specs.Founding.{Adds, AddsPart}
 use Rattle.store_schema.specs.private.Making.{Grows, HasEmpty}
@@ -26,8 +26,8 @@ use Rattle.store_migration.specs.Migrated.{IsBeside}
 use Rattle.store_migration.specs.private.Moving.{Emptied, EmptiesAll, Prepared, Prepares}
 use Rattle.store_migration.proofs.PartLemmas.{apart, below_next, has_got, mark_of}
 
-has_empty : (b : Database) (p : DeskPart) (it : FindsPart b.schema p) → table_in b (name_of p) ≡ []
-    → IsUnreferred b.schema (tree_of b.schema (name_of p)) → HasEmpty b p
+has_empty : (b : Database) (p : DeskPart) (it : FindsPart b.schema p) → table_in b (part_name p) ≡ []
+    → IsUnreferred b.schema (tree_of b.schema (part_name p)) → HasEmpty b p
 has_empty b p it none alone' = record {
   found = it;
   empty = ap b.trees (sym (tree_in b.schema p it)) ∙ none;
@@ -40,12 +40,12 @@ module _ (b c : Database) (adds : Adds (table_at part.Verdicts 0) b c) where
   found_still p it = record {
     at = it.at;
     table = it.table;
-    finds = subst (λ (s : Schema). Finds s (name_of p) it.at it.table) (sym adds.schema)
-        (finds_still b.schema (table_at part.Verdicts 0) (name_of p) it.at it.table it.finds);
+    finds = subst (λ (s : Schema). Finds s (part_name p) it.at it.table) (sym adds.schema)
+        (finds_still b.schema (table_at part.Verdicts 0) (part_name p) it.at it.table it.finds);
     is = it.is;
   }
 
-  tree_still : (p : DeskPart) → FindsPart b.schema p → tree_of c.schema (name_of p) ≡ tree_of b.schema (name_of p)
+  tree_still : (p : DeskPart) → FindsPart b.schema p → tree_of c.schema (part_name p) ≡ tree_of b.schema (part_name p)
   unfolding found_still
   tree_still p it = tree_in c.schema p (found_still p it) ∙ sym (tree_in b.schema p it)
 
@@ -119,7 +119,7 @@ module _ (a b c : Database) (was : IsOld a.schema) (may_a : IsMigratable a.schem
   there_now t there = subst (λ (s : Schema). Has s.tables t) (sym e.schema) there
 
   rows_kept : (t : Table) → Has a.schema.tables t
-      → AllByRecursion (λ q. t.tree ≢ tree_of a.schema (name_of q)) (part.Desk ∷ part.Marks ∷ part.Parked ∷ part.Names ∷ []) → c.trees t.tree ≡ a.trees t.tree
+      → AllByRecursion (λ q. t.tree ≢ tree_of a.schema (part_name q)) (part.Desk ∷ part.Marks ∷ part.Parked ∷ part.Names ∷ []) → c.trees t.tree ≡ a.trees t.tree
   rows_kept t there others =
       all_has (λ (u : Table). c.trees u.tree ≡ b.trees u.tree) b.schema.tables t adds.others (there_now t there) ∙ e.others t there others
 
@@ -128,7 +128,7 @@ module _ (a b c : Database) (was : IsOld a.schema) (may_a : IsMigratable a.schem
       let m = was.common.messages in
       let tree = tree_in a.schema part.Messages m in
       let other = λ (q : DeskPart) (it : FindsPart a.schema q) (differ : mark_of part.Messages ≢ mark_of q).
-      λ (same : m.table.tree ≡ tree_of a.schema (name_of q)). apart a.schema part.Messages q m it differ (tree ∙ same) in
+      λ (same : m.table.tree ≡ tree_of a.schema (part_name q)). apart a.schema part.Messages q m it differ (tree ∙ same) in
       let now : tree_of c.schema (codes "messages") ≡ m.table.tree =
       tree_still b c adds part.Messages old.common.messages ∙ ap (λ s. tree_of s (codes "messages")) e.schema ∙ tree in
       ap c.trees now
@@ -152,8 +152,8 @@ module _ (a b c : Database) (was : IsOld a.schema) (may_a : IsMigratable a.schem
     parked = λ same. beside.parked (same ∙ tree_before part.Parked old.common.parked);
   }
     where
-      tree_before : (q : DeskPart) → FindsPart b.schema q → tree_of c.schema (name_of q) ≡ tree_of a.schema (name_of q)
-      tree_before q it = tree_still b c adds q it ∙ ap (λ s. tree_of s (name_of q)) e.schema
+      tree_before : (q : DeskPart) → FindsPart b.schema q → tree_of c.schema (part_name q) ≡ tree_of a.schema (part_name q)
+      tree_before q it = tree_still b c adds q it ∙ ap (λ s. tree_of s (part_name q)) e.schema
 
   pub prepares : Prepares a c
   prepares = record {

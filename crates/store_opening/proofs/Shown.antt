@@ -20,7 +20,7 @@ use Rattle.store_tables.specs.Rows.{AreRows, IsRow}
 use Rattle.store_tables.specs.Stored.{is_one, is_two, recorded, roster_of}
 use Rattle.store_schema.specs.declared.part.DeskPart.{DeskPart}
 use Rattle.store_schema.specs.declared.part.DeskPart.TheVariants.{Desk, Messages, Names, Marks, Verdicts, Parked}
-use Rattle.store_schema.specs.Parts.{name_of}
+use Rattle.store_schema.specs.Parts.{part_name}
 use Rattle.store_schema.specs.Shapes.{FindsPart, IsUnmarked}
 use Rattle.store_schema.proofs.ShapeLemmas.{tree_in}
 use Rattle.store_opening.specs.Opened.{is_number, recorded_as}
@@ -44,7 +44,7 @@ SameRows old new = (r : Row) → (Has old r → Has new r) × (Has new r → Has
 module _ (db : Database) (sound : IsDatabase db) (p : DeskPart) (reads : IsRead p)
     (it : FindsPart db.schema p) (rows : List Row) (shows : ShowsPart p db rows) where
   abbrev table : List Row
-  table = table_in db (name_of p)
+  table = table_in db (part_name p)
 
   whole : (r : Row) → Has table r → IsWholeRow (width_of p) r
   whole r there = whole_rows db sound p reads it r (subst (λ t. Has (db.trees t) r) (tree_in db.schema p it) there)
@@ -199,8 +199,8 @@ pub tells_marks : (db : Database) (it : FindsPart db.schema Marks) (rows : List 
     → (empty : Bool) → empty ≡ (length rows == 0) → (not empty ≡ false → IsUnmarked db) × (not empty ≡ true → ¬ IsUnmarked db)
 tells_marks db it rows shows empty is = (unmarked, marked)
   where
-    table : length (map (shown_of Marks) (table_in db (name_of Marks))) ≡ length rows
-    table = sym (length_permutation (map (shown_of Marks) (table_in db (name_of Marks))) rows shows)
+    table : length (map (shown_of Marks) (table_in db (part_name Marks))) ≡ length rows
+    table = sym (length_permutation (map (shown_of Marks) (table_in db (part_name Marks))) rows shows)
 
     none_stored : (l : List Row) → length (map (shown_of Marks) l) ≡ 0 → l ≡ []
     none_stored [] e = refl
@@ -209,7 +209,7 @@ tells_marks db it rows shows empty is = (unmarked, marked)
     unmarked : not empty ≡ false → IsUnmarked db
     unmarked no_mark =
         let none : length rows ≡ 0 = (Decides-eqb (length rows) 0).0 (sym is ∙ not_false empty no_mark) in
-        let bare : table_in db (name_of Marks) ≡ [] = none_stored _ (table ∙ none) in
+        let bare : table_in db (part_name Marks) ≡ [] = none_stored _ (table ∙ none) in
         inr (record { marks = it; empty = subst (λ t. db.trees t ≡ []) (tree_in db.schema Marks it) bare })
 
     marked : not empty ≡ true → ¬ IsUnmarked db

@@ -13,7 +13,7 @@ use Rattle.store_tables.specs.Stored.{Finds, IsUnreferred, is_in, parent_of}
 use Rattle.store_tables.proofs.AddLemmas.{all_at}
 use Rattle.store_schema.specs.declared.part.DeskPart.{DeskPart}
 use Rattle.store_schema.specs.declared.part.DeskPart.TheVariants.{Desk, Messages, Names, Marks, Verdicts, Parked}
-use Rattle.store_schema.specs.Parts.{name_of, table_at}
+use Rattle.store_schema.specs.Parts.{part_name, table_at}
 use Rattle.store_schema.specs.Shapes.{Lacks}
 use Rattle.store_schema.specs.Founding.{Adds}
 use Rattle.store_schema.specs.private.Making.{Differs, Grows, HasEmpty}
@@ -24,7 +24,7 @@ use Rattle.store_schema.proofs.RecognizedLemmas.{made_is, tree_is}
 
 -- ---- what all six tables have in common
 
-pub same_itself : (part : DeskPart) (n : ℕ) → same_name (table_at part n).name (name_of part) ≡ true
+pub same_itself : (part : DeskPart) (n : ℕ) → same_name (table_at part n).name (part_name part) ≡ true
 unfolding same_name
 same_itself Desk n = refl
 same_itself Messages n = refl
@@ -33,7 +33,7 @@ same_itself Marks n = refl
 same_itself Verdicts n = refl
 same_itself Parked n = refl
 
-pub name_is : (part : DeskPart) (n : ℕ) → (table_at part n).name ≡ name_of part
+pub name_is : (part : DeskPart) (n : ℕ) → (table_at part n).name ≡ part_name part
 name_is Desk n = refl
 name_is Messages n = refl
 name_is Names n = refl
@@ -107,7 +107,7 @@ module _ (s : Schema) (part : DeskPart) where
           ap (λ o. is_in o tree) (find_kept (λ (t : Table). same_name t.name ref.parent) u s.tables (new ∷ []) e) ∙ sym (ap (λ o. is_in o tree) e) ∙ h
 
   -- a reference that does not name the new table has its parent in another one
-  new_other : (ref : Reference) → same_name (name_of part) ref.parent ≡ false → is_in (parent_of more' ref) (next_tree s) ≡ false
+  new_other : (ref : Reference) → same_name (part_name part) ref.parent ≡ false → is_in (parent_of more' ref) (next_tree s) ≡ false
   new_other ref h = go (parent_of s.tables ref) refl
     where
       last : cond (same_name new.name ref.parent) (Some new) None ≡ None
@@ -128,11 +128,11 @@ module _ (s : Schema) (part : DeskPart) where
       (λ t. any_less (λ ref. is_in (parent_of s.tables ref) tree) (λ ref. is_in (parent_of more' ref) tree) (still_other tree low) t.references) s.tables h)
       (none_new (λ ref. is_in (parent_of more' ref) tree))
 
-  pub unreferred_new : is_parent s (name_of part) ≡ false → IsUnreferred (created s (table_at part 0)) (next_tree s)
+  pub unreferred_new : is_parent s (part_name part) ≡ false → IsUnreferred (created s (table_at part 0)) (next_tree s)
   unreferred_new h = any_end (λ (t : Table). list_any (λ ref. is_in (parent_of more' ref) (next_tree s)) t.references) s.tables new
-      (any_less (λ (t : Table). list_any (λ ref. same_name (name_of part) ref.parent) t.references)
+      (any_less (λ (t : Table). list_any (λ ref. same_name (part_name part) ref.parent) t.references)
       (λ (t : Table). list_any (λ ref. is_in (parent_of more' ref) (next_tree s)) t.references)
-      (λ t. any_less (λ ref. same_name (name_of part) ref.parent) (λ ref. is_in (parent_of more' ref) (next_tree s)) new_other t.references) s.tables h)
+      (λ t. any_less (λ ref. same_name (part_name part) ref.parent) (λ ref. is_in (parent_of more' ref) (next_tree s)) new_other t.references) s.tables h)
       (none_new (λ ref. is_in (parent_of more' ref) (next_tree s)))
 
   pub unnamed_still : (name : List ℕ) → is_parent s name ≡ false → is_parent (created s (table_at part 0)) name ≡ false
@@ -143,11 +143,12 @@ module _ (s : Schema) (part : DeskPart) where
 
   pub lacks_still : (other : DeskPart) → Differs part other → Lacks s other → Lacks (created s (table_at part 0)) other
   lacks_still other differs free = record {
-    table = unused_still s (table_at part 0) (name_of other) free.table (ap (λ n. same_name n (name_of other)) (name_is part 0) ∙ differs.table);
+    table = unused_still s (table_at part 0) (part_name other) free.table (ap (λ n. same_name n (part_name other)) (name_is part 0) ∙ differs.table);
     view = free.view;
-    index = position_none (λ i. same_name i.name (name_of other)) 0 s.indexes _ free.index ∙ subst (λ (t : Table).
-        position_from (λ i. same_name i.name (name_of other)) (0 + length s.indexes) (Rattle.sqlite_catalog.specs.Change.automatics t 0 (t.tree + 1) t.uniques)
-        ≡ None) (sym (moved part 0 (next_tree s))) (subst (λ n. position_from (λ i. same_name i.name (name_of other)) (0 + length s.indexes)
+    index = position_none (λ i. same_name i.name (part_name other)) 0 s.indexes _ free.index ∙ subst (λ (t : Table).
+        position_from (λ i. same_name i.name (part_name other)) (0 + length s.indexes)
+        (Rattle.sqlite_catalog.specs.Change.automatics t 0 (t.tree + 1) t.uniques)
+        ≡ None) (sym (moved part 0 (next_tree s))) (subst (λ n. position_from (λ i. same_name i.name (part_name other)) (0 + length s.indexes)
         (Rattle.sqlite_catalog.specs.Change.automatics (table_at part (next_tree s)) 0 (n + 1) (table_at part (next_tree s)).uniques) ≡ None)
         (sym (tree_is part (next_tree s))) (differs.index (next_tree s) (0 + length s.indexes)));
   }
@@ -157,7 +158,7 @@ module _ (s : Schema) (part : DeskPart) where
 open_still : (s : Schema) (part other : DeskPart) → Differs part other → IsOpen s other → IsOpen (created s (table_at part 0)) other
 open_still s part other differs free = record {
   lacks = lacks_still s part other differs free.lacks;
-  unnamed = unnamed_still s part (name_of other) free.unnamed;
+  unnamed = unnamed_still s part (part_name other) free.unnamed;
 }
 
 all_open : (s : Schema) (part : DeskPart) (rest : List DeskPart) → AllByRecursion (Differs part) rest
@@ -176,11 +177,11 @@ module _ (part : DeskPart) (b c : Database) (adds : Adds (table_at part 0) b c) 
         found = record {
           at = it.found.at;
           table = t;
-          finds = subst (λ (s : Schema). Finds s (name_of other) it.found.at t) (sym adds.schema)
-              (finds_still b.schema (table_at part 0) (name_of other) it.found.at t it.found.finds);
+          finds = subst (λ (s : Schema). Finds s (part_name other) it.found.at t) (sym adds.schema)
+              (finds_still b.schema (table_at part 0) (part_name other) it.found.at t it.found.finds);
           is = it.found.is;
         };
-        empty = kept_at t it.found.at (name_of other) it.found.finds ∙ it.empty;
+        empty = kept_at t it.found.at (part_name other) it.found.finds ∙ it.empty;
         alone = subst (λ (s : Schema). IsUnreferred s t.tree) (sym adds.schema)
             (unreferred_still b.schema part t.tree (below b.schema _ t it.found.finds.by_tree) it.alone);
       }
@@ -197,9 +198,9 @@ module _ (part : DeskPart) (b c : Database) (adds : Adds (table_at part 0) b c) 
         found = record {
           at = length b.schema.tables;
           table = t;
-          finds = subst (λ (s : Schema). Finds s (name_of part) (length b.schema.tables) t) (sym adds.schema)
-              (subst (λ (u : Table). Finds (created b.schema (table_at part 0)) (name_of part) (length b.schema.tables) u)
-              (moved part 0 (next_tree b.schema)) (finds_new b.schema (table_at part 0) (name_of part) free.lacks.table (same_itself part 0) adds.stored));
+          finds = subst (λ (s : Schema). Finds s (part_name part) (length b.schema.tables) t) (sym adds.schema)
+              (subst (λ (u : Table). Finds (created b.schema (table_at part 0)) (part_name part) (length b.schema.tables) u)
+              (moved part 0 (next_tree b.schema)) (finds_new b.schema (table_at part 0) (part_name part) free.lacks.table (same_itself part 0) adds.stored));
           is = made_is part (next_tree b.schema);
         };
         empty = ap c.trees tree ∙ adds.empty;

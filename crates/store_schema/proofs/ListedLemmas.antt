@@ -7,7 +7,7 @@ use Rattle.sqlite_schema.specs.Names.{same_name, table_named}
 use Rattle.store_tables.specs.Stored.{Finds, IsListedAs, IsUnused, tree_of}
 use Rattle.store_schema.specs.declared.part.DeskPart.{DeskPart}
 use Rattle.store_schema.specs.declared.part.DeskPart.TheVariants.{Desk, Messages, Names, Marks, Verdicts, Parked}
-use Rattle.store_schema.specs.Parts.{name_of}
+use Rattle.store_schema.specs.Parts.{part_name}
 use Rattle.store_schema.specs.Shapes.{FindsPart, HasCommon, IsOld, IsVacant, Lacks}
 
 module _ (s u : Schema) (listed : IsListedAs s u) where
@@ -29,10 +29,10 @@ module _ (s u : Schema) (listed : IsListedAs s u) where
   }
 
   part_as : (p : DeskPart) → FindsPart s p → FindsPart u p
-  part_as p it = record { at = it.at; table = it.table; finds = finds_as (name_of p) it.at it.table it.finds; is = it.is }
+  part_as p it = record { at = it.at; table = it.table; finds = finds_as (part_name p) it.at it.table it.finds; is = it.is }
 
   lacks_as : (p : DeskPart) → Lacks s p → Lacks u p
-  lacks_as p lacks = unused_as (name_of p) lacks
+  lacks_as p lacks = unused_as (part_name p) lacks
 
   pub vacant_as : IsVacant s → IsVacant u
   vacant_as is = record {

@@ -13,7 +13,7 @@ use Rattle.sqlite.specs.State.{State}
 use Rattle.sqlite_rules.specs.Lists.{Has}
 use Rattle.sqlite_schema.specs.Names.{same_name, table_named}
 use Rattle.store_tables.specs.Kept.{IsTidy, table_in}
-use Rattle.store_tables.specs.Stored.{IsUnreferred, content_of, has, is_in, is_stray, recorded_before, texts_of, tree_of}
+use Rattle.store_tables.specs.Stored.{IsUnreferred, content_of, has, is_in, is_stray, recorded_before, row_texts, tree_of}
 use Rattle.store_tables.specs.Steps.{IsBare, Marked, Marks, Says}
 use Rattle.store_tables.proofs.OneSchema.{again, unused_again}
 use Rattle.store_tables.proofs.RefillLemmas.{no_rows}
@@ -21,7 +21,7 @@ use Rattle.store_tables.proofs.RosterLemmas.{same_messages, same_names, same_par
 use Rattle.store_tables.proofs.StepLemmas.{keyed_none, neat_none}
 use Rattle.store_schema.specs.declared.part.DeskPart.{DeskPart}
 use Rattle.store_schema.specs.declared.part.DeskPart.TheVariants as part
-use Rattle.store_schema.specs.Parts.{name_of}
+use Rattle.store_schema.specs.Parts.{part_name}
 use Rattle.store_schema.specs.Beside.{IsOther, KeepsBeside, found_as}
 use Rattle.store_schema.specs.Shapes.{FindsPart, Lacks}
 use Rattle.store_schema.specs.Founding.{AddsPart, Founds, Makes, fresh}
@@ -100,10 +100,10 @@ grown a b c d e f p q r s t = record {
 -- ---- what they are
 
 module _ (db : Database) (p : DeskPart) (it : HasEmpty db p) where
-  pub bare : table_in db (name_of p) ≡ []
+  pub bare : table_in db (part_name p) ≡ []
   bare = ap db.trees (tree_in db.schema p it.found) ∙ it.empty
 
-  pub alone : IsUnreferred db.schema (tree_of db.schema (name_of p))
+  pub alone : IsUnreferred db.schema (tree_of db.schema (part_name p))
   alone = subst (IsUnreferred db.schema) (sym (tree_in db.schema p it.found)) it.alone
 
 pub none_in : (rows : List Row) → rows ≡ [] → (x : Row) → ¬ Has rows x
@@ -165,7 +165,7 @@ module _ (a b : Database) (g : GrowsWhole a b) where
     parked_none = same_parked b c tidy put.schema put.others ∙ bare b part.Parked k
 
     content : content_of c ≡ fresh roster
-    content = λ i. record { roster = unwrap_or (put.row i) (unwrap_or (recorded_before (table_in c (codes "desk"))) []); texts = texts_of (nothing i) }
+    content = λ i. record { roster = unwrap_or (put.row i) (unwrap_or (recorded_before (table_in c (codes "desk"))) []); texts = row_texts (nothing i) }
 
     none_held : (text : List ℕ) → ¬ (has (content_of c) text ≡ true)
     none_held text there = let no : false ≡ true = sym (set.contains-empty (slice_cmp nat_cmp) text) ∙ sym (ap (λ x. has x text) content) ∙ there in cc
@@ -208,8 +208,8 @@ module _ (roster : List ℕ) (a b c : Database) (ready : IsReady a.schema) (g : 
   abbrev grown_tables : c.schema.tables ≡ a.schema.tables ++ g.more
   grown_tables = ap (λ (s : Schema). s.tables) put.schema ∙ g.tables
 
-  came : (p : DeskPart) (t : Table) → table_named a.schema (name_of p) ≡ None → HasEmpty b p
-      → Has a.schema.tables t → is_in (found_as c.schema (name_of p)) t.tree ≡ false
+  came : (p : DeskPart) (t : Table) → table_named a.schema (part_name p) ≡ None → HasEmpty b p
+      → Has a.schema.tables t → is_in (found_as c.schema (part_name p)) t.tree ≡ false
   came p t free it there =
       other_new a.schema c.schema g.more grown_tables p t free (subst (λ (s : Schema). FindsPart s p) (sym put.schema) it.found) there
 

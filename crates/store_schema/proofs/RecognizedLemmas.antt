@@ -14,7 +14,7 @@ use Rattle.sqlite_schema.specs.Names.{same_name, table_named}
 use Rattle.store_tables.specs.Stored.{Finds}
 use Rattle.store_schema.specs.declared.part.DeskPart.{DeskPart}
 use Rattle.store_schema.specs.declared.part.DeskPart.TheVariants.{Desk, Messages, Names, Marks, Verdicts, Parked}
-use Rattle.store_schema.specs.Parts.{IsPart, name_of, table_at}
+use Rattle.store_schema.specs.Parts.{IsPart, part_name, table_at}
 use Rattle.store_schema.specs.Shapes.{FindsPart}
 
 -- what a slice lends is what is at the place
@@ -89,7 +89,7 @@ made_is Marks n = (refl, refl)
 made_is Verdicts n = refl
 made_is Parked n = refl
 
-pub name_in : (part : DeskPart) (t : Table) → IsPart part t → t.name ≡ name_of part
+pub name_in : (part : DeskPart) (t : Table) → IsPart part t → t.name ≡ part_name part
 name_in Desk t is = ap (λ (u : Table). u.name) is
 name_in Messages t is = ap (λ (u : Table). u.name) is
 name_in Names t is = ap (λ (u : Table). u.name) is
@@ -97,7 +97,7 @@ name_in Marks t is = is.0
 name_in Verdicts t is = ap (λ (u : Table). u.name) is
 name_in Parked t is = ap (λ (u : Table). u.name) is
 
-itself : (part : DeskPart) → same_name (name_of part) (name_of part) ≡ true
+itself : (part : DeskPart) → same_name (part_name part) (part_name part) ≡ true
 unfolding same_name
 itself Desk = refl
 itself Messages = refl
@@ -106,8 +106,8 @@ itself Marks = refl
 itself Verdicts = refl
 itself Parked = refl
 
-pub named_so : (part : DeskPart) (t : Table) → IsPart part t → same_name t.name (name_of part) ≡ true
-named_so part t is = ap (λ n. same_name n (name_of part)) (name_in part t is) ∙ itself part
+pub named_so : (part : DeskPart) (t : Table) → IsPart part t → same_name t.name (part_name part) ≡ true
+named_so part t is = ap (λ n. same_name n (part_name part)) (name_in part t is) ∙ itself part
 
 -- a table that is the first of its name and of its tree is found
 pub finds_both : (s : Schema) (name : List ℕ) (at : ℕ) (t : Table) → table_named s name ≡ Some at → slice_get s.tables at ≡ Some t
@@ -123,12 +123,12 @@ finds_both s name at t named has stored first = record {
 pub first_of_both : (s : Schema) (part : DeskPart) (it : FindsPart s part)
     → position_from (λ (u : Table). u.tree == it.table.tree) 0 s.tables ≡ Some it.at
 first_of_both s part it =
-    placed_at (λ (u : Table). u.tree == it.table.tree) (λ (u : Table). same_name u.name (name_of part)) 0 it.at it.at s.tables it.table (omega arith)
+    placed_at (λ (u : Table). u.tree == it.table.tree) (λ (u : Table). same_name u.name (part_name part)) 0 it.at it.at s.tables it.table (omega arith)
     (named_so part it.table it.is) it.finds.named it.finds.has (same_number it.table.tree) it.finds.by_tree
 
 -- the table that was got by the part's name is the one that is found
 pub first_part : (part : DeskPart) (s : Schema) (ts : List Table) (at : ℕ) (got : Option (Bor Table)) (t : Bor Table) → ts ≡ s.tables → FindsPart s part
-    → table_named s (name_of part) ≡ Some at → IsItemAt ts at got → got ≡ Some t
+    → table_named s (part_name part) ≡ Some at → IsItemAt ts at got → got ≡ Some t
     → IsPart part t.now × (nat_le (2 ^ 31) t.now.tree ≡ false) × (position_from (λ (u : Table). u.tree == t.now.tree) 0 ts ≡ Some at)
 first_part part s ts at got t same it named item is =
     let both : Some it.at ≡ Some at = sym it.finds.named ∙ named in
@@ -144,14 +144,14 @@ first_part part s ts at got t same it named item is =
 
 -- and one that is the first of its tree is found
 pub found_first : (part : DeskPart) (s : Schema) (ts : List Table) (at : ℕ) (got : Option (Bor Table)) (t : Bor Table) (first : ℕ) → ts ≡ s.tables
-    → table_named s (name_of part) ≡ Some at → IsItemAt ts at got → got ≡ Some t → IsPart part t.now → nat_le (2 ^ 31) t.now.tree ≡ false
+    → table_named s (part_name part) ≡ Some at → IsItemAt ts at got → got ≡ Some t → IsPart part t.now → nat_le (2 ^ 31) t.now.tree ≡ false
     → position_from (λ (u : Table). u.tree == t.now.tree) 0 ts ≡ Some first → (first == at) ≡ true → FindsPart s part
 found_first part s ts at got t first same named item is part_is stored placed test =
     let one : first ≡ at = eqb-true first at test in
     record {
       at = at;
       table = t.now;
-      finds = finds_both s (name_of part) at t.now named (lent_at ts s.tables at got t same item is) stored
+      finds = finds_both s (part_name part) at t.now named (lent_at ts s.tables at got t same item is) stored
           (ap (position_from (λ (u : Table). u.tree == t.now.tree) 0) (sym same) ∙ placed ∙ ap (λ n. Some n) one);
       is = part_is;
     }

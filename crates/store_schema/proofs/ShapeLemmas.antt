@@ -5,16 +5,16 @@ use Rattle.store_tables.specs.DeskTables.{desk_at, messages_at, names_at, verdic
 use Rattle.store_tables.specs.Stored.{Finds, HasDesk, IsUnreferred, tree_of}
 use Rattle.store_schema.specs.declared.part.DeskPart.{DeskPart}
 use Rattle.store_schema.specs.declared.part.DeskPart.TheVariants as part
-use Rattle.store_schema.specs.Parts.{name_of, table_at}
+use Rattle.store_schema.specs.Parts.{part_name, table_at}
 use Rattle.store_schema.specs.Shapes.{FindsPart, HasCommon}
 
-pub tree_in : (s : Schema) (p : DeskPart) (it : FindsPart s p) → tree_of s (name_of p) ≡ it.table.tree
+pub tree_in : (s : Schema) (p : DeskPart) (it : FindsPart s p) → tree_of s (part_name p) ≡ it.table.tree
 tree_in s p it = rw (it.finds.named, it.finds.has) refl
 
 -- the part's table, as a desk makes it
 pub found_in : (s : Schema) (p : DeskPart) (it : FindsPart s p) → it.table ≡ table_at p it.table.tree
-    → Finds s (name_of p) it.at (table_at p (tree_of s (name_of p)))
-found_in s p it made = subst (λ n. Finds s (name_of p) it.at (table_at p n)) (sym (tree_in s p it)) (subst (Finds s (name_of p) it.at) made it.finds)
+    → Finds s (part_name p) it.at (table_at p (tree_of s (part_name p)))
+found_in s p it made = subst (λ n. Finds s (part_name p) it.at (table_at p n)) (sym (tree_in s p it)) (subst (Finds s (part_name p) it.at) made it.finds)
 
 -- five tables to which no foreign key refers are a desk's
 pub desk_of : (s : Schema) → HasCommon s → FindsPart s part.Verdicts → IsUnreferred s (tree_of s (codes "desk"))

@@ -8,7 +8,7 @@ use Rattle.sqlite_rules.specs.Lists.{Has}
 use Rattle.sqlite_schema.specs.Names.{table_named}
 use Rattle.store_tables.specs.Stored.{is_in}
 use Rattle.store_schema.specs.declared.part.DeskPart.{DeskPart}
-use Rattle.store_schema.specs.Parts.{name_of}
+use Rattle.store_schema.specs.Parts.{part_name}
 
 -- the table that the schema finds by this name
 abbrev pub found_as : Schema → List ℕ → Option Table
@@ -16,7 +16,7 @@ found_as s name = option_and_then (slice_get s.tables) (table_named s name)
 
 -- the tree belongs to none of the tables of a desk, of today or older
 abbrev pub IsOther : Schema → ℕ → Type 0
-IsOther s tree = (part : DeskPart) → is_in (found_as s (name_of part)) tree ≡ false
+IsOther s tree = (part : DeskPart) → is_in (found_as s (part_name part)) tree ≡ false
 
 -- a table, as the schema describes it, with its rows
 pub record TableWithRows : Type 0 where

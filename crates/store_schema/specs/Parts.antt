@@ -21,13 +21,13 @@ marks_at tree = record marks { tree = tree }
 abbrev pub framed : List ℕ → List Column → Table
 framed name columns = record desk { name = name; columns = columns }
 
-abbrev pub name_of : DeskPart → List ℕ
-name_of Desk = codes "desk"
-name_of Messages = codes "messages"
-name_of Names = codes "names"
-name_of Marks = codes "marks"
-name_of Verdicts = codes "verdicts"
-name_of Parked = codes "parked"
+abbrev pub part_name : DeskPart → List ℕ
+part_name Desk = codes "desk"
+part_name Messages = codes "messages"
+part_name Names = codes "names"
+part_name Marks = codes "marks"
+part_name Verdicts = codes "verdicts"
+part_name Parked = codes "parked"
 
 -- the table of the part as a desk makes it, with its rows in this tree of the file
 abbrev pub table_at : DeskPart → ℕ → Table

@@ -8,7 +8,7 @@ use Rattle.sqlite_schema.specs.Names.{same_name}
 use Rattle.store_schema.specs.declared.part.DeskPart.{DeskPart}
 use Rattle.store_schema.specs.declared.part.DeskPart.TheVariants.{Desk, Messages, Names}
 use Rattle.store_schema.specs.declared.part.DeskPart.TheVariants.{Marks, Verdicts, Parked}
-use Rattle.store_schema.specs.Parts.{name_of}
+use Rattle.store_schema.specs.Parts.{part_name}
 use Rattle.store_schema.specs.Shapes.{Lacks}
 
 -- a foreign key of some table names this as its parent
@@ -19,7 +19,7 @@ is_parent s name =
 -- the name of the part is unused, and no foreign key names it
 pub record IsOpen (s : Schema) (part : DeskPart) : Type 0 where
   pub lacks : Lacks s part
-  pub unnamed : is_parent s (name_of part) ≡ false
+  pub unnamed : is_parent s (part_name part) ≡ false
 
 -- The names of a desk's tables are free, no foreign key waits for them, and where a table counts by
 -- AUTOINCREMENT, the table of the counts is there.

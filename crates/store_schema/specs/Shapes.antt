@@ -9,18 +9,18 @@ use Rattle.store_schema.specs.declared.part.DeskPart.TheVariants.{Desk, Messages
 use Rattle.store_schema.specs.declared.part.DeskPart.TheVariants.{Marks, Verdicts, Parked}
 use Rattle.store_schema.specs.declared.shape.Shape.{Shape}
 use Rattle.store_schema.specs.declared.shape.Shape.TheVariants as shape
-use Rattle.store_schema.specs.Parts.{name_of, IsPart}
+use Rattle.store_schema.specs.Parts.{part_name, IsPart}
 
 -- the schema finds the table of this part, by its name and by its tree
 pub record FindsPart (s : Schema) (part : DeskPart) : Type 0 where
   pub at : ℕ
   pub table : Table
-  pub finds : Finds s (name_of part) at table
+  pub finds : Finds s (part_name part) at table
   pub is : IsPart part table
 
 -- no table, view or index has the part's name
 abbrev pub Lacks : Schema → DeskPart → Type 0
-Lacks s part = IsUnused s (name_of part)
+Lacks s part = IsUnused s (part_name part)
 
 -- the four tables are there that a desk of today and an older one have in common
 pub record HasCommon (s : Schema) : Type 0 where

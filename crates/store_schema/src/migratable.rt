@@ -3,7 +3,7 @@
 ghost use Rattle.std.specs.Prelude.{◌↔◌, IsTrue};
 ghost use Rattle.store_schema.specs.Migratable.{IsMigratable};
 
-use crate::part::{DeskPart, name_of};
+use crate::part::{DeskPart, part_name};
 use crate::ready::{is_parent, lacks_sequence};
 use crate::references::is_unreferred;
 use sqlite_schema::schema::Schema;
@@ -18,6 +18,6 @@ pub fn is_migratable(schema: &Schema) -> bool
         && is_unreferred(schema, DeskPart::Names)
         && is_unreferred(schema, DeskPart::Marks)
         && is_unreferred(schema, DeskPart::Parked)
-        && !is_parent(schema, name_of(DeskPart::Verdicts))
+        && !is_parent(schema, part_name(DeskPart::Verdicts))
         && !lacks_sequence(schema)
 }

@@ -1,7 +1,7 @@
 //! The tables that a desk has, or had.
 
 ghost use Rattle.std.specs.Prelude.{◌≡◌};
-ghost use Rattle.store_schema.specs.Parts.{name_of};
+ghost use Rattle.store_schema.specs.Parts.{part_name};
 
 /// One of a desk's tables. An older desk has `Marks` where one of today has `Verdicts`.
 #[derive(Clone, Copy, Debug, PartialEq, Eq)]
@@ -15,8 +15,8 @@ pub enum DeskPart {
 }
 
 /// The table's name.
-pub(crate) fn name_of(part: DeskPart) -> &'static [u8]
-    ensures { result.now ≡ name_of part }
+pub(crate) fn part_name(part: DeskPart) -> &'static [u8]
+    ensures { result.now ≡ part_name part }
 {
     match part {
         DeskPart::Desk => b"desk",

@@ -7,7 +7,7 @@ ghost use Rattle.sqlite.specs.Rows.{sequence};
 ghost use Rattle.sqlite_schema.specs.Names.{same_name};
 ghost use Rattle.store_schema.specs.Ready.{IsOpen, IsReady, is_parent};
 
-use crate::part::{DeskPart, name_of};
+use crate::part::{DeskPart, part_name};
 use crate::recognize::lacks;
 use sqlite_schema::names::same_name;
 use sqlite_schema::schema::{Reference, Schema, Table};
@@ -35,7 +35,7 @@ pub(crate) fn is_parent(schema: &Schema, name: &[u8]) -> bool
 fn is_open(schema: &Schema, part: DeskPart) -> bool
     ensures { IsTrue result ↔ IsOpen schema.now part }
 {
-    lacks(schema, part) && !is_parent(schema, name_of(part))
+    lacks(schema, part) && !is_parent(schema, part_name(part))
 }
 
 fn has_counted(tables: &[Table]) -> bool

@@ -4,7 +4,7 @@ ghost use Rattle.std.specs.Prelude.{◌≡◌, ◌↔◌, ◌==◌, IsTrue};
 ghost use Rattle.std.specs.List.{position_from};
 ghost use Rattle.store_schema.specs.Shapes.{FindsPart, HasCommon, IsShape, IsVacant, Lacks};
 
-use crate::part::{DeskPart, name_of};
+use crate::part::{DeskPart, part_name};
 use crate::shape::Shape;
 use crate::tables::is_part;
 use sqlite_schema::schema::{Schema, Table};
@@ -24,7 +24,7 @@ fn has(schema: &Schema, part: DeskPart) -> bool
     ensures found { IsTrue result → FindsPart schema.now part }
     ensures only { FindsPart schema.now part → IsTrue result }
 {
-    let Some(at) = schema.table_named(name_of(part)) else {
+    let Some(at) = schema.table_named(part_name(part)) else {
         return false;
     };
     let tables = schema.tables.as_slice();
@@ -44,7 +44,7 @@ fn has(schema: &Schema, part: DeskPart) -> bool
 pub(crate) fn lacks(schema: &Schema, part: DeskPart) -> bool
     ensures { IsTrue result ↔ Lacks schema.now part }
 {
-    let name = name_of(part);
+    let name = part_name(part);
     schema.table_named(name).is_none()
         && schema.view_named(name).is_none()
         && schema.index_named(name).is_none()

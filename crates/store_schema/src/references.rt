@@ -3,10 +3,10 @@
 ghost use Rattle.std.specs.Prelude.{◌≡◌, ◌↔◌, IsTrue, option_copied};
 ghost use Rattle.std.specs.List.{list_any};
 ghost use Rattle.store_tables.specs.Stored.{is_in, is_referred, parent_of, tree_of, IsUnreferred};
-ghost use Rattle.store_schema.specs.Parts.{name_of};
+ghost use Rattle.store_schema.specs.Parts.{part_name};
 ghost use Rattle.store_schema.specs.References.{AreUnreferred};
 
-use crate::part::{DeskPart, name_of};
+use crate::part::{DeskPart, part_name};
 use sqlite_schema::names::same_name;
 use sqlite_schema::schema::{Reference, Schema, Table};
 
@@ -49,9 +49,9 @@ fn is_referred(schema: &Schema, tree: u32) -> bool
 
 /// The tree of the part's table, where it is there.
 fn tree_of(schema: &Schema, part: DeskPart) -> u32
-    ensures { result ≡ tree_of schema.now (name_of part) }
+    ensures { result ≡ tree_of schema.now (part_name part) }
 {
-    let Some(at) = schema.table_named(name_of(part)) else {
+    let Some(at) = schema.table_named(part_name(part)) else {
         return 0;
     };
     match schema.tables.as_slice().get(at) {
@@ -61,7 +61,7 @@ fn tree_of(schema: &Schema, part: DeskPart) -> u32
 }
 
 pub(crate) fn is_unreferred(schema: &Schema, part: DeskPart) -> bool
-    ensures { IsTrue result ↔ IsUnreferred schema.now (tree_of schema.now (name_of part)) }
+    ensures { IsTrue result ↔ IsUnreferred schema.now (tree_of schema.now (part_name part)) }
 {
     !is_referred(schema, tree_of(schema, part))
 }

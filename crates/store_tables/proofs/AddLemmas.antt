@@ -10,7 +10,7 @@ use Rattle.sqlite.specs.declared.types.Value.TheVariants.{Null, Int, Text}
 use Rattle.sqlite.specs.Order.{Row}
 use Rattle.sqlite.specs.Edit.{put_all, are_fresh}
 use Rattle.std.specs.List.{AllByRecursion}
-use Rattle.store_tables.specs.Stored.{Texts, bodies, texts_of, is_stray}
+use Rattle.store_tables.specs.Stored.{Texts, bodies, row_texts, is_stray}
 use Rattle.store_tables.proofs.TextSets.{same_text, has_text, contains_bodies, any_put}
 use Rattle.store_tables.proofs.LookupLemmas.{or-false}
 use Rattle.sqlite.specs.declared.types.Value.{Value}
@@ -49,7 +49,7 @@ module _ (n : ℤ) (text : List ℕ) (old new : List Row)
   abbrev row : Row
   row = Int n ∷ Text text ∷ []
 
-  pub text_more : texts_of new ≡ set.insert (texts_of old) text
+  pub text_more : row_texts new ≡ set.insert (row_texts old) text
   text_more = one_more old new text
       (λ q. ap (list_any (has_text q)) is ∙ any_put (has_text q) old row fresh ∙ ap (λ b. b || list_any (has_text q) old) (or-false (same_text q text)))
 

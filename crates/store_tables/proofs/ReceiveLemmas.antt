@@ -9,7 +9,7 @@ use Rattle.sqlite.specs.State.{HasCleanDisk, State, Survives}
 use Rattle.messages.specs.Wire.{wire}
 use Rattle.messages.specs.declared.message.Message.{Message}
 use Rattle.store_tables.specs.Rows.{AreRows, IsRow}
-use Rattle.store_tables.specs.Stored.{Content, IsWritten, Texts, content_of, has, is_stray, recorded, roster_of, texts_of, with_text}
+use Rattle.store_tables.specs.Stored.{Content, IsWritten, Texts, content_of, has, is_stray, recorded, roster_of, row_texts, with_text}
 use Rattle.store_tables.specs.Steps.{InStep, IsStep}
 use Rattle.store_tables.specs.Kept.{HasRows, Holds, IsDeskDatabase, IsTidy, table_in}
 use Rattle.store_tables.specs.private.Stepping.{AddsText, FindsText, WroteText}
@@ -48,7 +48,7 @@ module _ (a b : Database) (text : List ℕ) (adds : AddsText text a b) (is : IsD
     desk_same = settles.desk ∙ desk_still
 
     content_same : content_of c ≡ with_text text (content_of a)
-    content_same = λ i. record { roster = roster_of (desk_same i); texts = (ap texts_of settles.messages ∙ adds.texts) i }
+    content_same = λ i. record { roster = roster_of (desk_same i); texts = (ap row_texts settles.messages ∙ adds.texts) i }
 
     received_new : IsWritten text → text ≡ wire m → set.contains texts text ≡ false → Receives text a c
     received_new written wired missing =

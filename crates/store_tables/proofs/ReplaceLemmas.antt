@@ -12,7 +12,7 @@ use Rattle.sqlite_rules.proofs.ListLemmas.{contains_had, has_contained}
 use Rattle.messages.specs.Wire.{wire}
 use Rattle.messages.specs.declared.message.Message.{Message}
 use Rattle.store_tables.specs.Sets.{Lists, SameSet}
-use Rattle.store_tables.specs.Stored.{IsListedAs, Texts, content_of, is_stray, recorded, recorded_before, texts_of, with_roster}
+use Rattle.store_tables.specs.Stored.{IsListedAs, Texts, content_of, is_stray, recorded, recorded_before, row_texts, with_roster}
 use Rattle.store_tables.specs.Kept.{HasRows, Holds, HoldsText, IsDeskDatabase, Spares, table_in}
 use Rattle.store_tables.specs.SqliteStates.{IsUp, Rests}
 use Rattle.store_tables.specs.Steps.{IsStep}
@@ -66,7 +66,7 @@ replaces roster ms a b c utf8 is lists one two = record {
     messages = two.messages_same ∙ one.messages
 
     texts : (content_of c).texts ≡ (content_of a).texts
-    texts = ap texts_of messages
+    texts = ap row_texts messages
 
 pub replaced : (roster : List ℕ) (ms : List Message) (a b c : State) → IsUtf8 roster → Recorded roster a b → Renewed ms b c → Replaced roster ms a c
 replaced roster ms a b c utf8 one two = record {

@@ -18,7 +18,7 @@ use Rattle.sqlite.proofs.Callers.{statement_of, reads_as, runs_as}
 use Rattle.messages.specs.declared.request_name.RequestName.{RequestName}
 use Rattle.store_tables.specs.DeskTables.{messages, names, verdicts, parked, names_at, verdicts_at, parked_at}
 use Rattle.store_tables.specs.Rows.{RowSet, IsRow, OfName}
-use Rattle.store_tables.specs.Stored.{Finds, HasDesk, is_stray, texts_of, tree_of}
+use Rattle.store_tables.specs.Stored.{Finds, HasDesk, is_stray, row_texts, tree_of}
 use Rattle.store_tables.specs.Kept.{IsKeyed, IsNeat, IsNoReal, IsTidy, table_in}
 use Rattle.store_tables.specs.private.Changes.{IsEmptied, Gains, Loses, Tells}
 use Rattle.store_tables.specs.Steps.{KeepsBut}
@@ -259,7 +259,7 @@ text_wrote text old new count tidy ran =
     record {
       sound = w.sound;
       schema = it.1;
-      texts = ap texts_of at ∙ text_more it.0.n text (db tree) (new.now.trees tree) it.0.fresh it.0.rows;
+      texts = ap row_texts at ∙ text_more it.0.n text (db tree) (new.now.trees tree) it.0.fresh it.0.rows;
       typed = λ was. ap (list_any is_stray) at ∙ typed_still it.0.n text (db tree) (new.now.trees tree) it.0.fresh it.0.rows was;
       others = it.0.others;
       tidy = record {

@@ -149,8 +149,8 @@ recorded_before = recorded_with is_one
 abbrev pub Texts : Type 0
 Texts = set.FinSet (slice_cmp nat_cmp)
 
-abbrev pub texts_of : List Row → Texts
-texts_of rows = set.from_list (bodies rows)
+abbrev pub row_texts : List Row → Texts
+row_texts rows = set.from_list (bodies rows)
 
 -- a desk's roster text, and the set of its messages' texts: the rows of the other three tables
 -- follow from these
@@ -165,7 +165,7 @@ roster_of rows = unwrap_or (recorded rows) (unwrap_or (recorded_before rows) [])
 abbrev pub content_in : Schema → Trees → Content
 content_in s db = record {
   roster = roster_of (db (tree_of s (codes "desk")));
-  texts = texts_of (db (tree_of s (codes "messages")));
+  texts = row_texts (db (tree_of s (codes "messages")));
 }
 
 abbrev pub content_of : Database → Content

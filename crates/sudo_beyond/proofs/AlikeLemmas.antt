@@ -24,7 +24,7 @@ use Rattle.sudo_decide.specs.Kinds.{aliases_say, item_says_by, list_says_by}
 use Rattle.sudo_decide.specs.Reach.{rules_in, AnswersAlike, AllAnswerAlike, of_policy}
 use Rattle.sudo_decide.proofs.Reaching.{answers_decide}
 use Rattle.sudo_beyond.specs.Standing as standing
-use Rattle.sudo_beyond.specs.Standing.{name_in, names_in, cmnd_in, cmnds_in, users_of, hosts_of, runas_of, cmnds_of}
+use Rattle.sudo_beyond.specs.Standing.{item_names, names_in, cmnd_in, cmnds_in, users_of, hosts_of, runas_of, cmnds_of}
 use Rattle.sudo_beyond.specs.Alike.{AlikeNames, AlikeCmnds, AlikeMoments, Alike}
 
 -- ---- what holds of each element
@@ -110,7 +110,7 @@ by_name x = λ says item. item_answer says x item
 abbrev pub by_run : List ℕ → List (List ℕ) → Saying CmndItem
 by_run path args = λ says item. cmnd_answer says path args item
 
-name_same : (x y : List ℕ) (item : Item (List ℕ)) → AlikeNames (name_in item) x y → (says : List ℕ → Option Bool) → by_name x says item ≡ by_name y says item
+name_same : (x y : List ℕ) (item : Item (List ℕ)) → AlikeNames (item_names item) x y → (says : List ℕ → Option Bool) → by_name x says item ≡ by_name y says item
 name_same x y items.All alike says = refl
 name_same x y (items.Name name) alike says = ap (λ (b : Bool). if b then Some true else None) alike.0
 name_same x y (items.Alias name) alike says = refl
@@ -123,8 +123,8 @@ cmnd_same path other args others (cmnds.Cmnd cmnd) alike says = ap (λ (b : Bool
 pub names_same : (x y : List ℕ) (list : List (Signed (Item (List ℕ)))) → AlikeNames (names_in list) x y → AllByRecursion (Same (by_name x) (by_name y)) list
 names_same x y list alike =
     let P : List ℕ → Type 0 = λ name. bytes_eq name x ≡ bytes_eq name y in
-    all_weaker (λ s. AllByRecursion P (name_in s.item)) (Same (by_name x) (by_name y)) list
-    (λ s. name_same x y s.item) (all_each P (λ s. name_in s.item) list alike)
+    all_weaker (λ s. AllByRecursion P (item_names s.item)) (Same (by_name x) (by_name y)) list
+    (λ s. name_same x y s.item) (all_each P (λ s. item_names s.item) list alike)
 
 pub cmnds_same : (path other : List ℕ) (args others : List (List ℕ)) (list : List (Signed CmndItem)) → AlikeCmnds (cmnds_in list) path args other others
     → AllByRecursion (Same (by_run path args) (by_run other others)) list

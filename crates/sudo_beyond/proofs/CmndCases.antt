@@ -20,7 +20,7 @@ use Rattle.sudo_words.specs.declared.cmnd.ArgRule.{ArgRule}
 use Rattle.sudo_words.specs.declared.cmnd.ArgRule.TheVariants.{Any, Empty, Exactly}
 use Rattle.sudo_words.proofs.PathLemmas.{slash_end, dir_parts}
 use Rattle.sudo_beyond.specs.Alike.{AlikeCmnds}
-use Rattle.sudo_beyond.specs.Cases.{other, has, path_in, paths, dir_in, dirs, listed_args, args_in, args_with, has_args}
+use Rattle.sudo_beyond.specs.Cases.{other, has_word, path_in, paths, dir_in, dirs, listed_args, args_in, args_with, has_args}
 use Rattle.sudo_beyond.specs.private.Gathering.{IsLawfulDir}
 use Rattle.sudo_beyond.proofs.OneCase.{IsCmndCase}
 use Rattle.sudo_beyond.proofs.AlikeLemmas.{all_weaker, all_back, all_each}
@@ -218,7 +218,7 @@ elsewhere path q args others (Path file rule) no_p no_q dirs_alike =
     ∙ sym (and_left (bytes_eq q file) (allows rule others) (bytes_eq_sym q file ∙ no_q.0))
 elsewhere path q args others (Dir dir) no_p no_q dirs_alike = dirs_alike.0
 
-elsewhere_alike : (cmnds : List Cmnd) (path q : List ℕ) (args others : List (List ℕ)) → has (paths cmnds) path ≡ false → has (paths cmnds) q ≡ false
+elsewhere_alike : (cmnds : List Cmnd) (path q : List ℕ) (args others : List (List ℕ)) → has_word (paths cmnds) path ≡ false → has_word (paths cmnds) q ≡ false
     → AllByRecursion (λ dir. is_directly_in dir path ≡ is_directly_in dir q) (dirs cmnds) → AlikeCmnds cmnds path args q others
 elsewhere_alike cmnds path q args others no_p no_q dirs_alike =
     let P : List ℕ → Type 0 = λ file. bytes_eq file path ≡ false in
@@ -280,7 +280,7 @@ itself cmnds path args = all_true (λ c. matches c path args ≡ matches c path 
 -- the directory that has the path
 record Directory (ds : List (List ℕ)) (path : List ℕ) : Type 0 where
   dir : List ℕ
-  stands : has ds dir ≡ true
+  stands : has_word ds dir ≡ true
   legal : IsLawfulDir dir
   within : is_directly_in dir path ≡ true
 
@@ -288,10 +288,10 @@ directory_of : (ds : List (List ℕ)) (path : List ℕ) → AllByRecursion IsLaw
 directory_of [] path legal found = absurd (false≢true found)
 directory_of (d ∷ ds) path legal found =
     elim (or_cases (is_directly_in d path) (list_any (λ dir. is_directly_in dir path) ds) found) [
-      | inl here ↦ record { dir = d; stands = or_left (bytes_eq d d) (has ds d) ((bytes_eq-Decides d d).1 refl); legal = legal.0; within = here }
+      | inl here ↦ record { dir = d; stands = or_left (bytes_eq d d) (has_word ds d) ((bytes_eq-Decides d d).1 refl); legal = legal.0; within = here }
       | inr later ↦
           let rest = directory_of ds path legal.1 later in
-          record { dir = rest.dir; stands = or_right (bytes_eq d rest.dir) (has ds rest.dir) rest.stands; legal = rest.legal; within = rest.within }
+          record { dir = rest.dir; stands = or_right (bytes_eq d rest.dir) (has_word ds rest.dir) rest.stands; legal = rest.legal; within = rest.within }
     ]
 
 module _ (cmnds : List Cmnd) (short : length cmnds < 2 ^ 64) (legal : AllByRecursion IsLawfulDir (dirs cmnds)) where
@@ -303,7 +303,7 @@ module _ (cmnds : List Cmnd) (short : length cmnds < 2 ^ 64) (legal : AllByRecur
 
   -- a path that stands
   with_args : (path : List ℕ) (args : List (List ℕ)) → is_file_path path ≡ true → AllByRecursion (λ arg. is_arg arg ≡ true) args → length args ≤ 64
-      → has (paths cmnds) path ≡ true → CmndStands cmnds path args
+      → has_word (paths cmnds) path ≡ true → CmndStands cmnds path args
   with_args path [] is are few stands =
       record { file = path; given = []; is_case = inl (stands, inl refl); is_file = is; are_args = tt; few = omega arith; alike = itself cmnds path [] }
   with_args path (arg ∷ args) is are few stands =
@@ -340,7 +340,7 @@ module _ (cmnds : List Cmnd) (short : length cmnds < 2 ^ 64) (legal : AllByRecur
       ]
 
   -- a path that does not, in a directory that does
-  in_directory : (path : List ℕ) (args : List (List ℕ)) → has (paths cmnds) path ≡ false → Directory (dirs cmnds) path → CmndStands cmnds path args
+  in_directory : (path : List ℕ) (args : List (List ℕ)) → has_word (paths cmnds) path ≡ false → Directory (dirs cmnds) path → CmndStands cmnds path args
   in_directory path args absent at =
       let found = found_other bytes_eq bytes_eq-Decides (λ w. at.dir ++ w) (λ v w same. append_cancel_left at.dir v w same) (paths cmnds) paths_short in
       let low : found.first.number < 2 ^ 64 = omega (arith, found.low, paths_short) in
@@ -365,7 +365,7 @@ module _ (cmnds : List Cmnd) (short : length cmnds < 2 ^ 64) (legal : AllByRecur
       }
 
   -- a path elsewhere
-  in_none : (path : List ℕ) (args : List (List ℕ)) → has (paths cmnds) path ≡ false
+  in_none : (path : List ℕ) (args : List (List ℕ)) → has_word (paths cmnds) path ≡ false
       → list_any (λ dir. is_directly_in dir path) (dirs cmnds) ≡ false → CmndStands cmnds path args
   in_none path args absent outside =
       let found = found_other bytes_eq bytes_eq-Decides (λ w. 47 ∷ w) (λ v w same. cc) (paths cmnds) paths_short in
@@ -389,7 +389,7 @@ module _ (cmnds : List Cmnd) (short : length cmnds < 2 ^ 64) (legal : AllByRecur
   pub cmnd_stands : (path : List ℕ) (args : List (List ℕ)) → is_file_path path ≡ true
       → AllByRecursion (λ arg. is_arg arg ≡ true) args → length args ≤ 64 → CmndStands cmnds path args
   cmnd_stands path args is are few =
-      elim (cases_Bool (has (paths cmnds) path)) [
+      elim (cases_Bool (has_word (paths cmnds) path)) [
         | inl stands ↦ with_args path args is are few stands
         | inr absent ↦
             elim (cases_Bool (list_any (λ dir. is_directly_in dir path) (dirs cmnds))) [

@@ -11,8 +11,8 @@ use Rattle.sudo_policy.specs.declared.entry.Entry.{Entry}
 use Rattle.sudo_policy.specs.declared.entry.Entry.TheVariants as entries
 use Rattle.sudo_policy.specs.Policy.{IsPolicy}
 use Rattle.sudo_policy.specs.Printing.{canon, line_text, alias_text, what_text, names_text, cmnds_text}
-use Rattle.sudo_policy.specs.Printing.{list_text, tail_text, signed_text, item_text, cmnd_item_text}
-use Rattle.sudo_beyond.specs.Standing.{name_in, names_in, cmnd_in, cmnds_in, users_of, hosts_of, runas_of, cmnds_of, users, hosts, runas, commands}
+use Rattle.sudo_policy.specs.Printing.{comma_separated, tail_text, signed_text, item_text, cmnd_item_text}
+use Rattle.sudo_beyond.specs.Standing.{item_names, names_in, cmnd_in, cmnds_in, users_of, hosts_of, runas_of, cmnds_of, users, hosts, runas, commands}
 use Rattle.sudo_beyond.proofs.OneCase.{IsCounted}
 use Rattle.sudo_beyond.proofs.CmndCases.{short_flat}
 
@@ -22,7 +22,7 @@ tail_long : {X : Type 0} (f : X → List ℕ) (xs : List X) → length xs ≤ le
 tail_long f [] = omega arith
 tail_long f (x ∷ xs) = omega (arith, length-append (f x) (tail_text f xs), tail_long f xs)
 
-list_long : {X : Type 0} (f : X → List ℕ) (xs : List X) → length xs ≤ length (list_text f xs) + 1
+list_long : {X : Type 0} (f : X → List ℕ) (xs : List X) → length xs ≤ length (comma_separated f xs) + 1
 list_long f [] = omega arith
 list_long f (x ∷ xs) = omega (arith, length-append (f x) (tail_text f xs), tail_long f xs)
 
@@ -68,7 +68,7 @@ cmnds_long (entries.Rule r) = rule_long (names_text r.users) (names_text r.hosts
 
 -- ---- policies
 
-one_name : (item : Item (List ℕ)) → length (name_in item) ≤ 1
+one_name : (item : Item (List ℕ)) → length (item_names item) ≤ 1
 one_name items.All = omega arith
 one_name (items.Name name) = omega arith
 one_name (items.Alias name) = omega arith
@@ -83,7 +83,7 @@ flat_long f g [] long = omega arith
 flat_long f g (x ∷ xs) long = omega (arith, length-append (f x) (flat_map f xs), length-append (g x) (flat_map g xs), long x, flat_long f g xs long)
 
 names_long : (list : List (Signed (Item (List ℕ)))) → length (names_in list) ≤ length list
-names_long list = short_flat (λ s. name_in s.item) list (λ s. one_name s.item)
+names_long list = short_flat (λ s. item_names s.item) list (λ s. one_name s.item)
 
 cmnds_few : (list : List (Signed CmndItem)) → length (cmnds_in list) ≤ length list
 cmnds_few list = short_flat (λ s. cmnd_in s.item) list (λ s. one_cmnd s.item)

@@ -21,7 +21,7 @@ use Rattle.sudo_policy.specs.declared.entry.Rule.{Rule}
 use Rattle.sudo_beyond.specs.declared.run.Run.{Run}
 use Rattle.sudo_beyond.specs.Beyond.{Agrees}
 use Rattle.sudo_words.specs.Lists.{text_order, IsEachOnce, AreParts}
-use Rattle.sudo_beyond.specs.Cases.{other, IsFirstOther, has, AreNameCases, run_of, paths, dirs, args_with, args_in}
+use Rattle.sudo_beyond.specs.Cases.{other, IsFirstOther, has_word, AreNameCases, run_of, paths, dirs, args_with, args_in}
 use Rattle.sudo_beyond.specs.Cases.{listed_args, has_args, ArePathCases, IsFreshFile, AreCommandCases, AreMomentCases, turns}
 use Rattle.sudo_beyond.specs.private.Gathering.{IsFormOfOthers, IsLawfulDir}
 use Rattle.sudo_beyond.proofs.AlikeLemmas.{all_weaker, all_append, all_flat}
@@ -44,7 +44,7 @@ name_listed None standing cases x are (inl stands) =
     (Contains-append_left are.names (are.other_name ∷ []) x (are.names_are.each x (any_contains bytes_eq bytes_eq-Decides standing x stands)))
 name_listed None standing cases x are (inr first) =
     subst (λ (xs : List (List ℕ)). Contains xs x) (sym are.cases_are) (subst (λ (y : List ℕ). Contains (are.names ++ are.other_name ∷ []) y)
-    (one_first (has standing) are.other_name x are.other_is first) (Contains-push are.names are.other_name))
+    (one_first (has_word standing) are.other_name x are.other_is first) (Contains-push are.names are.other_name))
 
 -- what holds of all standing elements holds of the list that has each of them once
 pub recursion_listed : {X : Type 0} (P : X → Type 0) (order : _) (standing listed : List X)
@@ -106,9 +106,9 @@ path_listed cmnds path runs args are (inr (inr one)) =
     (Contains-push (run_of path [] ∷ map (run_of path) are.lists) (run_of path (are.other_arg ∷ []))))
 
 fresh_listed : (taken : List (List ℕ)) (dir path word : List ℕ) (args : List (List ℕ)) (runs : List Run) → IsFreshFile taken dir runs
-    → path ≡ dir ++ word → args ≡ [] → IsFirstOther (λ w. has taken (dir ++ w)) word → Contains runs (run_of path args)
+    → path ≡ dir ++ word → args ≡ [] → IsFirstOther (λ w. has_word taken (dir ++ w)) word → Contains runs (run_of path args)
 fresh_listed taken dir path word args runs are path_is none first =
-    let same : are.name ≡ word = one_first (λ w. has taken (dir ++ w)) are.name word are.name_is first in
+    let same : are.name ≡ word = one_first (λ w. has_word taken (dir ++ w)) are.name word are.name_is first in
     let whole : run_of (dir ++ are.name) [] ≡ run_of path args =
     ap (λ (w : List ℕ). run_of (dir ++ w) []) same ∙ ap (λ (p : List ℕ). run_of p []) (sym path_is) ∙ ap (run_of path) (sym none) in
     subst (λ (xs : List Run). Contains xs (run_of path args)) (sym are.runs_are)

@@ -11,7 +11,7 @@ use Rattle.sudo_words.specs.Word.{is_name, is_name_shape, is_host_name, is_label
 use Rattle.sudo_words.specs.Word.{is_host_byte, is_path_byte, is_arg_byte, is_component, is_arg}
 use Rattle.sudo_beyond.specs.Alike.{AlikeNames}
 use Rattle.sudo_beyond.specs.Beyond.{Agrees}
-use Rattle.sudo_beyond.specs.Cases.{other, has}
+use Rattle.sudo_beyond.specs.Cases.{other, has_word}
 use Rattle.sudo_beyond.specs.private.Gathering.{IsFormOfOthers}
 use Rattle.sudo_beyond.proofs.OneCase.{IsNameCase}
 use Rattle.sudo_beyond.proofs.AlikeLemmas.{all_weaker}
@@ -82,7 +82,7 @@ pub same_name : (names : List (List ℕ)) (x : List ℕ) → AlikeNames names x 
 same_name names x = all_true (λ name. bytes_eq name x ≡ bytes_eq name x) names (λ name. refl)
 
 -- two names that are not in a list are alike
-unlike : (names : List (List ℕ)) (x y : List ℕ) → has names x ≡ false → has names y ≡ false → AlikeNames names x y
+unlike : (names : List (List ℕ)) (x y : List ℕ) → has_word names x ≡ false → has_word names y ≡ false → AlikeNames names x y
 unlike names x y no_x no_y =
     all_weaker (λ name. (bytes_eq name x ≡ false) × (bytes_eq name y ≡ false)) (λ name. bytes_eq name x ≡ bytes_eq name y) names
     (λ name both. both.0 ∙ sym both.1) (all_both (λ name. bytes_eq name x ≡ false) (λ name. bytes_eq name y ≡ false) names
@@ -100,7 +100,7 @@ pub name_stands : (form : List ℕ → Bool) → IsFormOfOthers form → (fixed 
 name_stands form others (Some fixed) standing x short is agrees =
     record { name = x; is_case = agrees; agrees = agrees; is_form = is; alike = same_name standing x }
 name_stands form others None standing x short is agrees =
-    elim (cases_Bool (has standing x)) [
+    elim (cases_Bool (has_word standing x)) [
       | inl stands ↦ record { name = x; is_case = inl stands; agrees = tt; is_form = is; alike = same_name standing x }
       | inr absent ↦
           let found = found_other bytes_eq bytes_eq-Decides (λ w. w) (λ v w same. same) standing short in

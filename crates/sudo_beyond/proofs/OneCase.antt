@@ -9,12 +9,12 @@ use Rattle.sudo_decide.specs.declared.invocation.Invocation.{Invocation}
 use Rattle.sudo_decide.specs.Reach.{rules_in}
 use Rattle.sudo_decide.specs.declared.scope.Scope.{Scope}
 use Rattle.sudo_beyond.specs.Standing.{users, hosts, runas, commands}
-use Rattle.sudo_beyond.specs.Cases.{IsFirstOther, has, paths, dirs, args_with, has_args, turns}
+use Rattle.sudo_beyond.specs.Cases.{IsFirstOther, has_word, paths, dirs, args_with, has_args, turns}
 
 -- the fixed name; or one that stands, or the first other
 abbrev pub IsNameCase : Option (List ℕ) → List (List ℕ) → List ℕ → Type 0
 IsNameCase (Some fixed) standing x = x ≡ fixed
-IsNameCase None standing x = (has standing x ≡ true) ⊎ IsFirstOther (has standing) x
+IsNameCase None standing x = (has_word standing x ≡ true) ⊎ IsFirstOther (has_word standing) x
 
 -- no arguments, some that stand with the path, or one that doesn't
 abbrev pub IsArgsCase : List Cmnd → List ℕ → List (List ℕ) → Type 0
@@ -25,18 +25,18 @@ IsArgsCase cmnds path args =
 
 -- a path that stands
 abbrev pub IsPathCase : List Cmnd → List ℕ → List (List ℕ) → Type 0
-IsPathCase cmnds path args = (has (paths cmnds) path ≡ true) × IsArgsCase cmnds path args
+IsPathCase cmnds path args = (has_word (paths cmnds) path ≡ true) × IsArgsCase cmnds path args
 
 -- a file in a directory that stands, which is no path that stands
 abbrev pub IsDirCase : List Cmnd → List ℕ → List (List ℕ) → Type 0
 IsDirCase cmnds path args =
-    (dir : List ℕ) × (word : List ℕ) × (has (dirs cmnds) dir ≡ true) × (path ≡ dir ++ word)
-    × (args ≡ []) × IsFirstOther (λ w. has (paths cmnds) (dir ++ w)) word
+    (dir : List ℕ) × (word : List ℕ) × (has_word (dirs cmnds) dir ≡ true) × (path ≡ dir ++ word)
+    × (args ≡ []) × IsFirstOther (λ w. has_word (paths cmnds) (dir ++ w)) word
 
 -- a file elsewhere
 abbrev pub IsRootCase : List Cmnd → List ℕ → List (List ℕ) → Type 0
 IsRootCase cmnds path args =
-    (word : List ℕ) × (path ≡ 47 ∷ word) × (args ≡ []) × IsFirstOther (λ w. has (paths cmnds) (47 ∷ w)) word
+    (word : List ℕ) × (path ≡ 47 ∷ word) × (args ≡ []) × IsFirstOther (λ w. has_word (paths cmnds) (47 ∷ w)) word
 
 abbrev pub IsCmndCase : List Cmnd → List ℕ → List (List ℕ) → Type 0
 IsCmndCase cmnds path args = IsPathCase cmnds path args ⊎ IsDirCase cmnds path args ⊎ IsRootCase cmnds path args

@@ -10,7 +10,7 @@ use Rattle.sudo_beyond.specs.declared.run.Run.{Run}
 use Rattle.sudo_decide.specs.declared.scope.Scope.{Scope}
 use Rattle.sudo_beyond.specs.Standing.{users, hosts, runas, commands}
 use Rattle.sudo_words.specs.Lists.{args_order, AreParts}
-use Rattle.sudo_beyond.specs.Cases.{has, has_args, args_with, paths, dirs, run_of, AreNameCases, ArePathCases, IsFreshFile, AreCommandCases, AreCases}
+use Rattle.sudo_beyond.specs.Cases.{has_word, has_args, args_with, paths, dirs, run_of, AreNameCases, ArePathCases, IsFreshFile, AreCommandCases, AreCases}
 use Rattle.sudo_words.proofs.Lists.{one_parts}
 use Rattle.sudo_words.proofs.OneSorted.{one_once}
 use Rattle.sudo_beyond.proofs.Others.{one_first}
@@ -21,7 +21,7 @@ one_names : (fixed : Option (List ℕ)) (standing xs ys : List (List ℕ)) → A
 one_names (Some name) standing xs ys are also = are ∙ sym also
 one_names None standing xs ys are also =
     let names = one_once _ nat_list_cmp_total standing are.names also.names are.names_are also.names_are in
-    let others = one_first (has standing) are.other_name also.other_name are.other_is also.other_is in
+    let others = one_first (has_word standing) are.other_name also.other_name are.other_is also.other_is in
     are.cases_are
     ∙ ap (λ (zs : List (List ℕ)). zs ++ are.other_name ∷ []) names
     ∙ ap (λ (w : List ℕ). also.names ++ w ∷ []) others
@@ -40,7 +40,7 @@ one_path_cases cmnds path xs ys are also =
 
 one_fresh : (taken : List (List ℕ)) (dir : List ℕ) (xs ys : List Run) → IsFreshFile taken dir xs → IsFreshFile taken dir ys → xs ≡ ys
 one_fresh taken dir xs ys are also =
-    are.runs_are ∙ ap (λ (w : List ℕ). run_of (dir ++ w) [] ∷ []) (one_first (λ w. has taken (dir ++ w)) are.name also.name are.name_is also.name_is)
+    are.runs_are ∙ ap (λ (w : List ℕ). run_of (dir ++ w) [] ∷ []) (one_first (λ w. has_word taken (dir ++ w)) are.name also.name are.name_is also.name_is)
     ∙ sym also.runs_are
 
 one_command_cases : (cmnds : List Cmnd) (xs ys : List Run) → AreCommandCases cmnds xs → AreCommandCases cmnds ys → xs ≡ ys

@@ -17,14 +17,14 @@ use Rattle.sudo_policy.specs.declared.entry.Entry.{Entry}
 use Rattle.sudo_policy.specs.declared.entry.Entry.TheVariants as entries
 use Rattle.sudo_policy.specs.Policy.{IsEntry, IsItem, IsCmndItem}
 use Rattle.sudo_decide.specs.Reach.{rule_in, rules_in}
-use Rattle.sudo_beyond.specs.Standing.{name_in, names_in, cmnd_in, cmnds_in, users_of, hosts_of, runas_of, cmnds_of, users, hosts, runas, commands}
+use Rattle.sudo_beyond.specs.Standing.{item_names, names_in, cmnd_in, cmnds_in, users_of, hosts_of, runas_of, cmnds_of, users, hosts, runas, commands}
 use Rattle.sudo_beyond.specs.Cases.{dir_in, dirs, path_in, paths, moment_after, turns_of, turns}
 use Rattle.sudo_beyond.specs.private.Gathering.{IsLawfulDir}
 use Rattle.sudo_beyond.proofs.AlikeLemmas.{all_weaker, all_append, all_flat}
 
 -- ---- names
 
-name_of : (form : List ℕ → Bool) (item : Item (List ℕ)) → IsItem form item → AllByRecursion (λ name. form name ≡ true) (name_in item)
+name_of : (form : List ℕ → Bool) (item : Item (List ℕ)) → IsItem form item → AllByRecursion (λ name. form name ≡ true) (item_names item)
 name_of form items.All is = tt
 name_of form (items.Name name) is = (is, tt)
 name_of form (items.Alias name) is = tt
@@ -32,8 +32,8 @@ name_of form (items.Alias name) is = tt
 names_of : (form : List ℕ → Bool) (list : List (Signed (Item (List ℕ)))) → AllByRecursion (λ s. IsItem form s.item) list
     → AllByRecursion (λ name. form name ≡ true) (names_in list)
 names_of form list is =
-    all_flat (λ name. form name ≡ true) (λ s. name_in s.item) list
-    (all_weaker (λ s. IsItem form s.item) (λ s. AllByRecursion (λ name. form name ≡ true) (name_in s.item)) list (λ s. name_of form s.item) is)
+    all_flat (λ name. form name ≡ true) (λ s. item_names s.item) list
+    (all_weaker (λ s. IsItem form s.item) (λ s. AllByRecursion (λ name. form name ≡ true) (item_names s.item)) list (λ s. name_of form s.item) is)
 
 pub entry_users : (e : Entry) → IsEntry e → AllByRecursion (λ name. is_name name ≡ true) (names_in (users_of e))
 entry_users (entries.UserAlias name list) is = names_of is_name list is.1.1

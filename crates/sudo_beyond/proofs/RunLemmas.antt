@@ -10,7 +10,7 @@ use Rattle.std.proofs.lemmas.Slice.Eq.{bytes_eq-Decides}
 use Rattle.sudo_words.specs.declared.cmnd.Cmnd.{Cmnd}
 use Rattle.sudo_beyond.specs.declared.run.Run.{Run}
 use Rattle.sudo_words.specs.Lists.{text_order, args_order, IsEachOnce, AreParts}
-use Rattle.sudo_beyond.specs.Cases.{IsFirstOther, has, run_of, paths, dirs, args_with, has_args, ArePathCases, IsFreshFile, AreCommandCases}
+use Rattle.sudo_beyond.specs.Cases.{IsFirstOther, has_word, run_of, paths, dirs, args_with, has_args, ArePathCases, IsFreshFile, AreCommandCases}
 use Rattle.sudo_beyond.specs.private.Gathering.{IsFreeFile, IsFreeArgs, Adds}
 use Rattle.sudo_beyond.proofs.CmndCases.{args_decides}
 use Rattle.sudo_words.proofs.Lists.{any_once, take_next, parts_more, parts_weaker}
@@ -26,7 +26,7 @@ args_alike : (path : List ℕ) (cmnds : List Cmnd) (lists : List (List (List ℕ
 args_alike path cmnds lists once =
     fun_ext (λ args. any_once (λ y x. pointwise bytes_eq x y) args_decides args_order (args_with path cmnds) lists once args)
 
-pub files_alike : (standing listed : List (List ℕ)) → IsEachOnce text_order standing listed → has listed ≡ has standing
+pub files_alike : (standing listed : List (List ℕ)) → IsEachOnce text_order standing listed → has_word listed ≡ has_word standing
 files_alike standing listed once = fun_ext (λ x. any_once bytes_eq bytes_eq-Decides text_order standing listed once x)
 
 fresh_alike : (standing listed : List (List ℕ)) → IsEachOnce text_order standing listed

@@ -37,15 +37,15 @@ pub record IsFirstOther (taken : List ℕ → Bool) (word : List ℕ) : Type 0 w
 -- ---- names: those that stand in the policies, and one that does not. A list tells two names apart
 -- only if one of them stands in it, so one name that stands in no list is as good as any other.
 
-abbrev pub has : List (List ℕ) → List ℕ → Bool
-has words x = list_any (λ word. bytes_eq word x) words
+abbrev pub has_word : List (List ℕ) → List ℕ → Bool
+has_word words x = list_any (λ word. bytes_eq word x) words
 
 pub record AreNamesAndOther (standing cases : List (List ℕ)) : Type 0 where
   pub names : List (List ℕ)
   pub other_name : List ℕ
   pub cases_are : cases ≡ names ++ other_name ∷ []
   pub names_are : IsEachOnce text_order standing names
-  pub other_is : IsFirstOther (has standing) other_name
+  pub other_is : IsFirstOther (has_word standing) other_name
 
 -- where the scope fixes the name, it alone
 abbrev pub AreNameCases : Option (List ℕ) → List (List ℕ) → List (List ℕ) → Type 0
@@ -107,7 +107,7 @@ pub record ArePathCases (cmnds : List Cmnd) (path : List ℕ) (runs : List Run) 
 pub record IsFreshFile (taken : List (List ℕ)) (dir : List ℕ) (runs : List Run) : Type 0 where
   pub name : List ℕ
   pub runs_are : runs ≡ run_of (dir ++ name) [] ∷ []
-  pub name_is : IsFirstOther (λ word. has taken (dir ++ word)) name
+  pub name_is : IsFirstOther (λ word. has_word taken (dir ++ word)) name
 
 -- for each path, for each directory, and for what is in neither: a file of the root, where no
 -- policy has a directory

@@ -27,8 +27,8 @@ all_commands_for users = entries.Rule (record {
 }) ∷ []
 
 -- `ALL, !bob db1 = ALL`
-abbrev pub all_but_bob : List Entry
-all_but_bob = all_commands_for (record { negated = false; item = items.All }
+abbrev pub all_except_bob : List Entry
+all_except_bob = all_commands_for (record { negated = false; item = items.All }
     ∷ record { negated = true; item = items.Name (codes "bob") } ∷ [])
 
 -- `ann db1 = ALL`

@@ -18,9 +18,9 @@ pub enum BeyondFault {
 
 impl fmt::Display for BeyondFault {
     ghost use Rattle.std.specs.Prelude.{Some};
-    ghost use Rattle.sudo_beyond.specs.Faults.{fault_text};
+    ghost use Rattle.sudo_beyond.specs.Faults.{beyond_fault_text};
 
-    ghost output = { λ e. Some (fault_text e) };
+    ghost output = { λ e. Some (beyond_fault_text e) };
 
     fn fmt<W: fmt::Write>(&self, f: &mut fmt::Formatter<W>) -> fmt::Result {
         f.write_str(match self {

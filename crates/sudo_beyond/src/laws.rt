@@ -28,7 +28,7 @@ ghost use Rattle.sudo_beyond.specs.Beyond.{Agrees, IsScope, IsInvocation, IsInSc
 ghost use Rattle.sudo_beyond.specs.Beyond.{IsGap, LiesBeyond, SomethingBeyond};
 ghost use Rattle.sudo_beyond.specs.Answer.{AreFew, AreTooMany, IsFirstBeyond};
 ghost use Rattle.sudo_beyond.specs.Cases.{AreCases, run_of, moment_after, product, invocations};
-ghost use Rattle.sudo_beyond.specs.Worked.{all_but_bob, ann_alone, anything, runs_other};
+ghost use Rattle.sudo_beyond.specs.Worked.{all_except_bob, ann_alone, anything, runs_other};
 ghost use Rattle.sudo_beyond.specs.Alike.{AlikeNames, AlikeCmnds, AlikeMoments, Alike};
 
 // ---- items, lists and aliases
@@ -192,9 +192,9 @@ pub fn beyond_is_decided()
 /// `ann db1 = ALL` refuses them; the moment after a rule's last moment is one second later, and the
 /// last moment of all has none after it.
 pub fn worked_beyond()
-    ensures somebody { LiesBeyond anything all_but_bob ann_alone (runs_other (codes "other0")) }
-    ensures bob { LiesBeyond anything all_but_bob ann_alone (runs_other (codes "bob")) → ⊥ }
-    ensures standing { users all_but_bob ++ users ann_alone ≡ codes "bob" ∷ codes "ann" ∷ [] }
+    ensures somebody { LiesBeyond anything all_except_bob ann_alone (runs_other (codes "other0")) }
+    ensures bob { LiesBeyond anything all_except_bob ann_alone (runs_other (codes "bob")) → ⊥ }
+    ensures standing { users all_except_bob ++ users ann_alone ≡ codes "bob" ∷ codes "ann" ∷ [] }
     ensures next { moment_after (Some 1_767_610_800) ≡ 1_767_610_801 ∷ [] }
     ensures last { moment_after (Some 4_102_444_799) ≡ [] }
 {}

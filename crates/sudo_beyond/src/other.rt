@@ -3,7 +3,7 @@
 ghost use Rattle.std.specs.Prelude.{◌≡◌, ◌<◌, true, IfOk};
 ghost use Rattle.std.specs.List.Sorted.{IsStrictlySortedBy};
 ghost use Rattle.sudo_words.specs.Lists.{text_order};
-ghost use Rattle.sudo_beyond.specs.Cases.{other as word_of, IsFirstOther, has};
+ghost use Rattle.sudo_beyond.specs.Cases.{other as word_of, IsFirstOther, has_word};
 ghost use Rattle.sudo_beyond.specs.private.Gathering.{IsFormOfOthers};
 
 use std::alloc::Global;
@@ -25,7 +25,7 @@ pub fn other<F: Form>(alloc: Global, number: usize) -> Result<Word<F>, NoMemory>
 pub fn first_other<F: Form>(alloc: Global, standing: &[Word<F>]) -> Result<Word<F>, NoMemory>
     requires form { IsFormOfOthers F.has }
     requires sorted { IsStrictlySortedBy text_order standing.now }
-    ensures { IfOk result (λ w. IsFirstOther (has standing.now) w) }
+    ensures { IfOk result (λ w. IsFirstOther (has_word standing.now) w) }
 {
     for number in 0..standing.len() {
         let word = other(alloc, number)?;

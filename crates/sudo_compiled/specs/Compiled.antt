@@ -66,6 +66,6 @@ pub record SameNames (i j : Invocation) : Type 0 where
   pub host : j.host ≡ i.host
   pub runas : j.runas ≡ i.runas
 
--- whatever they run, and whenever, the rules answer alike
+-- the rules answer alike whatever a user runs as this target on this host, and whenever
 abbrev pub AnswerAlikeFor : List PlainRule → List PlainRule → Invocation → Type 0
 AnswerAlikeFor rules others i = (j : Invocation) → SameNames i j → answer rules j ≡ answer others j

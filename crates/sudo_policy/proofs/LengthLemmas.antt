@@ -3,7 +3,7 @@ use Rattle.std.proofs.Common.{◌≡◌, ℕ, suc, ◌+◌, ◌-◌, ◌<◌, �
 use Rattle.std.specs.Prelude.{codes}
 use Rattle.std.proofs.lemmas.List.{length-append}
 use Rattle.sudo_policy.specs.private.Lengths.{stopped}
-use Rattle.sudo_policy.specs.Printing.{alias_text, list_text, tail_text}
+use Rattle.sudo_policy.specs.Printing.{alias_text, comma_separated, tail_text}
 use Rattle.sudo_policy.proofs.Printed.{tail_suc, first_and_rest}
 
 -- the items after the first, and one more
@@ -19,11 +19,11 @@ tail_longer f xs i d len more h len_is more_is =
 
 -- a list, by its first item and the others
 pub list_longer : {X : Type 0} (f : X → List ℕ) (xs : List X) (d : X) (first rest : ℕ) → 1 ≤ length xs → first ≡ stopped (length (f (get_or xs 0 d)))
-    → rest ≡ stopped (length (tail_text f (take (length xs - 1) (drop 1 xs)))) → stopped (first + rest) ≡ stopped (length (list_text f xs))
+    → rest ≡ stopped (length (tail_text f (take (length xs - 1) (drop 1 xs)))) → stopped (first + rest) ≡ stopped (length (comma_separated f xs))
 list_longer f xs d first rest h first_is rest_is =
     let others = take (length xs - 1) (drop 1 xs) in
-    let whole : length (list_text f xs) ≡ length (f (get_or xs 0 d)) + length (tail_text f others) =
-    ap (λ ys. length (list_text f ys)) (first_and_rest xs d h) ∙ length-append (f (get_or xs 0 d)) (tail_text f others) in
+    let whole : length (comma_separated f xs) ≡ length (f (get_or xs 0 d)) + length (tail_text f others) =
+    ap (λ ys. length (comma_separated f ys)) (first_and_rest xs d h) ∙ length-append (f (get_or xs 0 d)) (tail_text f others) in
     omega (arith, whole, first_is, rest_is)
 
 -- the line of an alias, by its kind, its name and its list

@@ -4,7 +4,7 @@ use Rattle.std.proofs.Common.{◌++◌, length, refl, sym, ap, subst, ◌∙◌,
 use Rattle.std.specs.List.{AllByRecursion, flat_map}
 use Rattle.sudo_words.specs.Bytes.{space, comma, quote, bang, backslash}
 use Rattle.sudo_words.specs.Word.{is_arg}
-use Rattle.sudo_words.specs.Command.{IsArgRule, is_escaped, arg_text, spaced_arg, rule_text, rule_of}
+use Rattle.sudo_words.specs.Command.{IsArgRule, is_escaped, arg_text, spaced_arg, arg_rule_text, rule_of}
 use Rattle.sudo_words.specs.declared.cmnd.ArgRule.{ArgRule}
 use Rattle.sudo_words.specs.declared.cmnd.ArgRule.TheVariants.{Any, Empty, Exactly}
 use Rattle.sudo_policy.specs.declared.entry.Signed.{Signed}
@@ -12,7 +12,7 @@ use Rattle.sudo_policy.specs.declared.entry.Item.{Item}
 use Rattle.sudo_policy.specs.declared.entry.CmndItem.{CmndItem}
 use Rattle.sudo_policy.specs.declared.entry.CmndItem.TheVariants as cmnds
 use Rattle.sudo_policy.specs.Lex.{Tok, word, mark, is_mark, is_word_byte, goes_on, bangs, Lexes}
-use Rattle.sudo_policy.specs.Printing.{item_text, cmnd_item_text, signed_text, tail_text, list_text}
+use Rattle.sudo_policy.specs.Printing.{item_text, cmnd_item_text, signed_text, tail_text, comma_separated}
 use Rattle.sudo_policy.specs.Policy.{IsItem, IsCmndItem}
 use Rattle.sudo_policy.specs.Grammar.{is_odd, More, Listed, SpellsItem, SpellsCmnd, rule_toks, head_of, args_of}
 use Rattle.sudo_policy.proofs.PrintedWords.{IsWord, item_word, cmnd_head_word, arg_word}
@@ -78,7 +78,7 @@ lex_tail P f g printed (x ∷ xs) rest ts all stops h =
     (ap (λ (t : List ℕ). space ∷ t) (sym (append_assoc (f x) (tail_text f xs) rest))) (sym (append_assoc (g true x) (tail_toks g xs) ts)) item)
 
 pub lex_list : {X : Type 0} (P : X → Type 0) (f : X → List ℕ) (g : Bool → X → List Tok) → IsPrinted P f g
-    → IsPrinted (λ xs. (1 ≤ length xs) × AllByRecursion P xs) (list_text f) (list_toks g)
+    → IsPrinted (λ xs. (1 ≤ length xs) × AllByRecursion P xs) (comma_separated f) (list_toks g)
 lex_list P f g printed a [] rest ts all stops h = absurd (omega (arith, all.0))
 lex_list P f g printed a (x ∷ xs) rest ts all stops h =
     let more = lex_tail P f g printed xs rest ts all.1.1 stops h in
@@ -141,7 +141,7 @@ args_stop : (args : List (List ℕ)) (rest : List ℕ) → goes_on rest ≡ fals
 args_stop [] rest h = h
 args_stop (a ∷ args) rest h = stop space ((arg_text a ++ flat_map spaced_arg args) ++ rest) refl refl
 
-rule_stops : (r : ArgRule) (rest : List ℕ) → goes_on rest ≡ false → goes_on (rule_text r ++ rest) ≡ false
+rule_stops : (r : ArgRule) (rest : List ℕ) → goes_on rest ≡ false → goes_on (arg_rule_text r ++ rest) ≡ false
 rule_stops Any rest h = h
 rule_stops Empty rest h = stop space (quote ∷ quote ∷ rest) refl refl
 rule_stops (Exactly args) rest h = args_stop args rest h
@@ -156,7 +156,8 @@ lex_args (a ∷ args) rest ts all stops h =
     (ap (λ (t : List ℕ). space ∷ t) (sym (append_assoc (arg_text a) (flat_map spaced_arg args) rest))) refl
     (lex_word true 0 (arg_text a) (flat_map spaced_arg args ++ rest) (rule_toks (Exactly args) ++ ts) (arg_word a all.0) (args_stop args rest stops) more)
 
-lex_rule : (r : ArgRule) (rest : List ℕ) (ts : List Tok) → IsArgRule r → goes_on rest ≡ false → Lexes rest ts → Lexes (rule_text r ++ rest) (rule_toks r ++ ts)
+lex_rule : (r : ArgRule) (rest : List ℕ) (ts : List Tok) → IsArgRule r → goes_on rest ≡ false → Lexes rest ts
+    → Lexes (arg_rule_text r ++ rest) (rule_toks r ++ ts)
 lex_rule Any rest ts is stops h = h
 lex_rule Empty rest ts is stops h = lex_mark true quote (quote ∷ rest) (mark false quote ∷ ts) refl (lex_mark false quote rest ts refl h)
 lex_rule (Exactly args) rest ts is stops h = lex_args args rest ts is.0 stops h
@@ -164,7 +165,7 @@ lex_rule (Exactly args) rest ts is stops h = lex_args args rest ts is.0 stops h
 -- what is printed after a head
 abbrev behind_head : CmndItem → List ℕ
 behind_head (cmnds.Alias w) = []
-behind_head (cmnds.Cmnd c) = rule_text (rule_of c)
+behind_head (cmnds.Cmnd c) = arg_rule_text (rule_of c)
 
 head_and_behind : (c : CmndItem) → cmnd_item_text c ≡ head_of c ++ behind_head c
 head_and_behind (cmnds.Alias w) = sym (append-nil w)

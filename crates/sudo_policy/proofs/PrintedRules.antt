@@ -19,7 +19,7 @@ use Rattle.sudo_policy.specs.declared.tree.CmndSpec.{CmndSpec}
 use Rattle.sudo_policy.specs.declared.tree.Part.{Part}
 use Rattle.sudo_policy.specs.declared.tree.Line.TheVariants as lines
 use Rattle.sudo_policy.specs.Lex.{Tok, word, mark, Lexes}
-use Rattle.sudo_policy.specs.Printing.{item_text, cmnd_item_text, signed_text, names_text, date_text, rule_text}
+use Rattle.sudo_policy.specs.Printing.{item_text, cmnd_item_text, signed_text, names_text, date_option_text, rule_text}
 use Rattle.sudo_policy.specs.Policy.{IsItem, IsList, IsRule}
 use Rattle.sudo_policy.specs.Grammar.{Date, Bounds, Users, Hosts, begins_spaced, SpellsItem, SpellsDates}
 use Rattle.sudo_policy.specs.Grammar.{SpellsTags, SpellsCmndSpec, SpellsPart, SpellsTree}
@@ -73,7 +73,7 @@ lex_date option time rest ts name is h =
     (lex_mark false equals (time ++ (space ∷ rest)) (word false 0 time ∷ ts) refl (lex_word false 0 time (space ∷ rest) ts is (stop space rest refl refl) h)))
 
 lex_option : (option : List ℕ) (o : Option ℕ) (rest : List ℕ) (ts : List Tok) → IsWord option → IfSome o IsMoment
-    → Lexes (space ∷ rest) ts → Lexes (space ∷ (date_text option o ++ rest)) (date_toks option o ++ ts)
+    → Lexes (space ∷ rest) ts → Lexes (space ∷ (date_option_text option o ++ rest)) (date_toks option o ++ ts)
 unfolding date_toks
 lex_option option None rest ts name is h = h
 lex_option option (Some t) rest ts name is h = lex_date option (stamp t) rest ts name (stamp_word t is) h
@@ -169,8 +169,8 @@ tags_given t = nopasswd_given t.nopasswd
 what_toks : Rule → List Tok
 what_toks r = date_toks (codes "NOTBEFORE") r.not_before ++ (date_toks (codes "NOTAFTER") r.not_after ++ (tags_toks r.tags ++ (cmnd_toks true r.cmnd ++ [])))
 
-lex_what : (r : Rule) → IsRule r → Lexes (space ∷ (date_text (codes "NOTBEFORE") r.not_before
-    ++ (date_text (codes "NOTAFTER") r.not_after ++ (tags_text r.tags ++ (signed_text cmnd_item_text r.cmnd ++ []))))) (what_toks r)
+lex_what : (r : Rule) → IsRule r → Lexes (space ∷ (date_option_text (codes "NOTBEFORE") r.not_before
+    ++ (date_option_text (codes "NOTAFTER") r.not_after ++ (tags_text r.tags ++ (signed_text cmnd_item_text r.cmnd ++ []))))) (what_toks r)
 unfolding what_toks
 lex_what r is =
     let cmnd_text = signed_text cmnd_item_text r.cmnd ++ [] in
@@ -178,8 +178,9 @@ lex_what r is =
     let tagged = lex_tags r.tags cmnd_text (cmnd_toks true r.cmnd ++ []) cmnd in
     let dated = lex_option (codes "NOTAFTER") r.not_after (tags_text r.tags ++ cmnd_text) (tags_toks r.tags
     ++ (cmnd_toks true r.cmnd ++ [])) (literal (codes "NOTAFTER") (omega arith) refl) is.not_after tagged in
-    lex_option (codes "NOTBEFORE") r.not_before (date_text (codes "NOTAFTER") r.not_after ++ (tags_text r.tags ++ cmnd_text)) (date_toks (codes "NOTAFTER")
-    r.not_after ++ (tags_toks r.tags ++ (cmnd_toks true r.cmnd ++ []))) (literal (codes "NOTBEFORE") (omega arith) refl) is.not_before dated
+    lex_option (codes "NOTBEFORE") r.not_before (date_option_text (codes "NOTAFTER") r.not_after ++ (tags_text r.tags ++ cmnd_text))
+    (date_toks (codes "NOTAFTER") r.not_after ++ (tags_toks r.tags ++ (cmnd_toks true r.cmnd ++ [])))
+    (literal (codes "NOTBEFORE") (omega arith) refl) is.not_before dated
 
 behind_users : Rule → List Tok
 behind_users r =
@@ -213,9 +214,10 @@ rule_front users hosts runas before after tag cmnd = simp (append_assoc, append-
 pub rule_lexes : (r : Rule) → IsRule r → Lexes (rule_text r) (line_toks r)
 rule_lexes r is =
     subst (λ (x : List ℕ). Lexes x (line_toks r)) (sym (rule_front (names_text r.users) (names_text r.hosts) (names_text r.runas)
-    (date_text (codes "NOTBEFORE") r.not_before) (date_text (codes "NOTAFTER") r.not_after) (tags_text r.tags) (signed_text cmnd_item_text r.cmnd)))
-    (who_lexes r (date_text (codes "NOTBEFORE") r.not_before
-    ++ (date_text (codes "NOTAFTER") r.not_after ++ (tags_text r.tags ++ (signed_text cmnd_item_text r.cmnd ++ [])))) is (lex_what r is))
+    (date_option_text (codes "NOTBEFORE") r.not_before) (date_option_text (codes "NOTAFTER") r.not_after)
+    (tags_text r.tags) (signed_text cmnd_item_text r.cmnd)))
+    (who_lexes r (date_option_text (codes "NOTBEFORE") r.not_before
+    ++ (date_option_text (codes "NOTAFTER") r.not_after ++ (tags_text r.tags ++ (signed_text cmnd_item_text r.cmnd ++ [])))) is (lex_what r is))
 
 -- ---- the tree
 

@@ -22,11 +22,11 @@ line_fault_text LeftOut = codes "S9 LeftOut"
 line_fault_text TooLarge = codes "S10 TooLarge"
 line_fault_text NoMemory = codes "S11 NoMemory"
 
-abbrev pub kind_text : FaultKind → Text
-kind_text TooLong = codes "S1 TooLong"
-kind_text BadByte = codes "S2 BadByte"
-kind_text (Line fault) = line_fault_text fault
+abbrev pub fault_kind_text : FaultKind → Text
+fault_kind_text TooLong = codes "S1 TooLong"
+fault_kind_text BadByte = codes "S2 BadByte"
+fault_kind_text (Line fault) = line_fault_text fault
 
 -- the kind of a fault, and its line in decimal: 0 where there is no text
-abbrev pub fault_text : ReadFault → Text
-fault_text f = kind_text f.kind ++ codes " line " ++ decimal f.line
+abbrev pub read_fault_text : ReadFault → Text
+read_fault_text f = fault_kind_text f.kind ++ codes " line " ++ decimal f.line

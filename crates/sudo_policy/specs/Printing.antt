@@ -36,22 +36,22 @@ abbrev pub tail_text : {X : Type 0} → (X → Text) → List X → Text
 tail_text f [] = []
 tail_text f (x ∷ xs) = codes ", " ++ f x ++ tail_text f xs
 
-abbrev pub list_text : {X : Type 0} → (X → Text) → List X → Text
-list_text f [] = []
-list_text f (x ∷ xs) = f x ++ tail_text f xs
+abbrev pub comma_separated : {X : Type 0} → (X → Text) → List X → Text
+comma_separated f [] = []
+comma_separated f (x ∷ xs) = f x ++ tail_text f xs
 
 -- a list of users, hosts or targets, and one of commands
 abbrev pub names_text : Names → Text
-names_text xs = list_text (signed_text item_text) xs
+names_text xs = comma_separated (signed_text item_text) xs
 
 abbrev pub cmnds_text : List (Signed CmndItem) → Text
-cmnds_text xs = list_text (signed_text cmnd_item_text) xs
+cmnds_text xs = comma_separated (signed_text cmnd_item_text) xs
 
 -- ---- rules: `USERS HOSTS = (RUNAS) [NOTBEFORE=M ][NOTAFTER=M ][TAG: ]COMMAND`
 
-abbrev pub date_text : Text → Option ℕ → Text
-date_text option None = []
-date_text option (Some moment) = option ++ codes "=" ++ stamp moment ++ codes " "
+abbrev pub date_option_text : Text → Option ℕ → Text
+date_option_text option None = []
+date_option_text option (Some moment) = option ++ codes "=" ++ stamp moment ++ codes " "
 
 -- what stands before the dates and the command: the users, the hosts, and the targets in
 -- parentheses
@@ -61,7 +61,8 @@ who_text r = names_text r.users ++ codes " " ++ names_text r.hosts
 
 abbrev pub what_text : Rule → Text
 what_text r =
-    date_text (codes "NOTBEFORE") r.not_before ++ date_text (codes "NOTAFTER") r.not_after
+    date_option_text (codes "NOTBEFORE") r.not_before
+    ++ date_option_text (codes "NOTAFTER") r.not_after
     ++ tags_text r.tags ++ signed_text cmnd_item_text r.cmnd
 
 abbrev pub rule_text : Rule → Text

@@ -84,9 +84,9 @@ pub enum FaultKind {
 
 impl fmt::Display for FaultKind {
     ghost use Rattle.std.specs.Prelude.{Some};
-    ghost use Rattle.sudo_policy.specs.Faults.{kind_text};
+    ghost use Rattle.sudo_policy.specs.Faults.{fault_kind_text};
 
-    ghost output = { λ k. Some (kind_text k) };
+    ghost output = { λ k. Some (fault_kind_text k) };
 
     fn fmt<W: fmt::Write>(&self, f: &mut fmt::Formatter<W>) -> fmt::Result {
         match self {
@@ -111,9 +111,9 @@ pub struct ReadFault {
 
 impl fmt::Display for ReadFault {
     ghost use Rattle.std.specs.Prelude.{Some};
-    ghost use Rattle.sudo_policy.specs.Faults.{fault_text};
+    ghost use Rattle.sudo_policy.specs.Faults.{read_fault_text};
 
-    ghost output = { λ f. Some (fault_text f) };
+    ghost output = { λ f. Some (read_fault_text f) };
 
     fn fmt<W: fmt::Write>(&self, f: &mut fmt::Formatter<W>) -> fmt::Result {
         let kind = self.kind;

@@ -5,8 +5,8 @@ ghost use Rattle.std.specs.List.{AllByRecursion};
 ghost use Rattle.sudo_policy.specs.declared.entry.Entry.TheVariants as entries;
 ghost use Rattle.sudo_policy.specs.private.Lengths.{stopped};
 ghost use Rattle.sudo_policy.specs.Policy.{IsCmndItem, IsEntry, IsItem, IsRule};
-ghost use Rattle.sudo_policy.specs.Printing.{alias_text, cmnd_item_text, date_text};
-ghost use Rattle.sudo_policy.specs.Printing.{item_text, line_text, list_text};
+ghost use Rattle.sudo_policy.specs.Printing.{alias_text, cmnd_item_text, date_option_text};
+ghost use Rattle.sudo_policy.specs.Printing.{item_text, line_text, comma_separated};
 ghost use Rattle.sudo_policy.specs.Printing.{signed_text, tail_text, who_text};
 
 use crate::entry::{CmndItem, Entry, Item, Rule, Signed};
@@ -88,7 +88,7 @@ fn tail_len<T: Lengthy>(items: &[Signed<T>]) -> usize
 
 fn list_len<T: Lengthy>(items: &[Signed<T>]) -> usize
     requires { AllByRecursion (λ s. T.holds s.item) items.now }
-    ensures { result ≡ stopped (length (list_text (signed_text T.text) items.now)) }
+    ensures { result ≡ stopped (length (comma_separated (signed_text T.text) items.now)) }
 {
     match items {
         [] => 0,
@@ -110,7 +110,7 @@ fn who_len(rule: &Rule) -> usize
 /// A date, with its option, `=` and the blank after it. A stamp has 15 bytes.
 fn date_len(option: &str, date: Option<Moment>) -> usize
     requires { length option.now ≤ 16 }
-    ensures value { result ≡ length (date_text option.now date) }
+    ensures value { result ≡ length (date_option_text option.now date) }
     ensures few { result ≤ 33 }
 {
     match date {
@@ -136,7 +136,8 @@ fn alias_line_len<T: Lengthy>(kind: &str, name: &AliasName, list: &[Signed<T>]) 
     requires kind { length kind.now ≤ 16 }
     requires list { AllByRecursion (λ s. T.holds s.item) list.now }
     ensures { result ≡ stopped (length
-        (alias_text kind.now name.now (list_text (signed_text T.text) list.now) ++ codes "\n")) }
+        (alias_text kind.now name.now (comma_separated (signed_text T.text) list.now)
+        ++ codes "\n")) }
 {
     plus(plus(kind.len() + 5, name.as_str().len()), list_len(list))
 }

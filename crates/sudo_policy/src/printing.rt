@@ -7,7 +7,7 @@ ghost use Rattle.sudo_words.specs.Command.{IsLawful, cmnd_text};
 ghost use Rattle.sudo_words.specs.Moment.{stamp};
 ghost use Rattle.sudo_policy.specs.Spelling.{Spells};
 ghost use Rattle.sudo_policy.specs.Policy.{IsEntry, IsRule, IsCmndItem};
-ghost use Rattle.sudo_policy.specs.Printing.{alias_text, canon, cmnds_text, date_text};
+ghost use Rattle.sudo_policy.specs.Printing.{alias_text, canon, cmnds_text, date_option_text};
 ghost use Rattle.sudo_policy.specs.Printing.{item_text, cmnd_item_text};
 ghost use Rattle.sudo_policy.specs.Printing.{entry_text, line_text, names_text, rule_text};
 ghost use Rattle.sudo_policy.specs.Printing.{signed_text, tail_text, what_text, who_text};
@@ -82,7 +82,7 @@ pub fn push_moment(out: &mut String, moment: Moment) -> Result<(), AllocError>
 
 fn push_date(out: &mut String, option: &str, date: Option<Moment>) -> Result<(), AllocError>
     ensures { OnOk result
-        (string_bytes out.new ≡ string_bytes out.old ++ date_text option.now date) }
+        (string_bytes out.new ≡ string_bytes out.old ++ date_option_text option.now date) }
 {
     match date {
         None => Ok(()),

@@ -7,7 +7,7 @@ use Rattle.std.proofs.lemmas.List.{append-nil}
 use Rattle.std.proofs.lemmas.List.Elements.{All-from_recursion}
 use Rattle.std.proofs.lemmas.List.Splits.{slice_split_none, slice_split_at, join_with_byte-slice_split}
 use Rattle.sudo_words.specs.Word.{is_arg, is_arg_byte, is_path_byte}
-use Rattle.sudo_words.specs.Command.{IsArgRule, IsHead, arg_text, head_text, rule_text, spaced_arg}
+use Rattle.sudo_words.specs.Command.{IsArgRule, IsHead, arg_text, head_text, arg_rule_text, spaced_arg}
 use Rattle.sudo_words.specs.private.Pieces.{words_of}
 use Rattle.sudo_words.specs.declared.cmnd.Cmnd.{Cmnd}
 use Rattle.sudo_words.specs.declared.cmnd.Cmnd.TheVariants.{All, Path, Dir}
@@ -69,7 +69,7 @@ args_text : (args : List (List ℕ)) → flat_map spaced_arg args ≡ flat_map s
 args_text [] = refl
 args_text (a ∷ args) = ap (λ (t : List ℕ). spaced_arg a ++ t) (args_text args)
 
-pub words_text : (r : ArgRule) → rule_text r ≡ flat_map spaced (words_of r)
+pub words_text : (r : ArgRule) → arg_rule_text r ≡ flat_map spaced (words_of r)
 words_text Any = refl
 words_text Empty = refl
 words_text (Exactly args) = args_text args

@@ -1,11 +1,15 @@
 -- The names of the bytes to which sudoers gives a meaning (sudoers(5), "SUDOERS FILE FORMAT").
-use Rattle.std.specs.Prelude.{ℕ}
+use Rattle.std.specs.Prelude.{ℕ, List, replicate}
 use Rattle.std.specs.Str.{byte}
 
 -- ---- blanks, and what ends a line
 
 abbrev pub space : ℕ
 space = byte " "
+
+-- so many of them, as between the columns of a line
+abbrev pub spaces : ℕ → List ℕ
+spaces count = replicate count space
 
 abbrev pub tab : ℕ
 tab = byte "\t"

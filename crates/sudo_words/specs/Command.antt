@@ -47,10 +47,10 @@ spaced_arg arg = space ∷ arg_text arg
 
 -- what stands after a path: nothing where any arguments are allowed, `""` where none is, else the
 -- arguments
-abbrev pub rule_text : ArgRule → List ℕ
-rule_text Any = []
-rule_text Empty = codes " \"\""
-rule_text (Exactly args) = flat_map spaced_arg args
+abbrev pub arg_rule_text : ArgRule → List ℕ
+arg_rule_text Any = []
+arg_rule_text Empty = codes " \"\""
+arg_rule_text (Exactly args) = flat_map spaced_arg args
 
 -- a command is its head, which is `ALL`, a file or a directory, and its rule for the arguments
 abbrev pub head_text : Cmnd → List ℕ
@@ -65,7 +65,7 @@ rule_of (Dir dir) = Any
 
 -- the one text of a lawful command
 abbrev pub cmnd_text : Cmnd → List ℕ
-cmnd_text cmnd = head_text cmnd ++ rule_text (rule_of cmnd)
+cmnd_text cmnd = head_text cmnd ++ arg_rule_text (rule_of cmnd)
 
 -- ---- The commands that policies hold: `ALL`, a directory, or a file with a rule for its
 -- arguments.

@@ -2,7 +2,7 @@
 use Rattle.std.specs.Prelude.{◌≡◌, ℕ, Bool, true, List, [], ◌∷◌, ◌++◌}
 use Rattle.std.specs.List.{Contains}
 use Rattle.std.specs.List.Sorted.{IsStrictlySortedBy}
-use Rattle.std.specs.Ordering.{nat_cmp}
+use Rattle.std.specs.Ordering.{nat_cmp, is_lt}
 use Rattle.std.specs.declared.cmp.Ordering.{Ordering}
 use Rattle.std.specs.Cmp.Lexicographic.{slice_cmp}
 
@@ -10,6 +10,11 @@ use Rattle.std.specs.Cmp.Lexicographic.{slice_cmp}
 
 abbrev pub text_order : List ℕ → List ℕ → Ordering
 text_order = slice_cmp nat_cmp
+
+-- One text comes before another: where they first differ its byte is the lower one, or it is a
+-- proper prefix of the other.
+abbrev pub is_before : List ℕ → List ℕ → Bool
+is_before low high = is_lt (text_order low high)
 
 abbrev pub args_order : List (List ℕ) → List (List ℕ) → Ordering
 args_order = slice_cmp text_order

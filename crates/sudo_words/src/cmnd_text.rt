@@ -8,7 +8,7 @@ ghost use Rattle.std.specs.Str.{bytes_eq};
 ghost use Rattle.sudo_words.specs.Bytes.{space};
 ghost use Rattle.sudo_words.specs.Word.{is_arg};
 ghost use Rattle.sudo_words.specs.Command.{IsArgRule, IsHead, IsLawful, arg_text, cmnd_text};
-ghost use Rattle.sudo_words.specs.Command.{head_text, rule_of, rule_text, spaced_arg};
+ghost use Rattle.sudo_words.specs.Command.{head_text, rule_of, arg_rule_text, spaced_arg};
 ghost use Rattle.sudo_words.specs.private.Pieces.{words_of};
 ghost use Rattle.sudo_words.specs.declared.cmnd.ArgRule.TheVariants.{Any as AnyArguments};
 ghost use Rattle.sudo_words.specs.declared.cmnd.ArgRule.{ArgRule as ArgumentRule};
@@ -151,7 +151,7 @@ fn push_args(out: &mut String, args: &[Arg]) -> Result<(), AllocError>
 }
 
 fn push_rule(out: &mut String, rule: &ArgRule) -> Result<(), AllocError>
-    ensures { OnOk result (string_bytes out.new ≡ string_bytes out.old ++ rule_text rule.now) }
+    ensures { OnOk result (string_bytes out.new ≡ string_bytes out.old ++ arg_rule_text rule.now) }
 {
     match rule {
         ArgRule::Any => Ok(()),

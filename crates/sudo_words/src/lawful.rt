@@ -5,7 +5,7 @@ ghost use Rattle.std.specs.List.{AllByRecursion, flat_map};
 ghost use Rattle.sudo_words.specs.Word.{is_arg};
 ghost use Rattle.sudo_words.specs.Command as command;
 ghost use Rattle.sudo_words.specs.Command.{IsArgRule, IsLawful, arg_text, cmnd_text};
-ghost use Rattle.sudo_words.specs.Command.{most_args, rule_text, spaced_arg};
+ghost use Rattle.sudo_words.specs.Command.{most_args, arg_rule_text, spaced_arg};
 
 use crate::arg::Arg;
 use crate::arg_text::is_escaped;
@@ -54,7 +54,7 @@ fn args_length(args: &[Arg]) -> usize
 /// The length of the rule's text; `None` if it lists no argument, or too many.
 fn rule_length(rule: &ArgRule) -> Option<usize>
     ensures { MatchOption result (¬ IsArgRule rule.now)
-        (λ n. IsArgRule rule.now × (n ≡ length (rule_text rule.now)) × (n ≤ 2064)) }
+        (λ n. IsArgRule rule.now × (n ≡ length (arg_rule_text rule.now)) × (n ≤ 2064)) }
 {
     match rule {
         ArgRule::Any => Some(0),

@@ -1,17 +1,13 @@
 -- What a keeper tells of what a database is found to keep.
-use Rattle.std.specs.Prelude.{◌≡◌, ◌≢◌, ℕ, List, AllPairs, IfSome, length}
-use Rattle.messages.specs.declared.message.Message.{Message}
+use Rattle.std.specs.Prelude.{◌≡◌, IfSome}
 use Rattle.outcomes.specs.Gathered.{AreGathered}
 use Rattle.store_opening.specs.declared.in_database.Contents.{Contents}
 use Rattle.store_opening.specs.declared.in_database.InDatabase.{InDatabase}
 use Rattle.store_opening.specs.declared.in_database.InDatabase.TheVariants as database
+use Rattle.desk_store.specs.Keeping.{IsCountIn}
 use Rattle.desk_store.specs.declared.found.Found.{Found}
 use Rattle.desk_store.specs.declared.found.Found.TheVariants as found
 use Rattle.desk_store.specs.declared.found.FoundDesk.{FoundDesk}
-
--- the list has so many messages, no two of which are the same
-abbrev pub IsCountIn : List Message → ℕ → Type 0
-IsCountIn list n = AllPairs (λ x y. x ≢ y) list × (length list ≡ n)
 
 -- the desk's roster, what is known of its messages, and how many they are, if that is told
 pub record ShowsDesk (c : Contents) (desk : FoundDesk) : Type 0 where

@@ -10,7 +10,8 @@ use Rattle.sudo_words.specs.declared.cmnd.Cmnd.TheVariants.{All, Path, Dir}
 use Rattle.sudo_words.specs.declared.cmnd.ArgRule.TheVariants.{Any, Empty, Exactly}
 use Rattle.roster.specs.declared.commands.Kind.{Kind}
 use Rattle.roster.specs.declared.commands.Kind.TheVariants as kind
-use Rattle.roster.specs.Relations.{pair_order, text_order}
+use Rattle.sudo_words.specs.Lists.{text_order}
+use Rattle.roster.specs.Relations.{pair_order}
 
 -- in byte order, each text once
 abbrev pub AreTextsInOrder : List (List ℕ) → Type 0

@@ -9,7 +9,7 @@ use Rattle.store_tables.specs.Steps.{IsInside, KeepsBut}
 use Rattle.store_schema.specs.declared.part.DeskPart.{DeskPart}
 use Rattle.store_schema.specs.declared.part.DeskPart.TheVariants.{Desk, Messages, Names}
 use Rattle.store_schema.specs.declared.part.DeskPart.TheVariants.{Marks, Verdicts, Parked}
-use Rattle.store_schema.specs.Parts.{name_of}
+use Rattle.store_schema.specs.Parts.{part_name}
 use Rattle.store_schema.specs.Shapes.{FindsPart}
 use Rattle.store_opening.specs.private.Selecting.{ShowsPart}
 
@@ -25,12 +25,12 @@ delete_of Parked = codes "DELETE FROM parked"
 -- only rows of this table may be gone
 pub record Deletes (part : DeskPart) (old new : Database) : Type 0 where
   pub schema : new.schema ≡ old.schema
-  pub others : KeepsBut (name_of part) old new
+  pub others : KeepsBut (part_name part) old new
 
 pub record Deleted (part : DeskPart) (old new : State) : Type 0 where
   pub inside : IsInside old new
   pub deletes : FindsPart old.now.schema part
-      → IsUnreferred old.now.schema (tree_of old.now.schema (name_of part))
+      → IsUnreferred old.now.schema (tree_of old.now.schema (part_name part))
       → Deletes part old.now new.now
 
 -- the database is as it was, and these show the part's rows
@@ -42,12 +42,12 @@ pub record Left (part : DeskPart) (rows : List Row) (old new : State) : Type 0 w
 -- This table has no row, and each other table keeps its own.
 pub record Clears (part : DeskPart) (old new : Database) : Type 0 where
   pub schema : new.schema ≡ old.schema
-  pub empty : table_in new (name_of part) ≡ []
-  pub others : KeepsBut (name_of part) old new
+  pub empty : table_in new (part_name part) ≡ []
+  pub others : KeepsBut (part_name part) old new
 
 pub record Cleared (part : DeskPart) (old new : State) : Type 0 where
   pub was_open : IsTrue old.is_open
   pub mode : IsTrue new.in_transaction
   pub clears : FindsPart old.now.schema part
-      → IsUnreferred old.now.schema (tree_of old.now.schema (name_of part))
+      → IsUnreferred old.now.schema (tree_of old.now.schema (part_name part))
       → Clears part old.now new.now

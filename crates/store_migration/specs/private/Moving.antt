@@ -12,7 +12,7 @@ use Rattle.store_tables.specs.Stored.{tree_of}
 use Rattle.store_schema.specs.declared.part.DeskPart.{DeskPart}
 use Rattle.store_schema.specs.declared.part.DeskPart.TheVariants.{Desk, Names, Marks, Parked}
 use Rattle.store_schema.specs.Migratable.{IsMigratable}
-use Rattle.store_schema.specs.Parts.{name_of}
+use Rattle.store_schema.specs.Parts.{part_name}
 use Rattle.store_schema.specs.Shapes.{HasEmptyMarks, IsOld}
 use Rattle.store_opening.specs.Opened.{IsOldDesk}
 use Rattle.store_migration.specs.Migrated.{GainsVerdicts, IsBeside, KeepsOthers, Migrates}
@@ -20,9 +20,9 @@ use Rattle.store_migration.specs.Migrated.{GainsVerdicts, IsBeside, KeepsOthers,
 -- These parts' tables have no row, and each other table keeps its own.
 pub record Empties (done : List DeskPart) (old new : Database) : Type 0 where
   pub schema : new.schema ≡ old.schema
-  pub empty : AllByRecursion (λ part. table_in new (name_of part) ≡ []) done
+  pub empty : AllByRecursion (λ part. table_in new (part_name part) ≡ []) done
   pub others : (t : Table) → Has old.schema.tables t
-      → AllByRecursion (λ part. t.tree ≢ tree_of old.schema (name_of part)) done
+      → AllByRecursion (λ part. t.tree ≢ tree_of old.schema (part_name part)) done
       → new.trees t.tree ≡ old.trees t.tree
 
 -- all tables of an older desk but its messages

@@ -7,7 +7,7 @@ use Rattle.store_tables.specs.Kept.{table_in}
 use Rattle.store_schema.specs.declared.part.DeskPart.{DeskPart}
 use Rattle.store_schema.specs.declared.part.DeskPart.TheVariants.{Desk, Messages, Names}
 use Rattle.store_schema.specs.declared.part.DeskPart.TheVariants.{Marks, Verdicts, Parked}
-use Rattle.store_schema.specs.Parts.{name_of}
+use Rattle.store_schema.specs.Parts.{part_name}
 
 -- the columns of a row that the statement shows
 abbrev pub shown_of : DeskPart → Row → Row
@@ -21,7 +21,7 @@ shown_of Parked r = column r 0 ∷ column r 1 ∷ column r 2 ∷ column r 3 ∷ 
 
 -- the rows show those of the part's table, in some order
 abbrev pub ShowsPart : DeskPart → Database → List Row → Type 0
-ShowsPart part db rows = IsPermutation (map (shown_of part) (table_in db (name_of part))) rows
+ShowsPart part db rows = IsPermutation (map (shown_of part) (table_in db (part_name part))) rows
 
 -- the same for the two tables that hold what was given
 pub record ShowsTexts (db : Database) (desk messages : List Row) : Type 0 where

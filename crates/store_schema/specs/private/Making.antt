@@ -16,7 +16,7 @@ use Rattle.store_schema.specs.declared.part.DeskPart.TheVariants.{Marks, Verdict
 use Rattle.store_schema.specs.Beside.{KeepsBeside}
 use Rattle.store_schema.specs.Founding.{Founds}
 use Rattle.store_schema.specs.Shapes.{FindsPart}
-use Rattle.store_schema.specs.Parts.{name_of, table_at}
+use Rattle.store_schema.specs.Parts.{part_name, table_at}
 use Rattle.store_schema.specs.Ready.{IsOpen, IsReady}
 
 -- the statement that makes the table
@@ -65,6 +65,6 @@ pub record Filled (roster : List ℕ) (old new : State) : Type 0 where
 
 -- the name of the other part is not that of this one, nor of an index that SQLite makes for it
 pub record Differs (part other : DeskPart) : Type 0 where
-  pub table : same_name (name_of part) (name_of other) ≡ false
-  pub index : (tree k : ℕ) → position_from (λ i. same_name i.name (name_of other)) k
+  pub table : same_name (part_name part) (part_name other) ≡ false
+  pub index : (tree k : ℕ) → position_from (λ i. same_name i.name (part_name other)) k
       (automatics (table_at part tree) 0 (tree + 1) (table_at part tree).uniques) ≡ None

@@ -11,7 +11,7 @@ use Rattle.sqlite.specs.declared.types.Value.TheVariants.{Int, Text}
 use Rattle.sqlite_rules.specs.Lists.{Has}
 use Rattle.messages.specs.declared.request_name.RequestName.{RequestName}
 use Rattle.store_tables.specs.Rows.{RowSet, IsRow, OfName}
-use Rattle.store_tables.specs.Stored.{is_stray, texts_of}
+use Rattle.store_tables.specs.Stored.{is_stray, row_texts}
 use Rattle.store_tables.specs.Kept.{IsTidy, table_in}
 use Rattle.store_tables.specs.Steps.{IsInside, KeepsBut}
 use Rattle.store_tables.specs.private.Changes.{Tells}
@@ -40,8 +40,8 @@ pub record Wrote (name : List ℕ) (Rows : RowSet → RowSet → Type 0) (old ne
 pub record AddsText (text : List ℕ) (old new : Database) : Type 0 where
   pub sound : IsDatabase new
   pub schema : new.schema ≡ old.schema
-  pub texts : texts_of (table_in new (codes "messages"))
-      ≡ set.insert (texts_of (table_in old (codes "messages"))) text
+  pub texts : row_texts (table_in new (codes "messages"))
+      ≡ set.insert (row_texts (table_in old (codes "messages"))) text
   pub typed : list_any is_stray (table_in old (codes "messages")) ≡ false
       → list_any is_stray (table_in new (codes "messages")) ≡ false
   pub others : KeepsBut (codes "messages") old new
@@ -83,7 +83,7 @@ pub record FindsText (text : List ℕ) (told : Bool) (old new : State) : Type 0 
   pub begun : IsOpenInside old new
   pub same : IsTidy old.now → new.now ≡ old.now
   pub tells : IsTidy old.now
-      → told ≡ set.contains (texts_of (table_in old.now (codes "messages"))) text
+      → told ≡ set.contains (row_texts (table_in old.now (codes "messages"))) text
 
 -- the database is as it was, and these show the name's parked verdicts
 pub record FindsParked (name : RequestName) (rows : List Row) (old new : State) : Type 0 where

@@ -12,7 +12,7 @@ use Rattle.sudo_words.specs.Word.{is_dir_path}
 use Rattle.sudo_words.specs.Command.{most_path_bytes}
 use Rattle.sudo_beyond.specs.declared.run.Run.{Run}
 use Rattle.sudo_words.specs.Lists.{text_order, args_order, IsEachOnce}
-use Rattle.sudo_beyond.specs.Cases.{other, IsFirstOther, has, has_args, listed_args, run_of}
+use Rattle.sudo_beyond.specs.Cases.{other, IsFirstOther, has_word, has_args, listed_args, run_of}
 
 -- each other word has the form, as far as a machine can count
 abbrev pub IsFormOfOthers : (List ℕ → Bool) → Type 0
@@ -26,7 +26,8 @@ IsLawfulDir dir = (is_dir_path dir ≡ true) × (length dir ≤ most_path_bytes)
 -- argument that is not among these lists
 abbrev pub IsFreeFile : List (List ℕ) → List ℕ → List ℕ → Type 0
 IsFreeFile taken dir path =
-    (name : List ℕ) × (path ≡ dir ++ name) × IsFirstOther (λ word. has taken (dir ++ word)) name
+    (name : List ℕ) × (path ≡ dir ++ name)
+    × IsFirstOther (λ word. has_word taken (dir ++ word)) name
 
 abbrev pub IsFreeArgs : List (List (List ℕ)) → List (List ℕ) → Type 0
 IsFreeArgs lists args =

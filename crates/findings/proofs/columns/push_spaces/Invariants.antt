@@ -1,5 +1,5 @@
 use Rattle.std.proofs.Common.{◌≡◌, ◌++◌, string_bytes}
-use Rattle.findings.specs.Terminal.{spaces}
+use Rattle.sudo_words.specs.Bytes.{spaces}
 use Rattle.findings.proofs.columns.push_spaces.Given as goal
 
 abbrev pub invariant-loop-place : goal.invariant-loop-place

@@ -5,7 +5,7 @@ use Rattle.httparse.specs.Grammar.{is_token_byte, print_request, trim_ows}
 use Rattle.matchit.specs.Route.{scan}
 use Rattle.matchit.specs.Seek.{param_step, seek}
 use Rattle.relay_http.specs.Routes.{part, routes}
-use Rattle.relay_http.specs.Worked.{approval}
+use Rattle.relay_http.specs.Worked.{approval_body}
 use Rattle.relay_http.proofs.NumberLemmas.{no_zero_before}
 use Rattle.relay_http.proofs.Stamps.{length_stamped, offset_not_stamped}
 use Rattle.relay_http.proofs.WorkedLemmas.{spelled, worked}
@@ -121,17 +121,17 @@ returns-clause-no_length c =
 pub returns-clause-signed : goal.returns-clause-signed
 unfolding is_token_byte print_request trim_ows scan param_step seek part routes
 returns-clause-signed c =
-    worked (spelled (codes "POST") (codes "/v1/relays/web/messages") 1 ((codes "Host", codes "desk") ∷ (codes "Content-Length", codes "+70") ∷ [])) approval
-    _ _ refl refl refl refl (refl, refl)
+    worked (spelled (codes "POST") (codes "/v1/relays/web/messages") 1 ((codes "Host", codes "desk") ∷ (codes "Content-Length", codes "+70") ∷ []))
+    approval_body _ _ refl refl refl refl (refl, refl)
 
 pub returns-clause-short : goal.returns-clause-short
 unfolding is_token_byte print_request trim_ows scan param_step seek part routes
 returns-clause-short c =
-    worked (spelled (codes "POST") (codes "/v1/relays/web/messages") 1 ((codes "Host", codes "desk") ∷ (codes "Content-Length", codes "71") ∷ [])) approval
-    _ _ refl refl refl refl (refl, refl)
+    worked (spelled (codes "POST") (codes "/v1/relays/web/messages") 1 ((codes "Host", codes "desk") ∷ (codes "Content-Length", codes "71") ∷ []))
+    approval_body _ _ refl refl refl refl (refl, refl)
 
 pub returns-clause-long : goal.returns-clause-long
 unfolding is_token_byte print_request trim_ows scan param_step seek part routes
 returns-clause-long c =
-    worked (spelled (codes "POST") (codes "/v1/relays/web/messages") 1 ((codes "Host", codes "desk") ∷ (codes "Content-Length", codes "16385") ∷ [])) approval
-    _ _ refl refl refl refl (refl, refl)
+    worked (spelled (codes "POST") (codes "/v1/relays/web/messages") 1 ((codes "Host", codes "desk") ∷ (codes "Content-Length", codes "16385") ∷ []))
+    approval_body _ _ refl refl refl refl (refl, refl)

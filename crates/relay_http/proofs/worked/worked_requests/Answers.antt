@@ -4,7 +4,7 @@ use Rattle.matchit.specs.Route.{scan}
 use Rattle.matchit.specs.Seek.{param_step, seek}
 use Rattle.sudo_words.specs.Word.{is_keyword}
 use Rattle.relay_http.specs.Routes.{part, routes}
-use Rattle.relay_http.specs.Worked.{approval}
+use Rattle.relay_http.specs.Worked.{approval_body}
 use Rattle.relay_http.proofs.NumberLemmas.{seven_written}
 use Rattle.relay_http.proofs.Stamps.{stamped_at_half_past_nine}
 use Rattle.relay_http.proofs.WorkedLemmas.{spelled, worked}
@@ -14,11 +14,11 @@ pub returns : goal.returns
 unfolding is_token_byte print_request trim_ows scan param_step seek part routes is_keyword
 returns c = record {
   delivery =
-      worked (spelled (codes "POST") (codes "/v1/relays/web/messages") 1 ((codes "Host", codes "desk") ∷ (codes "Content-Length", codes "70") ∷ [])) approval
-      _ _ refl refl refl refl (refl, refl);
+      worked (spelled (codes "POST") (codes "/v1/relays/web/messages") 1 ((codes "Host", codes "desk") ∷ (codes "Content-Length", codes "70") ∷ []))
+      approval_body _ _ refl refl refl refl (refl, refl);
   zeros =
-      worked (spelled (codes "POST") (codes "/v1/relays/web/messages") 1 ((codes "Host", codes "desk") ∷ (codes "Content-Length", codes "0070") ∷ [])) approval
-      _ _ refl refl refl refl (refl, refl);
+      worked (spelled (codes "POST") (codes "/v1/relays/web/messages") 1 ((codes "Host", codes "desk") ∷ (codes "Content-Length", codes "0070") ∷ []))
+      approval_body _ _ refl refl refl refl (refl, refl);
   all_messages = worked (spelled (codes "GET") (codes "/v1/messages") 1 ((codes "Host", codes "desk") ∷ [])) [] _ _ refl refl refl refl (refl, refl);
   count = worked (spelled (codes "GET") (codes "/v1/count") 1 ((codes "Host", codes "desk") ∷ [])) [] _ _ refl refl refl refl (refl, refl);
   requests = worked (spelled (codes "GET") (codes "/v1/requests") 1 ((codes "Host", codes "desk") ∷ [])) [] _ _ refl refl refl refl (refl, refl);

@@ -16,6 +16,3 @@ returns-clause-names c = λ a b. (lower_from_less a b, less_from_lower a b)
 
 pub returns-clause-texts : goal.returns-clause-texts
 returns-clause-texts c = λ (a b : List ℕ). ((λ less. ap is_lt less), less_from (text_order a b))
-
-pub returns-clause-rosters : goal.returns-clause-rosters
-returns-clause-rosters c = λ a b. refl

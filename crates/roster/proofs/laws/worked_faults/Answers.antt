@@ -8,7 +8,7 @@ use Rattle.toml.specs.Data.{Items, Members, array, item, member, no_items, no_me
 use Rattle.roster.specs.Document.{duty_entry, fields_of, has_known_keys}
 use Rattle.roster.specs.Fields.{RosterFields}
 use Rattle.roster.specs.Rules.{GoodNames, IsCmndText, IsNamedCeiling, are_known, good_names, has_self_conflict, in_range}
-use Rattle.roster.specs.Worked.{text_of}
+use Rattle.roster.specs.Worked.{roster_text}
 use Rattle.roster.specs.private.Stages.{IsDraftOf}
 use Rattle.roster.specs.declared.days.Days.TheVariants.{Always}
 use Rattle.roster.proofs.FaultLemmas.{of_bad_name, of_out_of_range, of_self_conflict, of_unknown_name}
@@ -44,7 +44,7 @@ itself = (codes "d", codes "d") ∷ []
 
 -- ---- a host in upper case
 
-upper : IsDraftOf (text_of (codes "'H'") (codes "'d'") [] (codes "a=['d']")) (content (codes "H" ∷ []) [] (codes "d"))
+upper : IsDraftOf (roster_text (codes "'H'") (codes "'d'") [] (codes "a=['d']")) (content (codes "H" ∷ []) [] (codes "d"))
 unfolding toml_on_literals has_known_keys fields_of duty_entry
 upper = record { document = document (codes "H" ∷ []) [] (codes "d"); toml = refl; keys = refl; types = refl }
 
@@ -54,7 +54,7 @@ upper_bad good = false≢true good.names
 
 -- ---- a duty that is not listed
 
-other : IsDraftOf (text_of (codes "'h'") (codes "'d'") [] (codes "a=['e']")) (content (codes "h" ∷ []) [] (codes "e"))
+other : IsDraftOf (roster_text (codes "'h'") (codes "'d'") [] (codes "a=['e']")) (content (codes "h" ∷ []) [] (codes "e"))
 unfolding toml_on_literals has_known_keys fields_of duty_entry
 other = record { document = document (codes "h" ∷ []) [] (codes "e"); toml = refl; keys = refl; types = refl }
 
@@ -68,7 +68,7 @@ other_unknown = refl
 
 -- ---- a duty that conflicts with itself
 
-self : IsDraftOf (text_of (codes "'h'") (codes "'d'") (codes "['d','d']") (codes "a=['d']")) (content (codes "h" ∷ []) itself (codes "d"))
+self : IsDraftOf (roster_text (codes "'h'") (codes "'d'") (codes "['d','d']") (codes "a=['d']")) (content (codes "h" ∷ []) itself (codes "d"))
 unfolding toml_on_literals has_known_keys fields_of duty_entry
 self = record { document = document (codes "h" ∷ []) itself (codes "d"); toml = refl; keys = refl; types = refl }
 
@@ -86,7 +86,7 @@ self_itself = refl
 
 -- ---- no host
 
-bare : IsDraftOf (text_of [] (codes "'d'") [] (codes "a=['d']")) (content [] [] (codes "d"))
+bare : IsDraftOf (roster_text [] (codes "'d'") [] (codes "a=['d']")) (content [] [] (codes "d"))
 unfolding toml_on_literals has_known_keys fields_of duty_entry
 bare = record { document = document [] [] (codes "d"); toml = refl; keys = refl; types = refl }
 
@@ -105,13 +105,13 @@ bare_apart : has_self_conflict (content [] [] (codes "d")) ≡ false
 unfolding has_self_conflict
 bare_apart = refl
 
-bare_out : in_range (text_of [] (codes "'d'") [] (codes "a=['d']")) (content [] [] (codes "d")) ≡ false
+bare_out : in_range (roster_text [] (codes "'d'") [] (codes "a=['d']")) (content [] [] (codes "d")) ≡ false
 unfolding in_range
 bare_out = refl
 
 -- ---- both
 
-both : IsDraftOf (text_of [] (codes "'d'") (codes "['d','d']") (codes "a=['d']")) (content [] itself (codes "d"))
+both : IsDraftOf (roster_text [] (codes "'d'") (codes "['d','d']") (codes "a=['d']")) (content [] itself (codes "d"))
 unfolding toml_on_literals has_known_keys fields_of duty_entry
 both = record { document = document [] itself (codes "d"); toml = refl; keys = refl; types = refl }
 

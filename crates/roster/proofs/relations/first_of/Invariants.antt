@@ -1,7 +1,7 @@
 use Rattle.std.proofs.Common.{◌≡◌, true, not, take}
 use Rattle.std.specs.List.{list_all}
 use Rattle.roster.specs.Rules.{is_among}
-use Rattle.roster.specs.Relations.{is_before}
+use Rattle.sudo_words.specs.Lists.{is_before}
 use Rattle.roster.proofs.relations.first_of.Given as goal
 
 -- one of the words, and none of those so far comes before it

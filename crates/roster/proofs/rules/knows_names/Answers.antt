@@ -1,8 +1,7 @@
 use Rattle.std.proofs.Common.{◌∙◌, subst}
 use Rattle.sudo_words.specs.declared.cmnd.Cmnd.{Cmnd}
 use Rattle.roster.specs.Fields.{RosterFields}
-use Rattle.roster.specs.Relations.{text_order}
-use Rattle.sudo_words.specs.Lists.{IsEachOnce}
+use Rattle.sudo_words.specs.Lists.{IsEachOnce, text_order}
 use Rattle.roster.proofs.Listed.{known_in_order}
 use Rattle.roster.proofs.rules.knows_names.Goals as goal
 

@@ -3,7 +3,7 @@ use Rattle.std.specs.Prelude.{codes}
 use Rattle.sudo_words.specs.Word.{is_keyword}
 use Rattle.sudo_decide.specs.declared.decision.Decision.TheVariants.{Deny}
 use Rattle.sudo_decide.specs.Decision.{Decides}
-use Rattle.sudo_beyond.specs.Worked.{all_but_bob, runs_other}
+use Rattle.sudo_beyond.specs.Worked.{all_except_bob, runs_other}
 use Rattle.sudo_beyond.proofs.DecisionLemmas.{not_both}
 use Rattle.sudo_beyond.proofs.laws.worked_beyond.Goals as goal
 
@@ -19,11 +19,11 @@ returns-clause-somebody c = record {
 }
 
 -- the last item of the first policy's list says no to bob
-bob_denied : Decides all_but_bob (runs_other (codes "bob")) Deny
+bob_denied : Decides all_except_bob (runs_other (codes "bob")) Deny
 bob_denied = inr (record { silent = (refl, tt); decision = refl })
 
 pub returns-clause-bob : goal.returns-clause-bob
-returns-clause-bob c = λ beyond. not_both all_but_bob (runs_other (codes "bob")) beyond.gap.allowed bob_denied
+returns-clause-bob c = λ beyond. not_both all_except_bob (runs_other (codes "bob")) beyond.gap.allowed bob_denied
 
 pub returns-clause-standing : goal.returns-clause-standing
 returns-clause-standing c = refl
