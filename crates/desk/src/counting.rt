@@ -17,8 +17,8 @@ use crate::refusal::Refusal;
 use desk_store::Keeper;
 
 impl<K: Keeper> Desk<K> {
-    /// How many messages the desk holds. They are counted once, where the look that opened the desk
-    /// did not tell it; each new message is counted as it comes.
+    /// How many messages the desk holds. Where that is not known they are counted, and the count is
+    /// kept beside what else is known; then each new message is counted as it comes.
     pub fn count(&mut self) -> Result<usize, Refusal>
         ensures count { (set : List AnyMessage) → K.is_up self.new.keeper
             → Lists (K.holds self.old.keeper) set → IfOk result (IsCount set) }

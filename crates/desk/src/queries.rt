@@ -92,7 +92,7 @@ impl<K: Keeper> Desk<K> {
     }
 
     /// The summaries of what is asked, by the asker in byte order, then by the number: what a
-    /// report is made from.
+    /// report can be made from.
     pub fn summaries(&mut self) -> Result<Vec<Summary>, Refusal>
         ensures summaries { (set : List AnyMessage)
             → K.is_up self.new.keeper → Lists (K.holds self.old.keeper) set
@@ -108,8 +108,7 @@ impl<K: Keeper> Desk<K> {
         Ok(list?)
     }
 
-    /// The summaries and the parked texts, from the messages that are read once: what a report is
-    /// made from.
+    /// The summaries and the parked texts: what a report can be made from.
     pub fn holdings(&mut self) -> Result<Holdings, Refusal>
         ensures summaries { (set : List AnyMessage)
             → K.is_up self.new.keeper → Lists (K.holds self.old.keeper) set

@@ -18,16 +18,17 @@ use sudo_policy::Policy;
 
 /// Gives a desk up, and rebuilds it with a roster.
 ///
-/// What the desk held is held, whatever the roster admits. So if the roster is the one that the
-/// desk had, nothing changes: the desk has the same roster, and answers every question as before.
-/// It is refused only for a base past the limits, or for want of memory or of the storage; and a
-/// refusal leaves what was held.
+/// What the desk held is held, whatever the roster admits. So if roster and base are those that the
+/// desk had, nothing changes: it has the same roster, and answers every question as before. It is
+/// refused only for a base past the limits, or for want of memory or of the storage; and a refusal
+/// leaves what was held.
 pub fn rebuild_again<K: Keeper>(
     alloc: Global,
     desk: Desk<K>,
     roster: Roster,
     base: Policy,
 ) -> Result<Desk<K>, (Refusal, K)>
+    ensures handed_in { IfOk result (λ d. (d.roster ≡ roster) × (d.base ≡ base)) }
     ensures held { IfOk result
         (λ d. K.is_up d.keeper → SameSet (K.holds desk.keeper) (K.holds d.keeper)) }
     ensures nothing_changes { IfOk result (λ d. K.is_up d.keeper → desk.roster ≡ roster → (d.roster
@@ -45,9 +46,9 @@ pub fn rebuild_again<K: Keeper>(
 /// The result is what rebuilding with the last roster alone promises: the same messages, and the
 /// last roster's text.
 ///
-/// The first is refused as by `rebuild`, and hands the keeper back with what it keeps as it was.
-/// Then the last is refused only for a base past the limits, or for want of memory or of the
-/// storage; and the keeper has the desk of the first roster's text.
+/// It is refused as `rebuild` refuses the first, or for a last base past the limits, or for want of
+/// memory or of the storage. What is kept is then as it was, or the desk of the first roster's
+/// text.
 pub fn rebuild_twice<K: Keeper>(
     alloc: Global,
     first: (Roster, Policy),

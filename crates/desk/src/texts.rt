@@ -33,8 +33,8 @@ impl<K: Keeper> Desk<K> {
         Ok(list)
     }
 
-    /// The texts of all messages, each once, in byte order: delivered to another desk of the same
-    /// roster they make the same set.
+    /// The texts of all messages, each once, in byte order: delivered to a desk that holds nothing,
+    /// and whose roster admits them all, they make the same set.
     pub fn texts(&mut self) -> Result<Vec<String>, Refusal>
         ensures texts { (set : List AnyMessage) → K.is_up self.new.keeper
             → Lists (K.holds self.old.keeper) set
