@@ -83,7 +83,7 @@ faults: desk
 	python3 -m tests.cases.faults
 	python3 -m tests.cases.allocation_counts
 
-# Reads and writes of the program that fail, disks that fill and files that change under it, each place; the program killed 400 times over 20,000 messages; and
+# Reads and writes of the program that fail, disks that fill and files that change under it, each place; the program killed 600 times over 20,000 messages; and
 # a million inputs changed at random, each answer beside a second reading. The last line has the counts. `make test` runs a short form of each.
 soak: desk
 	bash scripts/tools.sh

@@ -1,11 +1,11 @@
 #!/usr/bin/env python3
 """Makes what is derived of the definitions and edits.
 
-In docs/proof/DEFINITIONS.md: which files the headline needs, and how many lines they have; `make
-quick` tests that nothing is left to be made. And two lists that are not kept in Git:
-build/edits.md, each promise with the wrong programs that it refuses and their edits; and
-build/definitions.md, each definition that a clause of a public call names, with what stands above
-it and the calls.
+In docs/proof/DEFINITIONS.md: which files the headline needs, how many lines they have, and how many
+types of the code they name; `make quick` tests that nothing is left to be made. And two lists that
+are not kept in Git: build/edits.md, each promise with the wrong programs that it refuses and their
+edits; and build/definitions.md, each definition that a clause of a public call names, with what
+stands above it and the calls.
 
 An edit says both at its head: `# wrong: TEXT` is the wrong program that it makes, and several edits
 may share it; `# promise: TEXT` is the promise for which it is refused, by the words with which its
@@ -25,6 +25,9 @@ import repository
 DEFINITIONS = "docs/proof/DEFINITIONS.md"
 PROMISES = "docs/proof/PROMISES.md"
 COUNT = re.compile(r"It depends on definitions in these \d+ files\..*?of these\.", re.DOTALL)
+# the types that the code declares, which these files name, with where they are declared
+TYPES = re.compile(r"^- \d+ (types that the code declares.*?)\n\n", re.DOTALL | re.MULTILINE)
+DECLARED = re.compile(r"^use Rattle\.(\w+)\.specs\.declared\.\w+\.([A-Z]\w*)", re.MULTILINE)
 EDITS = """# Edits
 
 Each promise of docs/proof/PROMISES.md, the wrong programs that it refuses, and the edits that make
@@ -162,10 +165,31 @@ def with_headline(text: str) -> str:
     return text
 
 
+def with_types(text: str) -> str:
+    """The document with how many types of the code the headline's files name: it has to list
+    them."""
+    needed, ours = definitions.Needed.of_headline(), crates()
+    named = {
+        name
+        for crate, files in needed.by_crate(ours).items()
+        for file in files
+        for of, name in DECLARED.findall(repository.read("crates", crate, "specs", f"{file}.antt"))
+        if of in ours
+    }
+    listed = TYPES.search(text)
+    if listed is None:
+        raise Fault(f"{DEFINITIONS}: it lacks the types that the code declares")
+    said = set(re.findall(r"`([A-Z]\w*)`", listed[1]))
+    if said != named:
+        wrong = quoted(sorted(said ^ named))
+        raise Fault(f"{DEFINITIONS}: it lists no type that the files name, or one more: {wrong}")
+    return TYPES.sub(lambda found: f"- {len(named)} {found[1]}\n\n", text)
+
+
 def made() -> dict[str, str]:
     """The documents of Git as they have to be."""
     refused()
-    return {DEFINITIONS: with_headline(repository.read(DEFINITIONS))}
+    return {DEFINITIONS: with_types(with_headline(repository.read(DEFINITIONS)))}
 
 
 def main() -> None:

@@ -9,10 +9,12 @@ the documents about the code name (names.py); no link of an installed document i
 (installed.py); README.md is no longer than a page or two; the program names the version of the
 packages, and the logic of the toolchain that is here; each crate has a README, which names what is
 there (readmes.py); no line of code, of definitions, of proofs, of a script or of a test is too
-wide; pyflakes finds nothing in a script or a test; each test that is started is there.
+wide; pyflakes finds nothing in a script or a test; each test that is started is there; each
+sentence that a test of the documents looks for stands in a page.
 Prints what is otherwise, and ends with 1 then.
 """
 
+import ast
 import glob
 import os
 import re
@@ -160,6 +162,28 @@ def not_there() -> Iterator[str]:
         yield f"README.md: {size} bytes, more than {MOST_README}"
 
 
+def sentences(path: str) -> Iterator[tuple[int, str]]:
+    """What the calls of `says` in a test of the documents look for, each with its line."""
+    for call in ast.walk(ast.parse(repository.read(path))):
+        match call:
+            case ast.Call(func=ast.Attribute(attr="says"), args=words):
+                for word in words:
+                    if isinstance(word, ast.Constant) and isinstance(word.value, str):
+                        yield word.lineno, word.value
+
+
+def unsaid() -> Iterator[str]:
+    """Sentences that a test of the documents looks for, and that no page has."""
+    pages = glob.glob(os.path.join(repository.ROOT, "docs", "**", "*.md"), recursive=True)
+    said = " ".join(" ".join(repository.read(page).split()) for page in pages)
+    tests = glob.glob(os.path.join(repository.ROOT, "tests", "documents", "*.py"))
+    for path in sorted(tests):
+        name = os.path.relpath(path, repository.ROOT)
+        for line, sentence in sentences(path):
+            if sentence not in said:
+                yield f"{name}:{line}: no page says {sentence!r}"
+
+
 def ill_sized() -> Iterator[str]:
     """Pages for people that are too long, and documents that a merge left in two versions."""
     sizes = {}
@@ -253,7 +277,7 @@ def main() -> int:
         print("it needs Rattle's toolchain, the command rt (README.md, 'What you need')")
         return 1
     wrong = [*badly_laid_out(), *misfits(), *not_made(), *not_there(), *misnamed(), *untidy()]
-    wrong += [*misstarted(), *ill_sized()]
+    wrong += [*misstarted(), *ill_sized(), *unsaid()]
     wrong += [*unwrapped(), *calls.faults(), *names.faults(), *readmes.faults()]
     wrong += [*installed.faults()]
     print(
