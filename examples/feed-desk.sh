@@ -28,6 +28,8 @@ here() {
     curl -sS --max-time 50 "$@$route"
 }
 
+# root may have run it here before the account that cron names, which cannot write root's files
+rm -f feed.first feed.here feed.lacking feed.message
 curl -sSf --max-time 50 --cert auditor-feed.pem --key auditor-feed.key --cacert ca.pem \
     "$first/v1/messages" > feed.first
 here /v1/messages -f "$@" > feed.here

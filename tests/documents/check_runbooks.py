@@ -76,6 +76,7 @@ relay() { # a job of the relay's
 }
 case $* in
     'start desk-relay-post') relay post ;;
+    'enable desk-relay-notify') ;;
     'restart desk-relay-notify') relay notify ;;
     'stop desk') stop ;;
     'start desk') start ;;
@@ -322,7 +323,7 @@ def on_call(room: Room) -> None:
         messages.append(desk.request(no, at="20261129000000Z", **window))
         messages.append(desk.approval(no, by=person, at=at))
     room.write("/root/messages", listed(messages))
-    room.says(heading, "`desk review` lists under `BARRED` each approval by")
+    room.says(heading, "`desk review` lists under `BARRED` who approved without being on call")
     ran = room.run(
         "desk review /root/roster.toml /etc/desk/base.sudo - 20261214000000Z < /root/messages"
     )
@@ -530,7 +531,7 @@ def second_desk(room: Room) -> None:
     make_front(room, *made_by)
     made = room.run(
         f"install -d -m 0700 -o desk -g desk {second} && cd /etc/desk/front &&"
-        f" cp auditor-feed.pem auditor-feed.key ca.pem {second}"
+        f" install -o desk -g desk -m 0400 auditor-feed.pem auditor-feed.key ca.pem {second}"
     )
     room.holds("its folder", made.returncode == 0, made)
     place = f"{os.path.dirname(SOCKET)}/second.sock"
@@ -555,7 +556,6 @@ def timed(room: Room, second: str, other: dict[str, str]) -> None:
     times, user, words = re.fullmatch(r"((?:\* ){5})(\S+) (.*)\n", room.read(TIMED)).groups()
     room.holds("each minute, as the desk's account", (times, user) == ("* " * 5, "desk"), words)
     here = words.replace("/var/lib/desk ", f"{second} ").replace("| logger -t feed-desk", "")
-    room.run(f"chown -R desk:desk {second}")
     room.post(desk.approval(51))
     as_desk = "setpriv --reuid desk --regid desk --clear-groups sh -c"
     done = room.run(f"{as_desk} '{here}'", **other)

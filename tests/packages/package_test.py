@@ -335,6 +335,17 @@ def bad_starts(trial: Trial) -> None:
     ):
         refused(trial, f"ADDR={address}", says, {"ADDR": address})
     empty(trial)
+    checked(trial)
+
+
+def checked(trial: Trial) -> None:
+    """`--check` as docs/OPERATING.md has it, of a desk that is stopped: systemd makes /run/desk as
+    the unit starts, so that this folder is not there stops nothing."""
+    page = desk.read("docs", "OPERATING.md").splitlines()
+    (line,) = [it for it in page if it.startswith("runuser -u desk ")]
+    there = os.path.exists(trial.path("/run/desk"))
+    trial.check("/run/desk is not there while the desk is stopped", not there, "it is there")
+    trial.does("--check of a stopped desk", "sh", "-c", line, says="nothing would stop a start")
 
 
 def bad_stores(trial: Trial) -> None:
