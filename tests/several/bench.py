@@ -73,10 +73,7 @@ class Bench:
         made = self.run(*words, "--passwords", str(self.passwords))
         if made.returncode != 0:
             raise Failure(f"definitions: {made.stderr[-300:]!r}")
-        path = self.folder / "definitions.json"
-        path.write_bytes(made.stdout)
-        path.chmod(0o600)
-        self.cluster.control("import_definitions", str(path))
+        self.cluster.control("import_definitions", given=made.stdout.decode())
 
     def new_desk(self, name: str) -> Desk:
         desk = Desk(name, self.files, self.folder, self.started, self.plain)

@@ -37,7 +37,7 @@ PATIENCE = 600.0  # seconds: a slow machine takes longer, and is not wrong
 
 
 def start(bench: Bench) -> None:
-    bench.cluster.start()
+    bench.cluster.start(as_installed=True)
     # the account that a new broker makes by itself
     bench.cluster.control("delete_user", "guest")
     faults.mount_small_disk(bench)

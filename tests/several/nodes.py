@@ -19,6 +19,7 @@ from tests.several.programs import Failure, Program, Programs, is_listening, wai
 
 ROOT = pathlib.Path(desk.ROOT)
 CONFIG = ROOT / "examples" / "broker" / "rabbitmq.conf"
+PAGE = ROOT / "docs" / "SEVERAL.md"
 COUNT = 3
 # What the example has for three machines, for three nodes of this one. The delay is for nodes that
 # start at the same moment.
@@ -98,22 +99,39 @@ class Cluster:
                 "+S 2:2 -kernel inet_dist_use_interface {127,0,0,1}",
         }
 
-    def _node(self, number: int) -> Program:
+    def _install(self) -> None:
+        """Debian's package starts each node as it is installed, by itself and without settings. A
+        node that has data of such a run joins no other, so the page has them removed."""
+        is_removed = "rm -rf /var/lib/rabbitmq/mnesia" in PAGE.read_text("utf-8")
+        for number in range(len(self.nodes)):
+            home = self._folder / f"b{number + 1}"
+            none = {"RABBITMQ_CONFIG_FILE": str(home / "none"), "RABBITMQ_CONFIG_FILES": str(home)}
+            alone = self._node(number, "alone", none)
+            alone.start()
+            self.wait_for(number)
+            alone.end(signal.SIGTERM)
+            if is_removed:
+                shutil.rmtree(home / "data")
+
+    def _node(self, number: int, suffix: str = "", more: dict[str, str] | None = None) -> Program:
         home = self._folder / f"b{number + 1}"
         for name in ("data", "log"):
-            (home / name).mkdir(parents=True)
+            (home / name).mkdir(parents=True, exist_ok=True)
         words = [os.path.join(self._scripts, "rabbitmq-server")]
-        environment = self._environment(number)
+        environment = self._environment(number) | (more or {})
         # a broker that fails leaves a dump in the folder that it runs in
-        return self._started.add(Program(f"b{number + 1}", words, environment, home / "out", home))
+        log = home / f"out{suffix}"
+        return self._started.add(Program(f"b{number + 1}{suffix}", words, environment, log, home))
 
-    def start(self) -> None:
+    def start(self, as_installed: bool = False) -> None:
         epmd = shutil.which("epmd")
         if epmd is None:
             raise Failure("epmd is missing: it comes with Debian's package erlang-base")
         words = [epmd, "-port", str(self._epmd_port), "-address", "127.0.0.1"]
         log = self._folder / "epmd.out"
         self._started.add(Program("epmd", words, self._environment(0), log)).start()
+        if as_installed:
+            self._install()
         for node in self.nodes:
             node.start()
         for number in range(len(self.nodes)):
@@ -128,7 +146,7 @@ class Cluster:
     def kill(self, number: int) -> None:
         self.nodes[number].end(signal.SIGKILL)
 
-    def control(self, *words: str) -> str:
+    def control(self, *words: str, given: str = "") -> str:
         """What `rabbitmqctl` answers, asked of the first node that can: one may be starting."""
         whole, said = [os.path.join(self._scripts, "rabbitmqctl"), "-q", *words], ""
         for number, node in enumerate(self.nodes):
@@ -136,6 +154,7 @@ class Cluster:
                 ran = subprocess.run(
                     whole,
                     env=self._environment(number),
+                    input=given,
                     capture_output=True,
                     text=True,
                     timeout=300,
