@@ -14,7 +14,7 @@ from tests.common import desk
 from tests.common.random_policies import alias_policy
 from tests.common.replies import NO_ROUTE, Replies, counted, of_a_host, reply
 from tests.common.sudo_peer import desk_host
-from tests.hosts.root import FILE, STATE, Host
+from tests.hosts.root import CHANGED, FILE, STATE, Host
 
 GOOD = b"ann ALL = (root) /usr/bin/id\n"
 MORE = b"ann ALL = (root) /usr/bin/id\nbob ALL = (root) /usr/bin/id\n"
@@ -281,7 +281,7 @@ def aliases(host: Host) -> None:
 
 def killed(host: Host) -> None:
     """A fetch that is killed before it has asked visudo of everything: the next one does, though
-    no desk answers."""
+    no desk answers. Both note that the rights are others, for prompts that are open."""
     if not host.is_fit:
         return
     base = b"User_Alias OPS = bob\nOPS ALL = (root) /usr/bin/id\n"
@@ -293,14 +293,30 @@ def killed(host: Host) -> None:
     host.write("/usr/local/sbin/visudo", stub)
     host.write("/tmp/asked", "")
     os.chmod(host.path("/usr/local/sbin/visudo"), 0o755)
+    host.drop(CHANGED)
     with serving(host, of_a_host(reply(base), counted(1))):
         status, said = host.fetch()
     host.drop("/usr/local/sbin/visudo")
     host.check("it is killed in time", status == -9 and host.held() == base, f"{status}: {said}")
+    host.check("it noted the change", os.path.exists(host.path(CHANGED)), said)
+    host.drop(CHANGED)
     status, said = host.fetch()
     is_told = "the fetch before this one was killed: with it, sudo refuses" in said
     host.check("the next one puts it back", status == 1 and is_told and host.held() == GOOD, said)
+    host.check("and notes the change", os.path.exists(host.path(CHANGED)), said)
     host.drop("aaa")
+
+
+def far_date(host: Host) -> None:
+    """A front's Date of a year that no calendar has: the file is taken all the same."""
+    if not host.is_fit:
+        return
+    begin(host)
+    date = "Date: Mon, 01 Jan 99999999999 00:00:00 GMT\r\n"
+    with serving(host, of_a_host(reply(MORE, more=date), counted(1))):
+        status, said = host.fetch()
+    is_right = status == 0 and host.held() == MORE and not said
+    host.check("a Date that is none", is_right, f"{status}: {said}")
 
 
 def record(host: Host) -> dict[str, object]:
@@ -402,6 +418,7 @@ PARTS = (
     ways_round,
     aliases,
     killed,
+    far_date,
     second_desks,
     uncounted,
 )

@@ -17,6 +17,7 @@ PROGRAM = os.path.abspath(
 )
 FILE = "/etc/sudoers.d/desk"
 STATE = "/var/lib/desk-host"
+CHANGED = "/run/desk-host/changed"  # when the rights last changed
 SUDOERS = """\
 Defaults env_reset
 Defaults mail_badpass

@@ -191,6 +191,47 @@ def unjudged(host: Host) -> None:
             terminal.send("\x03")
 
 
+# What an account may choose so that nothing is ended, its own or anybody else's: a name, who, what
+# is typed, and the word by which its processes are known. What was started from a folder that is
+# gone from /proc can't be entered; and a log takes neither such bytes nor such a number.
+DEAD = "sleep 999 & cd /proc/$!; kill $!; wait"
+HOSTILE = [
+    ("a folder that cannot be entered", "ann", f"{DEAD}; sudo sleep 7501", "7501"),
+    ("with a search path of its own", "ann", f"{DEAD}; PATH=.:$PATH; sudo sleep 7502", "7502"),
+    ("bytes that are no UTF-8", "ann", "sudo sh -c 'sleep 7503; :' $'\\xff'", "7503"),
+    ("a line end", "ann", "sudo sh -c 'sleep 7504; :' $'a\\n<5>desk-host: forged'", "7504"),
+]
+BESIDE = [
+    ("such bytes without a sudo", "SUDO_UID=4242 SUDO_COMMAND=$'\\xff' sleep 7511", "7511"),
+    ("a long number", "SUDO_UID=1$(printf %05000d 1) SUDO_COMMAND=x sleep 7512", "7512"),
+]
+
+
+def hostile(host: Host) -> None:
+    """Whatever accounts choose, what sudo no longer allows is ended, and each line that is said is
+    desk-host's own."""
+    if not host.is_fit:
+        return
+    host.put("password", "Defaults:ann !authenticate\n")
+    host.put("desk", line("ann", 3600, "ALL"))
+    with contextlib.ExitStack() as stack:
+        for what, typed, mark in BESIDE:
+            stack.enter_context(Terminal(host, "bob")).send(typed)
+            host.check(f"{what} runs", there(host, mark))
+        for what, user, typed, mark in HOSTILE:
+            stack.enter_context(Terminal(host, user)).send(typed)
+            host.check(f"{what} runs", there(host, mark))
+        host.put("desk", line("ann", -1, "ALL"))
+        said = ended(host)
+        for what, _, _, mark in HOSTILE:
+            host.check(f"{what} is ended", there(host, mark, is_there=False, seconds=20), said)
+        lines = said.splitlines()
+        host.check("each line is its own", all(it.startswith("desk-host: ") for it in lines), said)
+        for _, _, mark in BESIDE:
+            stop(host, mark)
+    host.drop("password")
+
+
 def settings(host: Host) -> None:
     """SESSIONS=no does nothing, SESSIONS=warn only warns, and a right that comes back within the
     grace keeps what runs."""
@@ -241,4 +282,4 @@ def second(host: Host) -> None:
     host.drop("password")
 
 
-PARTS = (ends, leaves, settings, second)
+PARTS = (ends, leaves, hostile, settings, second)
