@@ -21,9 +21,13 @@ from dataclasses import dataclass, field
 from datetime import datetime, timezone, tzinfo
 from typing import Any, BinaryIO, NamedTuple, TypeAlias, cast
 
+from steelnewt_client.moments import seconds
+
 MOST_SHOWN = 20
 # lines of a log are no longer; of what is, the rest is another line that cannot be read
 LONGEST = 1 << 20
+# the last moment that the desk knows; the first one is 0
+LAST = seconds("20991231235959Z")
 PROGRAMS = ("sudo", "sudo_logsrvd")
 MONTHS = "Jan Feb Mar Apr May Jun Jul Aug Sep Oct Nov Dec".split()
 PLAIN = r"[A-Z][a-z]{2} [ \d]\d \d\d:\d\d:\d\d"
@@ -51,7 +55,8 @@ USUAL = re.compile(r"(?:TTY=[^ ;]+ ; )?PWD=[^;=]* ; USER=([^ ;]+) ; COMMAND=([^;
 BEGINS = re.compile(r"(?:HOST|TTY|CHROOT|PWD|USER)=")
 HOST = re.compile(r"HOST=([^ ;]+) ; ")
 ENDS = re.compile(r"(.*?)(?: ; SIGNAL=\S+)?(?: ; EXIT=\d+)", re.DOTALL)
-EVENT = re.compile(r' {4}"(accept|reject|alert|exit)": \{')
+KINDS = ("accept", "reject", "alert", "exit")
+EVENT = re.compile(rf' {{4}}"({"|".join(KINDS)})": \{{')
 PAM = re.compile(r"pam_\w+\(")
 # what the journal may say of who wrote a line
 SUDOS = tuple(f"{it}/{name}" for it in ("/usr/bin", "/bin", "/usr/sbin") for name in PROGRAMS)
@@ -88,6 +93,8 @@ class Cut(Exception):
     """Why a line cannot be read."""
 
 
+# what comes of words that are not sudo's
+ODD = (ValueError, KeyError, TypeError, AttributeError, RecursionError, OverflowError)
 Moments: TypeAlias = "array[int]"  # in seconds since 1970
 
 
@@ -104,21 +111,50 @@ class Logs:
     lines: int = 0
     count_unread: int = 0
 
-    def spans(self) -> dict[str, tuple[int, int]]:
-        """The first and the last moment of which each host has a line."""
+    def spans(self, until: int = LAST) -> dict[str, tuple[int, int]]:
+        """The first and the last moment of which each host has a line, of lines until then."""
         found: dict[str, tuple[int, int]] = {}
         for (host, *_), moments in [*self.runs.items(), *self.refused.items()]:
-            first, last = found.get(host, (moments[0], moments[0]))
-            found[host] = min(first, min(moments)), max(last, max(moments))
+            if max(moments) > until:
+                moments = array("q", (it for it in moments if it <= until))
+            if moments:
+                first, last = found.get(host, (LAST, 0))
+                found[host] = min(first, min(moments)), max(last, max(moments))
         return found
 
+    def logged(self) -> dict[str, tuple[int, int]]:
+        """From when to when each host's lines tell what ran. No host logs what is to come: a line
+        of a moment that is not yet says nothing of where a log ends."""
+        return self.spans(int(time.time()))
+
     def refuse(self, host: str, user: str, at: int) -> None:
-        self.refused.setdefault((host, user), array("q")).append(at)
+        append(self.refused, (host, user), at)
 
     def fault(self, file: str, line: int, why: str) -> None:
         self.count_unread += 1
         if len(self.unread) < MOST_SHOWN:
             self.unread.append(Unread(file, line, why))
+
+
+def append(found: dict[Any, Moments], key: tuple[Any, ...], at: int) -> None:
+    """Nothing is left at the key where the moment is none."""
+    if key in found:
+        found[key].append(at)
+    else:
+        found[key] = array("q", (at,))
+
+
+def known(at: Any, a_second: int = 1) -> int:
+    """The moment of a line, in seconds since 1970, whatever the line says it with: each comes
+    through here, for any account may write one that no clock ever showed."""
+    try:
+        found = int(at) // a_second
+    except OverflowError:
+        # (JSON has infinite numbers here)
+        found = LAST + 1
+    if not 0 <= found <= LAST:
+        raise Cut("its moment is out of range")
+    return found
 
 
 def opened(path: str) -> BinaryIO:
@@ -157,7 +193,7 @@ class Reader:
 
     def __init__(self, logs: Logs, name: str, host: str, year: int, written: float) -> None:
         self.logs, self.name, self.host = logs, name, host
-        self.year, self.written = year, written
+        self.year, self.written = year, min(max(written, 0), LAST)
         self.moments: dict[str, int] = {}
         # a command of syslog may go on in the next line of its host and user
         self.open: dict[tuple[str, str], Open] = {}
@@ -201,24 +237,26 @@ class Reader:
     def whole(self, kind: str, text: str, line: int) -> None:
         try:
             self.event(kind, json.loads(text))
-        except (ValueError, KeyError, TypeError, AttributeError, RecursionError):
+        except ODD:
             self.fault("it is no event of sudo's", line)
         except Cut as why:
             self.fault(str(why), line)
 
     def event(self, kind: str, told: dict[str, Any]) -> None:
         """What sudo says of a run or a refusal, as JSON."""
+        if kind not in KINDS:
+            raise Cut("it is no event of sudo's")
         if kind == "exit":
             return
         # sudo_logsrvd may get an event late; the host's own clock is in submit_time
         clock = told["submit_time"] if "peeraddr" in told else told["server_time"]
-        at, host = int(clock["seconds"]), self.host or short(text_of(told["submithost"]))
+        at, host = known(clock["seconds"]), self.host or short(text_of(told["submithost"]))
         user = text_of(told["submituser"])
         if kind != "accept":
             self.logs.refuse(host, user, at)
             return
         path, target = text_of(told["command"]), text_of(told.get("runuser", "root"))
-        words = [text_of(it) for it in told.get("runargv", [])[1:]]
+        words = [text_of(it) for it in list_of(told.get("runargv", []))[1:]]
         beside = [f"{it}={told[name]}" for it, name in BESIDE if told.get(name)]
         if not NO_RUN.match(path):
             self.ran(at, host, user, target, " ".join(beside), (path, *words))
@@ -247,7 +285,7 @@ class Reader:
                 self.common(found, line)
             else:
                 self.line_of(text, is_whole, line)
-        except (ValueError, KeyError, TypeError, AttributeError, RecursionError, OverflowError):
+        except ODD:
             self.fault("it is no line of sudo's" if is_whole else "it is cut off", line)
         except Cut as why:
             self.fault(str(why), line)
@@ -299,7 +337,7 @@ class Reader:
         """A line of JSON: an event, or an entry of the journal."""
         if "MESSAGE" not in told:
             inner = told.get("sudo", told)
-            for kind in ("accept", "reject", "alert", "exit"):
+            for kind in KINDS:
                 if kind in inner:
                     self.event(kind, inner[kind])
                     return
@@ -310,10 +348,10 @@ class Reader:
             raise Cut(f"{told['_EXE']} wrote it, and not sudo")
         said = told["MESSAGE"]
         if not isinstance(said, str):
-            said = bytes(said).decode("utf-8", "surrogateescape")
-        at = int(told.get("_SOURCE_REALTIME_TIMESTAMP") or told["__REALTIME_TIMESTAMP"])
+            said = bytes(list(said)).decode("utf-8", "surrogateescape")
+        at = told.get("_SOURCE_REALTIME_TIMESTAMP") or told["__REALTIME_TIMESTAMP"]
         host = self.host or short(text_of(told.get("_HOSTNAME", "")))
-        self.message(at // 1_000_000, host, said, line)
+        self.message(known(at, 1_000_000), host, said, line)
 
     def message(self, at: int, host: str, said: str, line: int) -> None:
         """What sudo gave to syslog."""
@@ -373,17 +411,14 @@ class Reader:
             self.ran(at, host, user, target, " ".join(beside), command)
 
     def ran(self, at: int, *run: str | tuple[str, ...]) -> None:
-        found = self.logs.runs.get(run)
-        if found is None:
-            found = self.logs.runs[run] = array("q")
-        found.append(at)
+        append(self.logs.runs, run, at)
 
     # ---- moments
 
     def moment(self, text: str) -> int:
         found = self.moments.get(text)
         if found is None:
-            found = self.moments[text] = self.parsed(text)
+            found = self.moments[text] = known(self.parsed(text))
         return found
 
     def parsed(self, text: str) -> int:
@@ -419,6 +454,12 @@ BESIDE = (("chroot", "runchroot"), ("group", "rungroup"))
 
 def text_of(value: Any) -> str:
     if not isinstance(value, str):
+        raise Cut("it is no event of sudo's")
+    return value
+
+
+def list_of(value: Any) -> list[Any]:
+    if not isinstance(value, list):
         raise Cut("it is no event of sudo's")
     return value
 

@@ -167,7 +167,7 @@ class Use:
             kept = sorted(it for it in merged[done] if span.first <= it <= span.last)
             if kept:
                 self.done[done] = array("q", kept)
-        spans = logs.spans()
+        spans = logs.logged()
         for grant in self.grants:
             first, last = spans.get(grant.host, (1, 0))
             grant.is_logged = first <= grant.last and grant.first <= last

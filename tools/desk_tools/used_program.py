@@ -96,14 +96,14 @@ def logs_of(said: argparse.Namespace) -> Logs:
 
 
 def last_of(logs: Logs) -> int:
-    return max((last for _, last in logs.spans().values()), default=0)
+    return max((last for _, last in logs.logged().values()), default=0)
 
 
 def more_of(said: argparse.Namespace, use: Use, until: int) -> Told:
     """What the options ask for besides."""
     told: Told = {}
     if said.unused_for is not None:
-        since = until - said.unused_for * DAY
+        since = max(0, until - said.unused_for * DAY)
         standing = Standing(use)
         standing.decided()
         told |= {"unused_since": stamp_of(since), "unused_rules": standing.unused(since)}

@@ -3,6 +3,7 @@
 from __future__ import annotations
 
 import csv
+import json
 import os
 import subprocess
 from collections.abc import Callable
@@ -167,3 +168,21 @@ def test_what_is_refused(evidence: Make, tmp_path: Path) -> None:
         _, ran = evidence(name, *words, span=span)
         assert ran.returncode == 2 and said in ran.stderr, (words, ran)
         assert sorted(os.listdir(tmp_path)) == before, words
+
+
+def test_a_forged_line_stops_no_evidence(evidence: Make, tmp_path: Path) -> None:
+    """What any account may write into syslog is unread, with its file and line."""
+    with open(os.path.join(EXAMPLES, "used.log"), encoding="utf-8") as file:
+        text = file.read()
+    event = '"submithost":"db1","submituser":"ann","command":"/bin/ls"'
+    for name, no in (("huge", 10**22), ("big", 9 * 10**16), ("late", 5 * 10**9)):
+        told = f'@cee:{{"sudo":{{"accept":{{"server_time":{{"seconds":{no}}},{event}}}}}}}'
+        log = tmp_path / f"{name}.log"
+        log.write_text(f"{text}2026-01-05T12:00:00+00:00 db1 sudo: {told}\n")
+        folder, ran = evidence(name, "--log", f"db1={log}")
+        assert ran.returncode == 0, ran
+        found = bytes_of(folder)
+        assert b"db1=" not in found["logs"] and b",bob,used\n" in found["grants.csv"]
+        unread = json.loads(found["20250101000000Z/used.json"])["logs"]["unread_lines"]
+        why = "its moment is out of range"
+        assert unread == [{"file": str(log), "line": text.count("\n") + 1, "why": why}]

@@ -414,3 +414,79 @@ def test_a_command_that_syslog_splits(tmp_path: Path) -> None:
     assert found == {("a", "b", "c", "d" * 951, "e"), ()} and not logs.unread, found
     logs = read(tmp_path / "log", f"{whole}{text} ; COMMAND=/bin/x\n{more}b\n{more}c\n")
     assert len(logs.runs) == 1 and logs.count_unread == 1, logs
+
+
+def forged(seconds: str, kind: str = "accept") -> str:
+    """What `logger -t sudo` leaves in syslog, by any account."""
+    event = f'"server_time":{{"seconds":{seconds}}},"submithost":"db1","submituser":"ann"'
+    event += ',"command":"/bin/ls"'
+    return f'2026-01-05T09:20:00Z db1 sudo: @cee:{{"sudo":{{"{kind}":{{{event}}}}}}}\n'
+
+
+# no second from 1970 to 2099
+NO_SECONDS = (
+    "9999999999999999999999",
+    "99999999999999999999",
+    "9000000000000000000",
+    "90000000000000000",
+    "253402300800",
+    "5000000000",
+    "4102444800",
+    "-1",
+    "-9999999999999999999999",
+    "1e400",
+)
+
+
+def test_no_moment_ends_the_report(tmp_path: Path, used: Tell) -> None:
+    """A moment that no clock showed is unread, with its line; all else is told."""
+    real = line("20260105092000Z", "root ; COMMAND=/usr/bin/id")
+    for no in NO_SECONDS:
+        told, status = used(real + forged(no) + real + forged(no, "reject") + real)
+        assert status == 1 and told["grants"][0]["runs"] == 3, (no, told)
+        unread = [(it["line"], it["why"]) for it in told["logs"]["unread_lines"]]
+        assert unread == [(it, "its moment is out of range") for it in (2, 4)], (no, unread)
+        assert len(told["runs"]) == 1 and not told["logs"]["refused"], (no, told)
+
+
+def test_a_moment_out_of_range_in_each_form(tmp_path: Path) -> None:
+    lines = [f"2{year}-01-05T09:20:00Z db1 sudo: ann : {WAS}\n" for year in ("100", "999")]
+    lines += [f"{year}-01-05T09:20:00Z db1 sudo: ann : {WAS}\n" for year in ("0001", "9999")]
+    lines += [f"Jan  5 09:20:00 {it} : ann : HOST=db1 ; {WAS}\n" for it in (1969, 2100, 9999)]
+    for no in NO_SECONDS:
+        clock: dict[str, Any] = {"server_time": {"seconds": json.loads(no)}}
+        late: dict[str, Any] = {"peeraddr": "10.0.0.1", "submit_time": clock["server_time"]}
+        for kind in ("accept", "reject"):
+            lines += [json.dumps({kind: EVENT | it}) + "\n" for it in (clock, late)]
+            lines += [pretty((kind, EVENT | it)) for it in (clock, late)]
+        for name in ("__REALTIME_TIMESTAMP", "_SOURCE_REALTIME_TIMESTAMP"):
+            lines.append(json.dumps(ENTRY | {name: f"{no}000000"}) + "\n")
+    for text in lines:
+        logs = read(tmp_path / "log", text)
+        assert not logs.runs and not logs.refused and logs.count_unread == 1, (text, logs)
+        if "1e400" not in text:
+            assert logs.unread[0].why == "its moment is out of range", (text, logs)
+    path = tmp_path / "log"
+    for text in (f"2099-12-31T23:59:59Z db1 sudo: ann : {WAS}\n", forged("0")):
+        assert len(read(path, text).runs) == 1
+    odd = forged("7").replace('"command"', '"runargv":"id","command"')
+    for text in (forged("7", "other"), odd):
+        assert not (logs := read(path, text)).runs and logs.count_unread == 1, logs
+    path.write_text(f"Jan  5 09:20:00 db1 sudo: ann : {WAS}\n")
+    os.utime(path, (1 << 33,) * 2)
+    logs = Logs()
+    read_log(logs, str(path), "", 0)
+    assert [list(it) for it in logs.runs.values()] == [[seconds("20990105092000Z")]]
+
+
+def test_a_line_of_the_future_is_no_end_of_a_log(used: Tell) -> None:
+    """A log that ended before the grant says nothing of it, whatever somebody wrote into it."""
+    before = line("20260104092000Z", "postgres ; COMMAND=/usr/bin/who", user="dba")
+    options = ("--unused-for", "30")
+    for text in (before, before + forged("4000000000"), before + forged("4000000000", "reject")):
+        told, _ = used(text, *options)
+        assert [it["status"] for it in told["grants"]] == ["no log"], (text, told)
+        assert not told["grants"][0]["never"] and told["unused_since"] == "20251205092000Z"
+    told, _ = used(forged("4000000000"))
+    assert [it["status"] for it in told["grants"]] == ["no log"]
+    assert told["logs"]["hosts"][0]["last"] == "20961002070640Z"
