@@ -14,6 +14,7 @@ from collections.abc import Iterator
 from dataclasses import dataclass, field
 from typing import Any, NamedTuple
 
+from desk_tools.use import GIVEN
 from steelnewt_client.messages import canonical
 from steelnewt_client.moments import seconds, stamp_of
 from steelnewt_client.places import place
@@ -100,6 +101,8 @@ class Evidence:
     logs: list[str]
     log_options: list[str]
     rows: list[dict[str, Any]] = field(default_factory=list)
+    # what desk-audit tells of the names that a roster granted so far
+    given: dict[tuple[str, int], Any] = field(default_factory=dict)
 
     def put(self, name: str, data: bytes | str) -> str:
         path = os.path.join(self.folder, name)
@@ -162,9 +165,9 @@ class Evidence:
             self.put(f"{it.name}/{end}.report", report)
         span = ("--from", it.first, "--until", it.last)
         told, _ = self.run(self.audit, *texts, *span, "--json", given=given)
-        path = self.put(f"{it.name}/audit.json", told)
+        self.put(f"{it.name}/audit.json", told)
         self.compare(it, json.loads(whole), kept)
-        self.grants(it, json.loads(told), self.used(it, path))
+        self.grants(it, json.loads(told), self.used(it, json.loads(whole)))
 
     # ---- the second reading
 
@@ -187,13 +190,22 @@ class Evidence:
 
     # ---- the logs
 
-    def used(self, it: Period, audit: str) -> Statuses:
-        """Each grant's status by the logs."""
+    def with_revoked(self, audit: dict[str, Any]) -> dict[str, Any]:
+        """The audit, with what was granted under an earlier roster, as that one has it, where this
+        one does not grant it: a host may have run it after a revocation all the same."""
+        names = {(it["by"], it["no"]): it for it in audit["names"]}
+        self.given |= {key: it for key, it in names.items() if it["status"] in GIVEN}
+        return audit | {"names": list((names | self.given).values())}
+
+    def used(self, it: Period, audit: dict[str, Any]) -> Statuses:
+        """Each grant's status by the logs. The audit is of all times: what ran in this one may have
+        been revoked before it."""
         if not self.logs:
             return {}
+        given = json.dumps(self.with_revoked(audit)).encode()
         words = [place("tools/desk-used", "bin/desk-used"), "--json", "--desk", self.desk]
-        words += [*self.log_options, "--from", it.first, "--until", it.last, audit, self.base]
-        out, _ = self.run(*words, *self.logs, ok=(0, 1))
+        words += [*self.log_options, "--from", it.first, "--until", it.last, "-", self.base]
+        out, _ = self.run(*words, *self.logs, given=given, ok=(0, 1))
         self.put(f"{it.name}/used.json", out)
         return {(it["by"], it["no"], it["host"]): it["status"] for it in json.loads(out)["grants"]}
 

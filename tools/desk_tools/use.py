@@ -2,7 +2,7 @@
 
 import re
 from array import array
-from bisect import bisect_right
+from bisect import bisect_left, bisect_right
 from collections.abc import Iterable, Iterator
 from dataclasses import dataclass, field
 from typing import Any, NamedTuple
@@ -20,6 +20,8 @@ CONTROL = re.compile(r"[\x00-\x1f\x7f]")
 # whom a grant's commands are asked about: its user, host and target are its own
 ASKER = Invocation("asker", "host", "target", "", ())
 ANY_TIME = "20000101000000Z"
+# what desk-audit says of a name that enough people approved
+GIVEN = ("granted", "void")
 
 
 @dataclass
@@ -34,7 +36,6 @@ class Grant:
     last: int
     ceiling: str
     commands: list[str]
-    asked_until: int
     revoked: int | None
     is_logged: bool = False
     moments: list[int] = field(default_factory=list)
@@ -53,12 +54,7 @@ def grants_of(audit: dict[str, Any]) -> list[Grant]:
     found = []
     for window in audit["windows"]:
         name = names[window["by"], window["no"]]
-        asked, last = name["requests"][0], seconds(window["until"])
-        revokes = [
-            seconds(it["verdict"]["at"])
-            for it in name["verdicts"]
-            if it["counts"] and it["verdict"]["kind"] == "revoke"
-        ]
+        asked = name["requests"][0]
         found.append(
             Grant(
                 by=name["by"],
@@ -66,13 +62,48 @@ def grants_of(audit: dict[str, Any]) -> list[Grant]:
                 host=window["host"],
                 runas=asked["runas"],
                 first=seconds(window["from"]),
-                last=last,
+                last=seconds(window["until"]),
                 ceiling=asked["ceiling"],
                 commands=asked["cmnds"],
-                asked_until=seconds(asked["until"]),
-                revoked=min(revokes, default=None),
+                revoked=counted(name, "revoke"),
             )
         )
+    return found
+
+
+def counted(name: dict[str, Any], kind: str) -> int | None:
+    """The first moment of such a verdict on a name that counts."""
+    verdicts = [it["verdict"] for it in name["verdicts"] if it["counts"]]
+    return min((seconds(it["at"]) for it in verdicts if it["kind"] == kind), default=None)
+
+
+class Revoked(NamedTuple):
+    """What was asked for on one host, approved and revoked, whether it had begun by then or not: a
+    host that has not heard of it lets it run up to the end that was asked for."""
+
+    by: str
+    no: int
+    host: str
+    runas: str
+    commands: list[str]
+    first: int
+    at: int
+    until: int
+    status: str
+
+
+def revoked_of(audit: dict[str, Any]) -> list[Revoked]:
+    """By the names, for one that was revoked before it began has no window."""
+    found = []
+    for name in audit["names"]:
+        if name["status"] not in GIVEN or (at := counted(name, "revoke")) is None:
+            continue
+        asked, approved = name["requests"][0], counted(name, "approve")
+        until = seconds(asked["until"])
+        # (one that was approved too late was on no host)
+        if approved is not None and approved <= until:
+            row = asked["runas"], asked["cmnds"], seconds(asked["from"]), at, until, name["status"]
+            found += [Revoked(name["by"], name["no"], host, *row) for host in asked["hosts"]]
     return found
 
 
@@ -132,7 +163,7 @@ class Row(NamedTuple):
 class Late(NamedTuple):
     """What ran after a grant was revoked that would have covered it."""
 
-    grant: Grant
+    grant: Revoked
     done: Done
     moments: list[int]
 
@@ -149,6 +180,7 @@ class Use:
     desk: Desk
     base: Policy
     grants: list[Grant]
+    revoked: list[Revoked]
     skew: int
     done: dict[Done, Moments] = field(default_factory=dict)
     rows: list[Row] = field(default_factory=list)
@@ -247,14 +279,24 @@ class Use:
         return by.get((), [])
 
     def after_revocations(self) -> None:
-        for done, moments in self.done.items():
-            for grant, _ in self.covering(done):
-                if grant.revoked is None:
-                    continue
-                first = bisect_right(moments, grant.last + self.skew)
-                late = list(moments[first : bisect_right(moments, grant.asked_until)])
-                if late:
-                    self.late.append(Late(grant, done, late))
+        """By what was revoked, whatever its window and the time that is asked about."""
+        by: dict[tuple[str, str, str], list[Revoked]] = {}
+        for it in self.revoked:
+            by.setdefault((it.by, it.host, it.runas), []).append(it)
+        found = [
+            Late(it, done, late)
+            for done, moments in self.done.items()
+            if not done.beside
+            for it in by.get((done.user, done.host, done.target), ())
+            if (late := self.since(it, moments))
+        ]
+        answers = self.desk.answers(self.granted(it.grant.commands, it.done) for it in found)
+        self.late += [it for it, is_covered in zip(found, answers, strict=True) if is_covered]
+
+    def since(self, grant: Revoked, moments: Moments) -> list[int]:
+        """What ran from its revocation on, and from the moment from which it was asked for."""
+        first = max(grant.at + self.skew, grant.first)
+        return list(moments[bisect_left(moments, first) : bisect_right(moments, grant.until)])
 
     # ---- the base
 

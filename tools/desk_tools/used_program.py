@@ -16,7 +16,7 @@ from desk_tools.judge import NoDesk, program
 from desk_tools.narrower import proposals
 from desk_tools.standing import Standing, beyond
 from desk_tools.sudo_logs import Logs, files_of, read_log
-from desk_tools.use import Span, Use, grants_of
+from desk_tools.use import Span, Use, grants_of, revoked_of
 from desk_tools.used_text import Told, json_of, text_of, told_of
 from steelnewt_client.moments import seconds, stamp_of
 
@@ -71,6 +71,7 @@ def audit_of(path: str) -> dict[str, Any]:
         with open(0 if path == "-" else path, encoding="utf-8") as file:
             told: dict[str, Any] = json.load(file)
         grants_of(told)
+        revoked_of(told)
     except (ValueError, KeyError, TypeError, RecursionError):
         raise Failed(f"{path}: it is not what desk-audit --json prints") from None
     return told
@@ -134,7 +135,7 @@ def used(said: argparse.Namespace) -> int:
         desk = Desk(program(said.desk), folder)
         base = desk.policy(desk.canonical(said.base))
         grants = [it for it in grants_of(audit) if it.first <= span.last and span.first <= it.last]
-        use = Use(desk, base, grants, said.skew or 0)
+        use = Use(desk, base, grants, revoked_of(audit), said.skew or 0)
         use.take(logs, span)
         use.judge()
         told = told_of(logs, use) | more_of(said, use, until)

@@ -85,7 +85,8 @@ def told_of(logs: Logs, use: Use) -> Told:
                 "by": it.grant.by,
                 "no": it.grant.no,
                 "host": it.grant.host,
-                "until": stamp_of(it.grant.last),
+                "status": it.grant.status,
+                "until": stamp_of(it.grant.at - 1),
                 "command": it.done.shown,
                 **times(it.moments),
             }
@@ -156,8 +157,11 @@ def lines_of(told: Told) -> Iterator[str]:
         yield from of_runs(it for it in told["runs"] if it["ground"] == ground)
     yield "AFTER REVOCATION"
     for it in told["after_revocation"]:
-        window = f"{it['by']} {it['no']} on {it['host']}, in force until {it['until']}"
-        yield f"{window}: {times_said(it['runs'])}, {span(it)}"
+        was = f"in force until {it['until']}"
+        if it["status"] == "void":
+            was = f"not yet in force at {it['until']}"
+        grant = f"{it['by']} {it['no']} on {it['host']}, {was}"
+        yield f"{grant}: {times_said(it['runs'])}, {span(it)}"
         yield f"  {it['command']}"
     if "unused_rules" in told:
         yield f"UNUSED RULES since {told['unused_since']}"

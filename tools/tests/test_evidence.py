@@ -186,3 +186,25 @@ def test_a_forged_line_stops_no_evidence(evidence: Make, tmp_path: Path) -> None
         unread = json.loads(found["20250101000000Z/used.json"])["logs"]["unread_lines"]
         why = "its moment is out of range"
         assert unread == [{"file": str(log), "line": text.count("\n") + 1, "why": why}]
+
+
+def test_a_roster_hides_no_run_after_a_revocation(evidence: Make, tmp_path: Path) -> None:
+    """A roster that came after a revocation tells what ran under it, whether it would have let the
+    grant be or not."""
+    rosters, log = tmp_path / "rosters", f"db1={EXAMPLES}/used.log"
+    text = (rosters / "20250101000000Z.toml").read_text()
+    late = [("ann", 7, "20260105103112Z")]
+    for no, bob in enumerate(('bob = ["approve-db"] # still', "bob = []")):
+        changed = text.replace('bob = ["approve-db"]', bob)
+        (rosters / f"{CHANGED}.toml").unlink(missing_ok=True)
+        (rosters / "20260105103100Z.toml").write_text(changed)
+        folder, ran = evidence(str(no), "--log", log)
+        assert ran.returncode == 0, ran
+        found = bytes_of(folder)
+        for name, wanted in (("20250101000000Z", []), ("20260105103100Z", late)):
+            told = json.loads(found[f"{name}/used.json"])["after_revocation"]
+            assert [(it["by"], it["no"], it["first"]) for it in told] == wanted, (no, name, told)
+        rows = list(csv.DictReader(found["grants.csv"].decode().splitlines()))
+        assert [(it["roster"], it["who"], it["used"]) for it in rows] == [
+            ("20250101000000Z", "ann", "used")
+        ]

@@ -99,17 +99,21 @@ def ran(logs: Logs) -> list[tuple[Done, list[int]]]:
     return [(done_of(Run(*it)), list(at)) for it, at in logs.runs.items()]
 
 
+def audit_of(desk: str, path: Path, messages: str) -> str:
+    """What desk-audit tells of the messages, in a file."""
+    folder, name = os.path.split(desk)
+    program = os.path.join(folder, name.replace("desk", "desk-audit", 1))
+    words = [program, ROSTER, BASE, "-", "--json"]
+    told = subprocess.run(words, input=messages.encode(), capture_output=True)
+    path.write_bytes(told.stdout)
+    return str(path)
+
+
 @pytest.fixture
 def audit(desk: str, tmp_path: Path) -> str:
     """What desk-audit tells of the examples."""
-    folder, name = os.path.split(desk)
-    program = os.path.join(folder, name.replace("desk", "desk-audit", 1))
-    with open(os.path.join(EXAMPLES, "audited.messages"), "rb") as file:
-        words = [program, ROSTER, BASE, "-", "--json"]
-        told = subprocess.run(words, stdin=file, capture_output=True)
-    path = tmp_path / "audit.json"
-    path.write_bytes(told.stdout)
-    return str(path)
+    with open(os.path.join(EXAMPLES, "audited.messages"), encoding="utf-8") as file:
+        return audit_of(desk, tmp_path / "audit.json", file.read())
 
 
 @pytest.fixture
@@ -284,6 +288,7 @@ def test_json_is_by_its_schema(used: Tell) -> None:
     for text in ("", "no log\n", line("20260105103000Z", "root ; COMMAND=/usr/bin/id -u")):
         told, _ = used(text, *options)
         jsonschema.validate(told, schema)
+    assert told["after_revocation"]
     with pytest.raises(jsonschema.ValidationError):
         jsonschema.validate(told | {"runs": [{}]}, schema)
 
@@ -490,3 +495,77 @@ def test_a_line_of_the_future_is_no_end_of_a_log(used: Tell) -> None:
     told, _ = used(forged("4000000000"))
     assert [it["status"] for it in told["grants"]] == ["no log"]
     assert told["logs"]["hosts"][0]["last"] == "20961002070640Z"
+
+
+def asked(no: int, first: str, until: str, **verdicts: str) -> str:
+    """A request of ann's for id as root on db1, with bob's approval and carol's revocation."""
+    request = {"at": "20260101000000Z", "by": "ann", "ceiling": "db-care", "from": first}
+    request |= {"kind": "request", "runas": "root", "until": until}
+    told: list[dict[str, Any]] = [{**request, "cmnds": ["/usr/bin/id"], "hosts": ["db1"], "no": no}]
+    for kind, by in (("approve", "bob"), ("revoke", "carol")):
+        if kind in verdicts:
+            told.append({"at": verdicts[kind], "by": by, "kind": kind, "no": no, "of": "ann"})
+    texts = (json.dumps(it, separators=(",", ":"), sort_keys=True) for it in told)
+    return "".join(f"{it}\n" for it in texts)
+
+
+IDS = "root ; COMMAND=/usr/bin/id"
+ALLOWED = "ann ALL = (root) /usr/bin/id\n"
+
+
+def late_of(told: Any) -> list[tuple[int, str, int, str]]:
+    late = told["after_revocation"]
+    return [(it["no"], it["status"], it["runs"], it["first"]) for it in late]
+
+
+def test_a_run_late_enough_for_the_time_asked_about(
+    used: Tell, desk: str, tmp_path: Path, audit: str
+) -> None:
+    """The grant was over before --from, by its revocation; it was asked for until after that."""
+    window = ("20260105230000Z", "20260106003000Z")
+    given = {"approve": "20260102000000Z", "revoke": "20260105235950Z"}
+    audit_of(desk, Path(audit), asked(9, *window, **given))
+    base = tmp_path / "base.sudo"
+    base.write_text(ALLOWED)
+    runs = ("20260106000020Z", "20260106003000Z", "20260106003001Z")
+    text = "".join(line(it, IDS) for it in runs)
+    wanted = [(9, "granted", 2, runs[0])]
+    for options in ((), ("--from", "20260106000000Z"), ("--skew", "30")):
+        told, status = used(text, *options, base=str(base))
+        assert late_of(told) == wanted and status == 1, (options, told)
+        assert told["after_revocation"][0]["until"] == "20260105235949Z"
+        assert not told["grants"] or not options or options[0] != "--from", told
+    told, _ = used(text, "--skew", "31", base=str(base))
+    assert late_of(told) == [(9, "granted", 1, runs[1])]
+
+
+def test_a_run_after_a_grant_was_revoked_before_it_began(
+    used: Tell, desk: str, tmp_path: Path, audit: str
+) -> None:
+    """It has no window; a request that nobody approved in time was on no host."""
+    window = ("20260105130000Z", "20260105140000Z")
+    revoke = "20260105120000Z"
+    rows = (
+        asked(1, *window, approve="20260105060000Z", revoke=revoke),
+        asked(2, *window, revoke=revoke),
+        asked(3, *window, approve="20260105140001Z", revoke=revoke),
+        asked(4, *window, approve="20260105060000Z"),
+    )
+    base = tmp_path / "base.sudo"
+    base.write_text(ALLOWED)
+    text = "".join(line(f"20260105{it}Z", IDS) for it in ("125959", "130000", "140000", "140001"))
+    for messages, wanted in (
+        (rows[0], [(1, "void", 2, window[0])]),
+        (rows[1], []),
+        (rows[2], []),
+        (rows[3], []),
+        ("".join(rows), [(1, "void", 2, window[0])]),
+    ):
+        audit_of(desk, Path(audit), messages)
+        told, status = used(text, base=str(base))
+        assert late_of(told) == wanted and status == (1 if wanted else 0), (messages, told)
+    log = tmp_path / "told.log"
+    words = [os.path.join(ROOT, "tools", "desk-used"), "--desk", desk, audit, str(base), str(log)]
+    ran = subprocess.run(words, capture_output=True, text=True)
+    said = f"ann 1 on db1, not yet in force at 20260105115959Z: twice, {window[0]} to {window[1]}\n"
+    assert f"AFTER REVOCATION\n{said}  /usr/bin/id\nREFUSED\n" in ran.stdout, ran.stdout
