@@ -32,17 +32,26 @@ PROGRAMS = ("sudo", "sudo_logsrvd")
 MONTHS = "Jan Feb Mar Apr May Jun Jul Aug Sep Oct Nov Dec".split()
 PLAIN = r"[A-Z][a-z]{2} [ \d]\d \d\d:\d\d:\d\d"
 STAMP = r"\d{4}-\d\d-\d\dT\d\d:\d\d:\d\d(?:[.,]\d+)?(?:Z|[+-]\d\d:?\d\d)"
+# a name or an address; with a colon at its end it may be another program's
+NAMED = r"[^ ]*[^ :]"
 SYSLOG = re.compile(
-    rf"(?:<\d{{1,3}}>)?(?:1 )?({PLAIN}|{STAMP}) (?:([^ :]+) )?"
+    rf"(?:<\d{{1,3}}>)?(?:1 )?({PLAIN}|{STAMP}) (?:({NAMED}) )?"
     r"sudo(?:(?:\[\d+\])?: +| \S+ \S+ (?:-|\[.*?\]) +)(.*)",
     re.DOTALL,
 )
 # most lines of syslog: nothing in them looks like more of sudo's words
 COMMON = re.compile(
-    rf"({PLAIN}|{STAMP}) ([^ :]+) sudo(?:\[\d+\])?: +([^ :]+) : (?:TTY=[^ ;]+ ; )?PWD=[^;=]* ; "
+    rf"({PLAIN}|{STAMP}) ({NAMED}) sudo(?:\[\d+\])?: +([^ :]+) : (?:TTY=[^ ;]+ ; )?PWD=[^;=]* ; "
     r"USER=([^ ;]+) ; COMMAND=(/[^;]*)"
 )
 OTHER = re.compile(rf"(?:<\d{{1,3}}>)?(?:1 )?(?:{PLAIN}|{STAMP}) ")
+# what a line of sudo's has, in whatever form; and its name in one
+SAID = re.compile(r" COMMAND=|@cee:")
+TAG = re.compile(rf"(?:\S*/)?(?:{'|'.join(PROGRAMS)})(?:\[\d+\])?:?")
+# the words in front of a message: its host, its program, and what some put between
+MOST_BEFORE = 4
+UNKNOWN = "it may be sudo's: its form is not known"
+ADDRESS = re.compile(r"[\d.]+|[\da-fA-F]*:[\da-fA-F]*:.*")
 OF_FILE = re.compile(rf"({PLAIN}(?: \d{{4}})?) : (.*)", re.DOTALL)
 CONTINUED = "(command continued) "
 ACCEPTED = re.compile(
@@ -185,7 +194,22 @@ def lines_of(source: BinaryIO) -> Iterator[tuple[str, bool]]:
 
 
 def short(host: str) -> str:
+    if ADDRESS.fullmatch(host):
+        return host.lower()
     return host.partition(".")[0].lower()
+
+
+def may_be_sudos(said: str) -> bool:
+    """Whether what stands behind a moment may be a run that sudo logged: its name comes before that
+    of any other program. (Whoever may write to syslog chooses the words behind their own.)"""
+    if not SAID.search(said):
+        return False
+    for place, word in enumerate(said.split(None, MOST_BEFORE)[:MOST_BEFORE]):
+        if TAG.fullmatch(word):
+            return True
+        if word.endswith("]:") or (place and word.endswith(":")):
+            return False
+    return False
 
 
 class Reader:
@@ -320,18 +344,18 @@ class Reader:
         if text[0] == "{":
             self.object(json.loads(text), line)
             return
+        if not is_whole:
+            raise Cut("it is cut off")
         if found := SYSLOG.match(text):
             at, host, said = self.moment(found[1]), self.host or short(found[2] or ""), found[3]
-            if not is_whole:
-                raise Cut("it is cut off")
             self.message(at, host, said, line)
         elif found := OF_FILE.match(text):
-            if not is_whole:
-                raise Cut("it is cut off")
             user, rest = author(found[2])
             self.classic(self.moment(found[1]), self.host, user, rest)
-        elif not OTHER.match(text):
-            raise Cut("it is no line of sudo's" if is_whole else "it is cut off")
+        elif not (found := OTHER.match(text)):
+            raise Cut("it is no line of sudo's")
+        elif may_be_sudos(text[found.end() :]):
+            raise Cut(UNKNOWN)
 
     def object(self, told: dict[str, Any], line: int) -> None:
         """A line of JSON: an event, or an entry of the journal."""
@@ -342,13 +366,18 @@ class Reader:
                     self.event(kind, inner[kind])
                     return
             raise Cut("it is no event of sudo's")
-        if told.get("SYSLOG_IDENTIFIER", told.get("_COMM")) != "sudo":
+        name = told.get("SYSLOG_IDENTIFIER", told.get("_COMM"))
+        if name not in PROGRAMS:
             return
         if told.get("_EXE", SUDOS[0]) not in SUDOS:
             raise Cut(f"{told['_EXE']} wrote it, and not sudo")
         said = told["MESSAGE"]
         if not isinstance(said, str):
             said = bytes(list(said)).decode("utf-8", "surrogateescape")
+        if name != "sudo":
+            if SAID.search(said):
+                raise Cut(UNKNOWN)
+            return
         at = told.get("_SOURCE_REALTIME_TIMESTAMP") or told["__REALTIME_TIMESTAMP"]
         host = self.host or short(text_of(told.get("_HOSTNAME", "")))
         self.message(known(at, 1_000_000), host, said, line)

@@ -569,3 +569,69 @@ def test_a_run_after_a_grant_was_revoked_before_it_began(
     ran = subprocess.run(words, capture_output=True, text=True)
     said = f"ann 1 on db1, not yet in force at 20260105115959Z: twice, {window[0]} to {window[1]}\n"
     assert f"AFTER REVOCATION\n{said}  /usr/bin/id\nREFUSED\n" in ran.stdout, ran.stdout
+
+
+# hosts that a collector names by their addresses
+ADDRESSES = ("2001:db8::1", "fe80::1%eth0", "::ffff:10.0.0.1", "10.0.0.1", "db1.example:514")
+AT = "2026-01-05T09:20:00Z"
+EVENT_SAID = f'@cee:{json.dumps({"sudo": {"accept": EVENT}})}'
+# what is sudo's, or may be, and is in no form that is known
+UNCLEAR = (
+    f"{AT} db1: sudo:  ann : {WAS}",
+    f"{AT} 2001:db8:: sudo:  ann : {WAS}",
+    f"{AT} db1 authpriv.notice sudo:  ann : {WAS}",
+    f"Jan  5 09:20:00 db1 auth|security:notice sudo[12]: ann : {WAS}",
+    f"{AT} db1 /usr/bin/sudo[12]: ann : {WAS}",
+    f"{AT} db1 sudo_logsrvd[1]: ann : HOST=db1 ; {WAS}",
+    f"{AT} db1 sudo_logsrvd[1]: {EVENT_SAID}",
+    f"<86>1 {AT} db1 sudo_logsrvd 1 - - ann : HOST=db1 ; {WAS}",
+    f"{AT} db1 sudo : ann : {WAS}",
+    f"{AT} sudo_logsrvd[1]: {EVENT_SAID}",
+    f"{AT} db1 x sudo: ann : {WAS}",
+    json.dumps(ENTRY | {"SYSLOG_IDENTIFIER": "sudo_logsrvd"}),
+    json.dumps(ENTRY | {"SYSLOG_IDENTIFIER": "sudo_logsrvd", "MESSAGE": EVENT_SAID}),
+)
+# another program's, whatever it says; and what tells of no run
+OTHERS = (
+    f"{AT} db1 sshd[3]: sudo: ann : {WAS}",
+    f"{AT} 2001:db8::1 sshd: sudo: ann : {WAS}",
+    f"{AT} sshd[3]: sudo: ann : {WAS}",
+    f"<86>1 {AT} 2001:db8::1 sshd 12 - - sudo: ann : {WAS}",
+    f"{AT} db1 auth.notice sshd[3]: sudo: ann : {WAS}",
+    f"{AT} db1 cron[3]: (root) CMD (sudo {WAS})",
+    f"{AT} db1 sudo_logsrvd[1]: connected",
+    f"{AT} db1 authpriv.info sudo: pam_unix(sudo:session): session opened",
+    json.dumps(ENTRY | {"SYSLOG_IDENTIFIER": "sshd", "MESSAGE": f"sudo: ann : {WAS}"}),
+    json.dumps(ENTRY | {"SYSLOG_IDENTIFIER": "sudo_logsrvd", "MESSAGE": "connected"}),
+)
+
+
+def test_a_host_by_its_address(tmp_path: Path) -> None:
+    for host in ADDRESSES:
+        for text in (
+            f"{AT} {host} sudo:  ann : {WAS}\n",
+            f"{AT} {host} sudo[12]: {EVENT_SAID}\n",
+            f"<86>1 {AT} {host} sudo 12 - - ann : {WAS}\n",
+            f"<85>Jan  5 09:20:00 {host} sudo: ann : {WAS}\n",
+        ):
+            logs = read(tmp_path / "log", text, "db1")
+            ((done, moments),) = ran(logs)
+            assert done[:3] == ("db1", "ann", "root") and not logs.unread, (text, logs)
+            assert moments == [seconds("20260105092000Z")], text
+        logs = read(tmp_path / "log", f"{AT} {host} sudo:  ann : {WAS}\n")
+        assert [done.host for done, _ in ran(logs)] == ["db1" if "db1" in host else host]
+
+
+def test_a_form_that_is_not_known_is_unread(tmp_path: Path, used: Tell) -> None:
+    """No run of sudo's is passed over in silence; nor is another program's line taken for one."""
+    for text in UNCLEAR:
+        logs = read(tmp_path / "log", f"{text}\n", "db1")
+        assert not logs.runs and [it.why[:6] for it in logs.unread] == ["it may"], (text, logs)
+    for text in OTHERS:
+        logs = read(tmp_path / "log", f"{text}\n", "db1")
+        assert not logs.runs and not logs.refused and not logs.unread, (text, logs)
+    logs = read(tmp_path / "log", f"{HEADS[0]}{WAS}\n{HEADS[0][:31]}")
+    assert len(logs.runs) == 1 and [it.why for it in logs.unread] == ["it is cut off"], logs
+    told, status = used("".join(f"{it}\n" for it in UNCLEAR[:-2]))
+    assert status == 1 and told["logs"]["unread"] == len(UNCLEAR) - 2, told
+    assert used("".join(f"{it}\n" for it in OTHERS[:-2]))[1] == 0
