@@ -9,11 +9,11 @@ import os
 import re
 import shutil
 import subprocess
-import tomllib
 from collections.abc import Iterator
 from dataclasses import dataclass, field
 from typing import Any, NamedTuple
 
+from desk_tools.toml_text import read as read_toml
 from desk_tools.use import GIVEN
 from steelnewt_client.messages import canonical
 from steelnewt_client.moments import seconds, stamp_of
@@ -174,7 +174,8 @@ class Evidence:
     def compare(self, it: Period, told: dict[str, Any], kept: list[bytes]) -> None:
         statuses = "".join(f"{status_line(name)}\n" for name in told["names"])
         self.put(f"{it.name}/statuses", statuses)
-        roster = self.put(f"{it.name}/roster.json", json.dumps(tomllib.loads(it.text.decode())))
+        # (desk-audit has read it: it has no faults)
+        roster = self.put(f"{it.name}/roster.json", json.dumps(read_toml(it.text).value))
         given = b"".join(line + b"\n" for line in kept)
         words = ["jq", "-rn", "--slurpfile", "roster", roster, "-f", self.reading]
         second, _ = self.run(*words, given=given)

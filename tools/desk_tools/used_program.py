@@ -5,7 +5,6 @@ import json
 import re
 import sys
 import tempfile
-import tomllib
 import zoneinfo
 from collections.abc import Callable
 from typing import Any
@@ -16,6 +15,7 @@ from desk_tools.judge import NoDesk, program
 from desk_tools.narrower import proposals
 from desk_tools.standing import Standing, beyond
 from desk_tools.sudo_logs import Logs, files_of, read_log
+from desk_tools.toml_text import read as read_toml
 from desk_tools.use import Span, Use, grants_of, revoked_of
 from desk_tools.used_text import Told, json_of, text_of, told_of
 from steelnewt_client.moments import seconds, stamp_of
@@ -100,6 +100,15 @@ def last_of(logs: Logs) -> int:
     return max((last for _, last in logs.logged().values()), default=0)
 
 
+def roster_of(path: str) -> dict[str, Any]:
+    """A roster, as a desk reads it."""
+    with open(path, "rb") as file:
+        document = read_toml(file.read())
+    if document.faults:
+        raise Failed(f"{path}:{document.faults[0].line}: {document.faults[0].said}")
+    return document.value
+
+
 def more_of(said: argparse.Namespace, use: Use, until: int) -> Told:
     """What the options ask for besides."""
     told: Told = {}
@@ -111,8 +120,6 @@ def more_of(said: argparse.Namespace, use: Use, until: int) -> Told:
     if said.baseline:
         told["beyond"] = list(beyond(use.desk, use.base.path, use.base, said.baseline))
     if said.roster:
-        with open(said.roster, "rb") as file:
-            roster = tomllib.load(file)
         told["ceilings"] = [
             {
                 "ceiling": it.ceiling,
@@ -121,7 +128,7 @@ def more_of(said: argparse.Namespace, use: Use, until: int) -> Told:
                 "no_log": it.unlogged,
                 "proposal": it.text,
             }
-            for it in proposals(roster, use.grants, until)
+            for it in proposals(roster_of(said.roster), use.grants, until)
         ]
     return told
 
@@ -148,7 +155,7 @@ def main(words: list[str] | None = None) -> int:
     said = parser().parse_args(words)
     try:
         return used(said)
-    except (Failed, NoDesk, tomllib.TOMLDecodeError) as fault:
+    except (Failed, NoDesk) as fault:
         why = str(fault)
     except OSError as fault:
         why = f"{fault.filename}: {fault.strerror}"

@@ -12,6 +12,7 @@ from pathlib import Path
 import pytest
 
 from conftest import ROOT
+from texts import newer
 
 EXAMPLES = os.path.join(ROOT, "examples")
 SPAN = ("20260101000000Z", "20260331235959Z")
@@ -208,3 +209,16 @@ def test_a_roster_hides_no_run_after_a_revocation(evidence: Make, tmp_path: Path
         assert [(it["roster"], it["who"], it["used"]) for it in rows] == [
             ("20250101000000Z", "ann", "used")
         ]
+
+
+def test_a_roster_of_toml_1_1(evidence: Make, tmp_path: Path) -> None:
+    """It may have a table over several lines: a desk takes it, and so does the second reading."""
+    path = tmp_path / "rosters" / "20250101000000Z.toml"
+    path.write_text(newer(path.read_text()))
+    folder, ran = evidence("made", "--log", f"db1={EXAMPLES}/used.log")
+    assert ran.returncode == 0, ran
+    found = bytes_of(folder)
+    assert found["20250101000000Z/roster.toml"] == path.read_bytes()
+    said = b"the statuses are the same\nall messages are told\n"
+    assert found["20250101000000Z/comparison"] == said
+    assert b"ann 7 granted " in found["20250101000000Z/second"]

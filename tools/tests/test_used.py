@@ -23,6 +23,7 @@ from desk_tools.sudo_logs import Logs, Run, read_log, without_exits
 from desk_tools.use import Done, done_of, grants_of
 from steelnewt_client.moments import seconds
 from conftest import ROOT, Run as Program
+from texts import newer
 
 BESIDE = os.path.join(ROOT, "tools", "tests", "beside_sudo_logs.py")
 EXAMPLES = os.path.join(ROOT, "examples")
@@ -635,3 +636,19 @@ def test_a_form_that_is_not_known_is_unread(tmp_path: Path, used: Tell) -> None:
     told, status = used("".join(f"{it}\n" for it in UNCLEAR[:-2]))
     assert status == 1 and told["logs"]["unread"] == len(UNCLEAR) - 2, told
     assert used("".join(f"{it}\n" for it in OTHERS[:-2]))[1] == 0
+
+
+def test_a_roster_of_toml_1_1(used: Tell, tmp_path: Path) -> None:
+    """It may have a table over several lines, as a desk reads it; a fault is told with its line."""
+    with open(ROSTER, encoding="utf-8") as file:
+        text = file.read()
+    roster = tmp_path / "roster.toml"
+    roster.write_text(newer(text))
+    with pytest.raises(tomllib.TOMLDecodeError):
+        tomllib.loads(newer(text))
+    log = line("20260105092000Z", IDS)
+    options = ("--until", "20260201000000Z", "--roster")
+    assert used(log, *options, str(roster)) == used(log, *options, ROSTER)
+    roster.write_text(text + "\n]")
+    with pytest.raises(AssertionError, match=f"roster.toml:{text.count(chr(10)) + 2}: a key is"):
+        used(log, *options, str(roster))

@@ -51,6 +51,12 @@ MARKS += ["[people]\n", "[ceilings.x]\n", "a.b = 1\n", "{}", "[]"]
 TOKEN = re.compile(r"""[A-Za-z0-9_./:+-]+|"[^"\n]*"|'[^'\n]*'""")
 
 
+def newer(roster: str) -> str:
+    """The examples' roster with a table over several lines, which TOML 1.0 does not have."""
+    days = '{ duty = "approve-db",\n  from = "20250101",\n  until = "20271231", }'
+    return roster.replace('bob = ["approve-db"]', f"bob = [{days}]")
+
+
 def changed(chance: random.Random, text: str, words: list[str], marks: list[str]) -> str:
     """The text with one part changed."""
     kind = chance.randrange(10)
