@@ -41,7 +41,7 @@ ROSTER/         for each roster of that time, by the moment since which it was s
   statuses      each name with its status, as desk-audit tells it, of all times
   second        the same by second-reading.jq, which uses nothing of the desk
   comparison    whether the two are the same, and whether desk-audit tells all messages
-  used.json     what `desk-used` tells of the logs
+  used.json     what `desk-used` tells of the logs, by the audit of all times
 second-reading.jq  the second reading itself
 
 To check it: sha256sum -c SHA256SUMS
