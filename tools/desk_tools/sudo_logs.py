@@ -386,6 +386,8 @@ class Reader:
         """What sudo gave to syslog."""
         if said.startswith("@cee:"):
             told = json.loads(said[5:])["sudo"]
+            if not told:
+                raise Cut("it is no event of sudo's")
             for kind, event in told.items():
                 self.event(kind, event)
             return
@@ -508,7 +510,8 @@ def read_log(logs: Logs, name: str, host: str, year: int) -> None:
         reader = Reader(logs, name, host, year, os.stat(name).st_mtime)
         try:
             reader.read(source)
-        except (EOFError, zlib.error, lzma.LZMAError, gzip.BadGzipFile) as fault:
+        # (of what bz2 cannot unpack it says no more than OSError)
+        except (EOFError, OSError, zlib.error, lzma.LZMAError) as fault:
             reader.fault(f"the rest is damaged: {fault}", reader.line)
 
 

@@ -3,8 +3,10 @@ base. Beside real runs of sudo: beside_sudo_logs.py."""
 
 from __future__ import annotations
 
+import bz2
 import gzip
 import json
+import lzma
 import os
 import random
 import resource
@@ -198,6 +200,21 @@ def test_rotated_logs(tmp_path: Path, used: Tell, desk: str, audit: str) -> None
     (lost,) = told["logs"]["unread_lines"]
     assert lost["file"].endswith("3.gz") and "damaged" in lost["why"], lost
     assert told["grants"][0]["runs"] >= 10, told
+
+
+def test_a_packed_log_that_is_damaged(tmp_path: Path) -> None:
+    """What comes before is told, and that the rest is lost."""
+    text = "".join(f"{HEADS[0]}{WAS} {no}\n" for no in range(50_000)).encode()
+    for end, data in (("bz2", bz2.compress(text)), ("xz", lzma.compress(text))):
+        packed = bytearray(data)
+        packed[len(packed) // 2 :] = bytes(len(packed) - len(packed) // 2)
+        path = tmp_path / f"log.{end}"
+        path.write_bytes(packed)
+        logs = Logs()
+        read_log(logs, str(path), "db1", 2026)
+        (lost,) = logs.unread
+        assert lost.file == str(path) and lost.why.startswith("the rest is damaged: "), logs.unread
+        assert 0 < len(logs.runs) < 50_000, (end, len(logs.runs))
 
 
 def test_the_year_and_the_zone(tmp_path: Path, used: Tell) -> None:
@@ -476,7 +493,7 @@ def test_a_moment_out_of_range_in_each_form(tmp_path: Path) -> None:
     for text in (f"2099-12-31T23:59:59Z db1 sudo: ann : {WAS}\n", forged("0")):
         assert len(read(path, text).runs) == 1
     odd = forged("7").replace('"command"', '"runargv":"id","command"')
-    for text in (forged("7", "other"), odd):
+    for text in (forged("7", "other"), odd, f"{AT} db1 sudo: @cee:{{\"sudo\":{{}}}}\n"):
         assert not (logs := read(path, text)).runs and logs.count_unread == 1, logs
     path.write_text(f"Jan  5 09:20:00 db1 sudo: ann : {WAS}\n")
     os.utime(path, (1 << 33,) * 2)
