@@ -13,6 +13,7 @@ from collections.abc import Iterator
 from datetime import date, datetime, timedelta, timezone
 from typing import Any
 
+from desk_tools import turns
 from desk_tools.cvtsudoers import BadSudoers
 from desk_tools.machine import getent
 from desk_tools.roster_text import Days, merged
@@ -20,6 +21,17 @@ from desk_tools.roster_text import Days, merged
 PATIENCE = 60.0  # seconds for one question to the directory
 MEMBERS = ("member", "uniquemember", "memberuid")
 LOOPBACK = re.compile(r"ldap://(localhost|127\.0\.0\.1|\[::1\])(:\d+)?/?")
+# what the two libraries raise at a calendar that is none, or that they do not know
+UNREAD = (
+    OSError,
+    ValueError,
+    LookupError,
+    TypeError,
+    AttributeError,
+    ArithmeticError,
+    AssertionError,
+    RecursionError,
+)
 LDIF = re.compile(r"([A-Za-z0-9.-]+(?:;[A-Za-z0-9.=;-]+)?):(:?) ?(.*)")
 
 
@@ -143,12 +155,18 @@ def on_call(path: str, person: str, today: str, weeks: int) -> dict[str, list[Da
     found: dict[str, list[Days]] = {}
     try:
         with open(path, "rb") as file:
-            calendar = icalendar.Calendar.from_ical(file.read())
+            data = file.read()
+        calendar = icalendar.Calendar.from_ical(data)
+        why = turns.unsure(calendar.walk("VEVENT"))
+        why = why or turns.unread(icalendar.parser.Contentlines.from_ical(data))
+        if why is not None:
+            raise Unsure(f"{path}: {why}")
         for event in recurring_ical_events.of(calendar).between(first, until):
             if str(event.get("STATUS", "")).upper() != "CANCELLED":
                 found.setdefault(who(event, person, path), []).append(days_of(event, path))
-    except (OSError, ValueError, KeyError, TypeError, AttributeError) as fault:
-        raise Unsure(f"{path}: {fault}") from None
+    except UNREAD as fault:
+        said = str(fault) or f"it is no calendar that is read ({type(fault).__name__})"
+        raise Unsure(f"{path}: {said}") from None
     return {name: merged(spans) for name, spans in found.items()}
 
 
@@ -165,14 +183,12 @@ def who(event: Any, person: str, path: str) -> str:
 
 def days_of(event: Any, path: str) -> Days:
     """The days of an event in UTC: each on which it is at least a moment."""
-    ends = [event["DTSTART"].dt, event["DTEND"].dt if "DTEND" in event else None]
-    if ends[1] is None:
-        raise Unsure(f"{path}: the event {str(event.get('SUMMARY', ''))!r} has no end")
+    ends = [event["DTSTART"].dt, event["DTEND"].dt]
     days = []
     for it, less in zip(ends, (timedelta(0), timedelta(seconds=1)), strict=True):
         if not isinstance(it, datetime):
             it = datetime(it.year, it.month, it.day, tzinfo=timezone.utc)
         if it.tzinfo is None:
-            raise Unsure(f"{path}: a time of {str(event.get('SUMMARY', ''))!r} has no zone")
+            raise Unsure(f"{path}: a time of {turns.title(event)} has no zone")
         days.append(as_days((it - less).astimezone(timezone.utc).date()))
     return Days(*days)

@@ -16,7 +16,8 @@ from urllib.parse import quote
 import pytest
 
 from desk_tools import people
-from desk_tools.directory import Ldap
+from desk_tools.directory import Ldap, Unsure, on_call
+from desk_tools.roster_text import Days
 from conftest import ROOT
 from running import until
 
@@ -84,6 +85,58 @@ DTEND:20260316T080000Z
 END:VEVENT
 END:VCALENDAR
 """
+# events of bob that are not sure, and what is said of each
+DAY, TIME = "DTSTART;VALUE=DATE:20260401", "DTSTART:20260401T120000Z"
+DAYS = f"{DAY}\nDTEND;VALUE=DATE:20260403\nRRULE:FREQ=WEEKLY"
+TIMES = f"{TIME}\nDTEND:20260403T120000Z\nRRULE:FREQ=WEEKLY"
+ONE = f"{TIME}\nDTEND:20260403T120000Z"
+UNSURE = (
+    (TIME, "the event 'bob' has no end"),
+    (DAY, "has no end"),
+    ("DTEND:20260403T120000Z", "has no start"),
+    (f"{TIME}\nDTEND:2026-04-03T120000Z", "has DTEND that is not read: .*2026-04-03T120000Z"),
+    (f"{ONE}\nDTEND:20260404T120000Z", "has more than one DTEND"),
+    (f"{ONE}\nDURATION:P1D", "has two ends"),
+    (f"{TIME}\nDTEND:20260401T120000Z", "has an end that is not after its start"),
+    (f"{TIME}\nDTEND:20260331T120000Z", "has an end that is not after its start"),
+    (f"{TIME}\nDURATION:-P1D", "has an end that is not after its start"),
+    (f"{DAY}\nDTEND;VALUE=DATE:20260401", "has an end that is not after its start"),
+    (f"{DAY}\nDURATION:PT12H", "has an end that is not after its start"),
+    (f"{DAY}\nDTEND:20260403T120000Z", "begins with a day, and ends with a time"),
+    (f"{TIME}\nDTEND:20260403T120000", "has a time that has no zone"),
+    ("DTSTART;TZID=No/Where:20260401T120000\nDURATION:P1D", "has a time that has no zone"),
+    (f"{DAYS};UNTIL=2026-12-31", "has RRULE that is not read: .*UNTIL=2026-12-31"),
+    (f"{DAYS};UNTIL20260410", "RRULE:FREQ=WEEKLY;UNTIL20260410 has not its form"),
+    (f"{DAYS};UNTIL=201231", "is a rule that is not read"),
+    (f"{DAYS};UNTIL=20260410;UNTIL=20261231", "is a rule that is not read"),
+    (f"{DAYS};UNTILL=20260410", "UNTILL|no calendar that is read"),
+    (f"{DAYS};INTERVAL=0", "is a rule that is not read"),
+    (f"{DAYS};COUNT=0", "is a rule that is not read"),
+    (f"{TIME}\nDURATION:PT1H\nRRULE:FREQ=SECONDLY", "is a rule that is not read"),
+    (f"{DAYS}\nRRULE:FREQ=DAILY", "multiple distinct RRULE"),
+    (f"{DAYS}\nEXRULE:FREQ=WEEKLY;INTERVAL=2", "has an EXRULE, which is not read"),
+    (f"{DAYS}\nEXDATE:20260408T000000Z", "begins with a day, and its EXDATE is a time"),
+    (f"{TIMES}\nEXDATE;VALUE=DATE:20260408", "begins with a time, and its EXDATE is a day"),
+    (f"{TIMES}\nEXDATE:20260408T120000", "and its EXDATE is a time without a zone"),
+    (f"{TIMES}\nRDATE;VALUE=DATE:20260501", "begins with a time, and its RDATE is a day"),
+    (f"{TIMES}\nEXDATE:20260408X120000Z", "EXDATE:20260408X120000Z has not its form"),
+    (f"{ONE}\nRECURRENCE-ID;RANGE=THISANDFUTURE:20260401T120000Z", "a RANGE, which is not read"),
+    (f"{TIMES}\nRECURRENCE-ID:20260401T120000Z", "has a RECURRENCE-ID, and also RRULE"),
+    (f"{ONE}\nRECURRENCE-ID:20260401T120000", "has a RECURRENCE-ID that has no zone"),
+    (f"{DAYS};UNTIL=20260410\nno line", "has a line that is not read"),
+)
+EVENT = """\
+BEGIN:VEVENT
+UID:{uid}@site
+DTSTAMP:20260101T000000Z
+SUMMARY:{who}
+{rest}
+END:VEVENT
+"""
+# a turn of bob's that carol takes, and then nobody
+SERIES = EVENT.format(uid=3, who="bob", rest=f"{TIMES};COUNT=2\nSEQUENCE:0")
+TURN = EVENT.format(uid=3, who="carol", rest=f"{ONE}\nRECURRENCE-ID:20260408T120000Z\nSEQUENCE:0")
+BERLIN = "DTSTART;TZID=Europe/Berlin:20260401T003000\nDURATION:PT8H\nRRULE:FREQ=WEEKLY;COUNT=2"
 
 
 class Directory:
@@ -299,6 +352,58 @@ def test_weeks_of_a_calendar(room: Room) -> None:
         (room.folder / "on-call.ics").write_text(text)
         ran = room.run(settings, "--write")
         assert ran.returncode == 2 and room.people() == found, ran
+
+
+def called(room: Room, *events: str) -> dict[str, list[Days]]:
+    """Who is on call by these events beside those of CALENDAR."""
+    text = CALENDAR.replace("END:VCALENDAR", f"{''.join(events)}END:VCALENDAR")
+    (room.folder / "on-call.ics").write_text(text)
+    return on_call(f"{room.folder}/on-call.ics", "summary", TODAY, 26)
+
+
+@pytest.mark.parametrize("rest, said", UNSURE, ids=[it[0].splitlines()[-1] for it in UNSURE])
+def test_an_event_that_is_not_sure(room: Room, rest: str, said: str) -> None:
+    with pytest.raises(Unsure, match=said):
+        called(room, EVENT.format(uid=3, who="bob", rest=rest))
+
+
+def test_events_that_are_sure(room: Room) -> None:
+    """All that a calendar may say of a turn, and that is read, counts as before."""
+    found = called(room, SERIES, TURN)
+    assert found["bob"] == [Days("20260401", "20260403")]
+    assert Days("20260330", "20260405") in found["carol"]
+    rest = f"{DAYS};COUNT=3;\nEXDATE;VALUE=DATE:20260408"
+    found = called(room, EVENT.format(uid=3, who="bob", rest=rest))
+    assert found["bob"] == [Days("20260401", "20260402"), Days("20260415", "20260416")]
+    rest = f"{TIME}\nDURATION:P1D\nRDATE:20260501T120000Z"
+    found = called(room, EVENT.format(uid=3, who="bob", rest=rest))
+    assert found["bob"] == [Days("20260401", "20260402"), Days("20260501", "20260502")]
+    found = called(room, EVENT.format(uid=3, who="bob", rest=BERLIN))
+    assert found["bob"] == [Days("20260331", "20260401"), Days("20260407", "20260408")]
+
+
+def test_events_that_do_not_fit_together(room: Room) -> None:
+    series = EVENT.format(uid=3, who="bob", rest=BERLIN)
+    rest = "DTSTART:20260501T120000Z\nDURATION:PT1H\nRECURRENCE-ID:20260407T223000Z"
+    with pytest.raises(Unsure, match="the event 'carol' has a RECURRENCE-ID in another zone"):
+        called(room, series, EVENT.format(uid=3, who="carol", rest=rest))
+    with pytest.raises(Unsure, match="two events have the UID 3@site"):
+        called(room, SERIES, SERIES.replace("bob", "carol"))
+
+
+def test_no_calendar_ends_it_with_a_traceback(room: Room) -> None:
+    settings = f'[duties.on-call]\ncalendar = "{room.folder}/on-call.ics"\n'
+    called(room)
+    texts = [
+        (CALENDAR.replace("VERSION:2.0", "CALSCALE:JULIAN"), "Only Gregorian calendars"),
+        (f"END:VEVENT\n{CALENDAR}", "pop from empty list"),
+        (CALENDAR.replace("DTEND:20260316T080000Z", "DURATION:P9999999D"), "out of range"),
+        (CALENDAR.replace("DTEND:20260316T080000Z", "DTEND:20260301T080000Z"), "not after"),
+        ("BEGIN:X\n" * 2000 + "END:X\n" * 2000, "recursion"),
+    ]
+    for text, said in texts:
+        (room.folder / "on-call.ics").write_text(text)
+        refused(room, settings, said)
 
 
 def test_the_grants_that_change(room: Room, directory: Directory, desk: str) -> None:
