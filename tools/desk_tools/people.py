@@ -2,13 +2,12 @@
 
 from __future__ import annotations
 
-import re
-import tomllib
 from collections.abc import Callable
 from typing import Any, NamedTuple
 
 from desk_tools import roster_faults
 from desk_tools.directory import Ldap, Unsure, machine_members, on_call, table_members
+from desk_tools.people_settings import is_name
 from desk_tools.roster_text import (
     CannotEdit,
     Days,
@@ -21,12 +20,6 @@ from desk_tools.roster_text import (
 from desk_tools.site import FIRST, LAST
 from desk_tools.toml_text import read as read_toml
 
-NAME = re.compile(r"[a-z_][a-z0-9._-]{0,31}")
-KEYWORDS = {"sudoedit", "sha224", "sha256", "sha384", "sha512"}
-DAY = re.compile(r"\d{8}")
-KEYS = {"ldap", "names", "ends", "duties"}
-SOURCES = ("ldap", "getent", "csv", "calendar")
-MORE = {"may_be_empty", "person", "weeks"}
 WEEKS = 26
 MANY = 3
 
@@ -41,31 +34,10 @@ class Moved(NamedTuple):
     said: str
 
 
-def settings(path: str) -> dict[str, Any]:
-    """The settings, each key of which is known."""
-    try:
-        with open(path, "rb") as file:
-            found = tomllib.load(file)
-    except tomllib.TOMLDecodeError as fault:
-        raise Unsure(f"{path}: {fault}") from None
-    odd = sorted(set(found) - KEYS)
-    for duty, source in found.get("duties", {}).items():
-        named = [it for it in SOURCES if it in source]
-        if len(named) != 1:
-            raise Unsure(f"{path}: duties.{duty}: one of {', '.join(SOURCES)} is expected")
-        odd += [f"duties.{duty}.{it}" for it in sorted(set(source) - {*SOURCES, *MORE})]
-    if odd:
-        raise Unsure(f"{path}: an unknown key: {', '.join(odd)}")
-    for name, day in found.get("ends", {}).items():
-        if not isinstance(day, str) or not DAY.fullmatch(day):
-            raise Unsure(f"{path}: ends.{name}: a day is yyyymmdd, between quotes")
-    return found
-
-
 def named(found: set[str], names: dict[str, str]) -> dict[str, str]:
     """Each name of a source with that of the roster; those that no roster takes are refused."""
     known = {it: names.get(it, it) for it in found}
-    bad = [it for it, name in known.items() if not NAME.fullmatch(name) or name in KEYWORDS]
+    bad = [it for it, name in known.items() if not is_name(name)]
     if bad:
         shown = ", ".join(repr(it) for it in sorted(bad))
         raise Unsure(f"no roster has such a name: {shown}; give each another in [names]")

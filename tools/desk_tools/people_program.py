@@ -9,7 +9,7 @@ import sys
 import tempfile
 import time
 
-from desk_tools import change, change_program, evidence, people, served
+from desk_tools import change, change_program, evidence, people, people_settings, served
 from desk_tools.change_program import visible_lines
 from desk_tools.directory import Unsure
 from desk_tools.found import Parser, visible
@@ -76,7 +76,8 @@ def followed(said: argparse.Namespace) -> int:
     today = said.on or time.strftime("%Y%m%d", time.gmtime())
     if said.write and is_served(said):
         raise Failed("the desk is served with this file: write a copy, and desk-change-roster it")
-    found = people.People(data, today, people.settings(said.people), said.many)
+    settings = people_settings.settings(said.people)
+    found = people.People(data, today, settings, said.many)
     new = found.look()
     if new.encode() == data:
         print("The roster has these people already.")

@@ -15,7 +15,7 @@ from urllib.parse import quote
 
 import pytest
 
-from desk_tools import people
+from desk_tools import people_settings
 from desk_tools.directory import Ldap, Unsure, on_call
 from desk_tools.roster_text import Days
 from conftest import ROOT
@@ -85,6 +85,34 @@ DTEND:20260316T080000Z
 END:VEVENT
 END:VCALENDAR
 """
+# settings that are surely wrong, and what is said of each
+GROUP, TURNS = '[duties.audit]\ngetent = "root"\n', '[duties.audit]\ncalendar = "x"\n'
+WRONG = (
+    ("duties = 3\n", "duties: a table is expected, below a line [duties]"),
+    ("[duties]\naudit = 3\n", "duties.audit: a table is expected, below a line [duties.audit]"),
+    ('names = "x"\n', "names: a table is expected"),
+    ('ends = ["x"]\n', "ends: a table is expected"),
+    ("ldap = true\n", "ldap: a table is expected"),
+    ('[ldap]\nurl = "ldapi:///"\nword = []\n', "an unknown key: ldap.word"),
+    ("[ldap]\nurl = 3\n", "ldap.url: a text is expected, between quotes"),
+    ('[ldap]\nname = ["uid"]\n', "ldap.name: a text is expected"),
+    ('[ldap]\nwords = "-x"\n', "ldap.words: a list of texts is expected"),
+    ("[ldap]\nwords = [1]\n", "ldap.words: a list of texts is expected"),
+    ("[names]\nx = 3\n", "names.x: a name that a roster can have is expected"),
+    ('[names]\nx = "Zoe M"\n', "names.x: a name that a roster can have is expected"),
+    ('[ends]\nlena = "20261399"\n', "ends.lena: a day is yyyymmdd"),
+    ("[duties.audit]\ncsv = 3\n", "duties.audit.csv: a text is expected"),
+    ('[duties.audit]\ngetent = ""\n', "duties.audit.getent: a text is expected"),
+    (f'{GROUP}may_be_empty = "false"\n', "may_be_empty: true or false is expected, without quo"),
+    (f"{GROUP}may_be_empty = 1\n", "duties.audit.may_be_empty: true or false is expected"),
+    (f"{GROUP}weeks = 3\n", "duties.audit.weeks: only a calendar has it"),
+    (f'{TURNS}person = "sumary"\n', 'duties.audit.person: "summary" or "attendee" is expected'),
+    (f"{TURNS}person = []\n", "duties.audit.person: "),
+    (f"{TURNS}weeks = 9999999999\n", "weeks: a whole number from 1 to 520 is expected"),
+    (f"{TURNS}weeks = 0\n", "duties.audit.weeks: a whole number"),
+    (f"{TURNS}weeks = true\n", "duties.audit.weeks: a whole number"),
+    (f'{TURNS}weeks = "8"\n', "weeks: a whole number from 1 to 520 is expected, without quotes"),
+)
 # events of bob that are not sure, and what is said of each
 DAY, TIME = "DTSTART;VALUE=DATE:20260401", "DTSTART:20260401T120000Z"
 DAYS = f"{DAY}\nDTEND;VALUE=DATE:20260403\nRRULE:FREQ=WEEKLY"
@@ -299,7 +327,8 @@ def test_the_settings_of_the_page() -> None:
     with open(os.path.join(ROOT, "docs", "PEOPLE.md"), encoding="utf-8") as file:
         (block,) = re.findall(r"^```toml\n(.*?)^```$", file.read(), re.MULTILINE | re.DOTALL)
     said = tomllib.loads(block)
-    assert {next(iter(it)) for it in said["duties"].values()} == set(people.SOURCES)
+    assert {next(iter(it)) for it in said["duties"].values()} == set(people_settings.SOURCES)
+    assert next(people_settings.wrong(said), None) is None
     Ldap(said["ldap"])
 
 
@@ -308,6 +337,28 @@ def test_settings_that_are_none(room: Room) -> None:
     refused(room, '[duties.audit]\nldpa = "x"\n', "duties.audit: one of ldap, getent, csv, cal")
     refused(room, '[duties.approve-db]\ncsv = "x"\nurl = "y"\n', "unknown key: duties.approve-")
     refused(room, '[ends]\nlena = 20260101\n', "ends.lena: a day is yyyymmdd, between quotes")
+
+    refused(room, "duties = 3\n", "duties: a table is expected")
+    refused(room, f"{TURNS}weeks = 9999999999\n", "duties.audit.weeks: a whole number from 1 to 5")
+
+
+@pytest.mark.parametrize("given, said", WRONG, ids=[it[0].splitlines()[-1] for it in WRONG])
+def test_a_setting_that_is_surely_wrong(tmp_path: Path, given: str, said: str) -> None:
+    (tmp_path / "people.toml").write_text(given)
+    with pytest.raises(Unsure, match=re.escape(said)):
+        people_settings.settings(str(tmp_path / "people.toml"))
+
+
+def test_an_end_goes_by_the_name_of_the_roster(room: Room) -> None:
+    """By a source's own name it would end nothing, or that of somebody else."""
+    (room.folder / "people.csv").write_text("person,duty\nZo\u00eb,approve-db\nkim.l,approve-db\n")
+    duty = f'[duties.approve-db]\ncsv = "{room.folder}/people.csv"\n'
+    names = f'{duty}[names]\n"Zo\u00eb" = "zoe"\n"kim.l" = "kim"\n[ends]\n'
+    refused(room, f'{names}"Zo\u00eb" = "20260331"\n', "ends.Zoë: .*write the .* roster has, zoe")
+    refused(room, f'{names}"kim.l" = "20260331"\n', "ends.kim.l: write the .* roster has, kim:")
+    refused(room, f'{duty}[ends]\n"Zo\u00eb" = "20260331"\n', "ends.Zoë: no roster has such a nam")
+    assert room.run(f'{names}zoe = "20260331"\n', "--write").returncode == 0
+    assert room.people()["zoe"] == [days("approve-db", TODAY, "20260331")]
 
 
 def test_groups_of_the_machine(room: Room) -> None:
