@@ -193,10 +193,13 @@ class RosterText:
         at = len(self.text) if line < 0 else line + 1
         new = {name: it for name, it in self.fresh.items() if name not in self.people}
         begin = "\n" if line < 0 else ""
+        lines = []
         for name, entries in new.items():
             key = name if BARE.fullmatch(name) else f'"{name}"'
-            yield Edit(at, at, f"{begin}{key} = [{', '.join(entries)}]\n")
-            begin = ""
+            lines.append(f"{key} = [{', '.join(entries)}]\n")
+        # (one edit for all: of several at one place the last would come first)
+        if lines:
+            yield Edit(at, at, begin + "".join(lines))
 
     def changed(self) -> str:
         """The text with all edits."""

@@ -80,6 +80,21 @@ def test_random_layouts() -> None:
         assert found.startswith(HEAD) and found.endswith(TAIL), (seed, found)
 
 
+def test_new_people_behind_a_line_without_an_end() -> None:
+    """In the order in which they are named, each on a line, whatever ends the text before."""
+    for end in ('ann = ["one"]', 'ann = ["one"] # ann', 'ann = ["one"]\n', ""):
+        text = HEAD + end
+        for names in (["zoe"], ["zoe", "kim.l", "bob"]):
+            edited = RosterText(text)
+            for name in names:
+                edited.hold(name, "two", TODAY, [Days(TODAY, LAST)])
+            found = edited.changed()
+            assert found.startswith(text.rstrip("\n") + "\n") and found.endswith("]\n"), found
+            fresh = tomllib.loads(found)["people"]
+            assert [it for it in fresh if it != "ann"] == names, found
+            assert all(days_of(found)[it, "two"] == [Days(TODAY, LAST)] for it in names), found
+
+
 def test_days() -> None:
     """The days of spans that are taken away, beside sets of days."""
     chance = random.Random(1)
