@@ -81,9 +81,12 @@ def agreed(said: argparse.Namespace, found: Compared) -> bool:
 
 
 def desk_of(said: argparse.Namespace) -> Desk:
-    found = program(said.desk)
+    found, settings = program(said.desk), served.settings(said.conf)
+    if settings.store == served.NO_STORE:
+        why = f"its roster needs no rebuild: write {settings.roster}, and restart {said.service}"
+        raise Failed(f"{said.conf}: the desk has no store, so {why}")
     return Desk(
-        settings=served.settings(said.conf),
+        settings=settings,
         service=said.service,
         rosters=said.rosters,
         desk=found,

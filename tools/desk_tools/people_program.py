@@ -54,6 +54,9 @@ def differing(name: str, old: str, new: str) -> str:
 def grants(said: argparse.Namespace, new: bytes) -> None:
     """Which grants change, where the desk's store is on this machine."""
     settings = served.settings(said.conf)
+    if settings.store == served.NO_STORE:
+        print("(the desk has no store: no grant outlasts a restart)")
+        return
     if not os.path.exists(settings.store):
         print(f"(there is no store {settings.store} here: which grants change is not known)")
         return

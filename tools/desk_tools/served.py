@@ -16,7 +16,8 @@ from typing import Any, NamedTuple
 from steelnewt_client.desk import BadAddress, Desk, Silent
 
 CONF = "/etc/desk/serve.conf"
-# what packaging/desk-serve takes where the file says nothing
+NO_STORE = "-"
+# what packaging/desk-serve takes where the file says nothing, or nothing behind the =
 DEFAULTS = {
     "ROSTER": "/etc/desk/roster.toml",
     "BASE": "/etc/desk/base.sudo",
@@ -54,11 +55,9 @@ def settings(path: str) -> Settings:
         name, equals, value = line.strip().partition("=")
         if equals and name in found:
             try:
-                found[name] = "".join(shlex.split(value)[:1])
+                found[name] = "".join(shlex.split(value)[:1]) or DEFAULTS[name]
             except ValueError as fault:
                 raise Failed(f"{path}: {name}: {fault}") from None
-    if found["STORE"] == "-":
-        raise Failed(f"{path}: the desk has no store, so its roster needs no rebuild")
     return Settings(*(found[name] for name in DEFAULTS))
 
 

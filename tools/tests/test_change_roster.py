@@ -4,6 +4,7 @@ from __future__ import annotations
 
 import hashlib
 import json
+import os
 import random
 import re
 import shutil
@@ -17,7 +18,8 @@ from typing import Any
 
 import pytest
 
-from desk_tools import changes
+from desk_tools import changes, served
+from conftest import ROOT
 from running import Running, until
 
 # a person is struck out, and another one joins
@@ -76,6 +78,26 @@ def test_the_store_syncs_as_it_is_served(running: Running, setting: str, says: s
     ran = running.change(running.new(WITH_KIM), "--yes")
     assert ran.returncode == 0, ran
     assert (running.folder / "rebuilt").read_text() == f"{says}\n"
+
+
+def test_settings_as_desk_serve_takes_them(tmp_path: Path) -> None:
+    """Nothing behind the = is the default, to desk-serve and here."""
+    with open(os.path.join(ROOT, "packaging", "desk-serve"), encoding="utf-8") as file:
+        taken = dict(re.findall(r"=\$\{([A-Z]+):-([^}$]+)\}$", file.read(), re.MULTILINE))
+    assert served.DEFAULTS.items() <= taken.items(), taken
+    conf = tmp_path / "serve.conf"
+    for end in ("", '""', "''", "  "):
+        conf.write_text("".join(f"{name}={end}\n" for name in served.DEFAULTS))
+        assert served.settings(str(conf)) == served.Settings(*served.DEFAULTS.values()), end
+
+
+def test_a_desk_without_a_store_is_left_alone(running: Running) -> None:
+    before = running.serves()
+    running.conf.write_text(f"{running.conf.read_text()}STORE=-\n")
+    ran = running.change(running.new(WITH_KIM), "--yes")
+    assert ran.returncode == 2 and ran.stderr.endswith(": all is as before\n"), ran
+    said = f"so its roster needs no rebuild: write {running.roster}, and restart desk"
+    assert said in ran.stderr and running.serves() == before and before is not None, ran
 
 
 def test_nobody_says_yes(running: Running) -> None:

@@ -457,6 +457,17 @@ def test_no_calendar_ends_it_with_a_traceback(room: Room) -> None:
         refused(room, settings, said)
 
 
+def test_a_desk_without_a_store(room: Room) -> None:
+    """STORE=- is what desk-serve takes: no grant is there to compare."""
+    (room.folder / "serve.conf").write_text(f"STORE=-\nROSTER={room.folder}/none\n")
+    (room.folder / "people.csv").write_text("person,duty\nbob,approve-db\nhana,approve-db\n")
+    settings = f'[duties.approve-db]\ncsv = "{room.folder}/people.csv"\n'
+    ran = room.run(settings)
+    assert ran.returncode == 1 and "(the desk has no store: " in ran.stdout, ran
+    ran = room.run(settings, "--write")
+    assert ran.returncode == 0 and "hana" in room.people(), ran
+
+
 def test_the_grants_that_change(room: Room, directory: Directory, desk: str) -> None:
     """Over the desk's store: who has left keeps what was granted, and what is not admitted ends."""
     served = room.folder / "served.toml"
