@@ -20,6 +20,8 @@ OF_ALL = ("S1", "S10", "S11")
 DEFINES = re.compile(r"(?:User|Runas|Host|Cmnd|Cmd)_Alias[ \t]")
 NAME = re.compile(r"(?:^|:)[ \t]*([A-Z][A-Z0-9_]*)[ \t]*=")
 PATH = re.compile(r"(?<![^\s,!:=)])/[^\s,:=]*")
+# (a # in a word begins none, nor does #1000 or #include: the desk refuses them)
+COMMENT = re.compile(r"(?:(?<=\s)|^)#(?![0-9]|include).*")
 CONTINUES = re.compile(rb"\\[ \t]*\Z")
 LATE = re.compile(r"[ \t]*\\[ \t]*")
 UNPREFIXED = (
@@ -132,7 +134,7 @@ class Base:
         so that lines that use it are no faults of their own."""
         while line > 1 and CONTINUES.search(lines[line - 2]):
             line -= 1
-        text = logical(lines, line)
+        text = COMMENT.sub("", logical(lines, line))
         kind = DEFINES.match(text.lstrip())
         last = line
         while last < len(lines) and CONTINUES.search(lines[last - 1]):
@@ -161,7 +163,7 @@ def logical(lines: list[bytes], line: int) -> str:
 def likeliest(code: str, text: str) -> tuple[str, str]:
     """The word of a line for which the desk likely refuses it, and what to do; nothing where none
     is likely."""
-    plain = re.sub(r"(?:(?<=\s)|^)#(?![-0-9]|include).*", "", text)
+    plain = COMMENT.sub("", text)
     for form, remedy in LIKELY.get(code, []):
         for found in re.finditer(form, plain):
             word = found.groupdict().get("word") or found[0]
@@ -174,18 +176,18 @@ def warnings_of(data: bytes) -> list[Warning]:
     """What is lawful in a base that the desk reads, and surely not meant."""
     lines, found = data.decode("ascii").split("\n"), []
     names: list[tuple[int, str]] = []
-    for number, line in enumerate(lines, 1):
+    for number, text in enumerate(lines, 1):
+        line = COMMENT.sub("", text)
         is_continued = number > 1 and lines[number - 2].endswith("\\")
         following = lines[number] if number < len(lines) else ""
         if LATE.fullmatch(line) and DEFINES.match(following.lstrip()):
             said = "sudo refuses an alias's definition that continues a line: begin a line with it"
             found.append(Warning(number, "continuation", "\\", said))
-        if not line.lstrip().startswith("#"):
-            found += [
-                Warning(number, "real-path", path, why)
-                for path in PATH.findall(line)
-                if (why := real_path(path))
-            ]
+        found += [
+            Warning(number, "real-path", path, why)
+            for path in PATH.findall(line)
+            if (why := real_path(path))
+        ]
         kind = DEFINES.match(line.lstrip())
         if kind or is_continued:
             rest = line.lstrip()[kind.end() :] if kind else line

@@ -427,6 +427,35 @@ def test_warnings_of_a_base(lint: Run, desk: str, tmp_path: Path) -> None:
     assert (said.returncode, said.stdout) == (0, "")
 
 
+COMMENTED = """\
+# User_Alias OLD = /bin/id
+User_Alias SITE_A = ann # was: OLD = /bin/id
+Host_Alias SITE_H = db1, \\
+  db2\t#: OLD = /bin/id
+SITE_A SITE_H = /usr/bin/id # was /bin/id
+SITE_A SITE_H = (root) /usr/bin/ls "", \\
+  /usr/bin/who #-1 was /bin/who
+"""
+
+
+def test_comments_of_a_base_are_no_text(lint: Run, desk: str, tmp_path: Path) -> None:
+    base = tmp_path / "b.sudo"
+    base.write_text(COMMENTED)
+    said = lint("--desk", desk, "--strict", str(base))
+    assert (said.returncode, said.stdout) == (0, "")
+    # (what stands before one is looked at, and what a comment names is defined nowhere)
+    base.write_text(f"{COMMENTED}ann ALL = /bin/id # x\n")
+    said = lint("--desk", desk, "--strict", str(base))
+    warned = re.findall(r":(\d+): warning: (\S+): ", said.stdout)
+    assert said.returncode == 1 and warned == [("8", "/bin/id")]
+    text = "User_Alias SITE_A = %x # : OLD = y\nOLD ALL = /usr/bin/id\n"
+    base.write_text(f"{text}ann ALL = /usr/bin/l* #-1 x\n")
+    said = lint("--desk", desk, "--json", str(base))
+    (found,) = json.loads(said.stdout)["files"]
+    faults = [(it["line"], it["value"]) for it in found["faults"]]
+    assert faults == [(1, "%x"), (2, "OLD"), (3, "/usr/bin/l*")]
+
+
 def test_no_byte_of_a_text_rules_a_terminal(lint: Run, desk: str, tmp_path: Path) -> None:
     texts = {"r.toml": '"\\e[2J\\u009b" x = 1\n\x9b = 2\n', "m.json": '{"\\u001b": "\x1b[2J"}\n', "b.sudo": "ann \x1b[2J = ALL\n"}
     for name, text in texts.items():
