@@ -88,9 +88,8 @@ def look_at_base(name: str, data: bytes, desk: str) -> Looked:
     return looked
 
 
-def look_at_messages(name: str, data: bytes, site: Site | None, today: str) -> Looked:
+def look_at_messages(name: str, data: bytes, grants: Grants | None) -> Looked:
     looked = Looked(name, "messages")
-    grants = Grants(site, today) if site is not None else None
     lines = message_faults.lines_of(data)
     looked.count = len(lines)
     if len(lines) > 1 and (folded := message_faults.folded(data)) is not None:
@@ -100,16 +99,14 @@ def look_at_messages(name: str, data: bytes, site: Site | None, today: str) -> L
     for line, body in enumerate(lines, 1):
         message = message_faults.Message(body, line)
         faults = message.look()
-        if site is not None and not faults:
-            faults = admission.Admission(site, message.value, line).look()
         if grants is not None and not faults:
-            grants.add(line, message.value)
+            faults = admission.Admission(grants.site, message.value, line).look()
+        if grants is not None and not faults:
+            grants.add(name, line, message.value)
         code = first_code(faults)
         if code is not None:
             looked.answers[line] = code
         looked.faults += sorted(faults)
-    if grants is not None:
-        looked.warnings = grants.warnings()
     return looked
 
 
@@ -160,7 +157,8 @@ def status(looked: list[Looked], is_strict: bool) -> int:
 
 def lint(said: argparse.Namespace) -> int:
     today = said.on or datetime.now(timezone.utc).strftime("%Y%m%d")
-    site = site_of(said.roster) if said.roster else None
+    # (one for all files: a grant's request and its verdicts may stand in several)
+    grants = Grants(site_of(said.roster), today) if said.roster else None
     looked = []
     for name in said.files:
         data = read(name)
@@ -170,7 +168,10 @@ def lint(said: argparse.Namespace) -> int:
         elif kind == "roster":
             looked.append(look_at_roster(name, data, today))
         else:
-            looked.append(look_at_messages(name, data, site, today))
+            looked.append(look_at_messages(name, data, grants))
+    for it in looked:
+        if grants is not None and it.kind == "messages":
+            it.warnings = grants.warnings(it.name)
     if said.json:
         told = json.dumps({"files": [it.as_data() for it in looked]}, indent=2)
         # (JSON may have this one byte as it stands)

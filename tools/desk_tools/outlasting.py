@@ -26,28 +26,29 @@ def before(moment: str) -> str:
 
 
 class Grants:
-    """The requests and verdicts that a roster admits, in whatever order they come."""
+    """The requests and verdicts that a roster admits, in whatever files and order they come."""
 
     def __init__(self, site: Site, today: str) -> None:
         self.site, self.today = site, today
-        self.requests: dict[tuple[str, int], tuple[int, Value]] = {}
+        self.requests: dict[tuple[str, int], tuple[str, int, Value]] = {}
         self.disputed: set[tuple[str, int]] = set()
         self.verdicts: dict[tuple[str, int], list[Value]] = {}
 
-    def add(self, line: int, value: Value) -> None:
+    def add(self, file: str, line: int, value: Value) -> None:
         if value["kind"] != "request":
             self.verdicts.setdefault((value["of"], value["no"]), []).append(value)
             return
         name = value["by"], value["no"]
         if name not in self.requests:
-            self.requests[name] = line, value
-        elif canonical(self.requests[name][1]) != canonical(value):
+            self.requests[name] = file, line, value
+        elif canonical(self.requests[name][2]) != canonical(value):
             self.disputed.add(name)
 
-    def warnings(self) -> list[Warning]:
+    def warnings(self, file: str) -> list[Warning]:
+        """Of the requests that stand in a file, by the verdicts of all."""
         found = []
-        for name, (line, value) in self.requests.items():
-            said = None if name in self.disputed else self.outlasts(value)
+        for name, (where, line, value) in self.requests.items():
+            said = None if name in self.disputed or where != file else self.outlasts(value)
             if said:
                 found.append(Warning(line, "outlasts", f"{value['by']} {value['no']}", said))
         return sorted(found)

@@ -85,6 +85,32 @@ def test_what_is_said(lint: Run, tmp_path: Path) -> None:
 
 
 @pytest.mark.parametrize(
+    "files, lines",
+    [
+        ([[asked()], [YES]], ["0:1"]),
+        ([[YES], [asked("ben"), asked()]], ["1:2"]),
+        ([[asked()], [YES], [said("revoke", "ann", "20260110000000Z")]], []),
+        ([[asked(), YES], [said("revoke", "eve", "20260108000000Z")]], []),
+        ([[asked(), YES], [asked(until="20260115120001Z")]], []),
+        ([[asked(), YES], [asked(), YES]], ["0:1"]),
+    ],
+)
+def test_messages_in_several_files(
+    lint: Run, tmp_path: Path, files: list[list[dict[str, Any]]], lines: list[str]
+) -> None:
+    """A request, its approval and its revocation count together, wherever they stand."""
+    (tmp_path / "r.toml").write_text(ROSTER.replace("NEEDS", "1"))
+    names = [str(tmp_path / f"{number}.messages") for number in range(len(files))]
+    for name, messages in zip(names, files, strict=True):
+        Path(name).write_text("".join(f"{canonical(it)}\n" for it in messages))
+    ran = lint("--on", ON, "--strict", "--roster", str(tmp_path / "r.toml"), *names)
+    assert re.findall(r"/(\d)\.messages:(\d+): warning: ", ran.stdout) == [
+        tuple(it.split(":")) for it in lines
+    ]
+    assert ran.returncode == (1 if lines else 0) and not ran.stderr, ran
+
+
+@pytest.mark.parametrize(
     "messages",
     [
         [asked()],
