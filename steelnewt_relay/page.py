@@ -51,6 +51,12 @@ FRONT_HEADER = "X-Desk-Front"
 HOST = re.compile(r"([A-Za-z0-9._-]*|\[[0-9A-Fa-f:.]+\])(:[0-9]{0,5})?")
 TOKEN_HOURS = 12
 MOST_CARDS = 50
+# What stays of an address in that of another page. (Flask takes other names for words of its own.)
+KEPT_NAMES = ("all", "mine", "waiting", "objected", "who", "on", "page")
+# The one form that the page's forms have. (Of others Werkzeug takes a codec's name from whoever
+# sends them, and fails where there is none.)
+FORM = re.compile(r"(application/x-www-form-urlencoded( *; *charset=utf-8)?)?", re.IGNORECASE)
+NO_HOST = "The request names no host that a page can have.\n"
 NOBODY = (
     "The front does not say who you are: it takes a person's certificate, or a sign-on by a name"
     " that a roster can have."
@@ -185,8 +191,9 @@ class Cards:
 
     def link(self, page: int) -> str:
         """Where another page of them is."""
-        words: dict[str, Any] = flask.request.args.to_dict() | {self.name: page}
-        words.pop("sent", None)
+        args = flask.request.args
+        words: dict[str, Any] = {it: args[it] for it in KEPT_NAMES if it in args}
+        words[self.name] = page
         return flask.url_for(str(flask.request.endpoint), _anchor=self.name, **words)
 
 
@@ -213,15 +220,19 @@ def create_app(config: Config) -> flask.Flask:
     server = Server(config, tokens, Shared(), Seen())
 
     @app.before_request
-    def begin() -> None:
+    def begin() -> flask.Response | None:
         if not HOST.fullmatch(flask.request.headers.get("Host", "")):
-            flask.abort(400, "The request names no host that a page can have.")
+            # (no page: its links would need a host)
+            return flask.Response(NO_HOST, 400, mimetype="text/plain")
         person = caller(secret)
+        if not FORM.fullmatch(flask.request.headers.get("Content-Type", "")):
+            flask.abort(415, "The form is not from this page. Begin again.")
         if flask.request.endpoint != "static":
             flask.g.visit = visit = Visit(server, person)
             if person not in visit.roster.people:
                 # (whoever can sign on at the site sees nothing here for that alone)
                 flask.abort(403, f"The roster has nobody whose name is {person}.")
+        return None
 
     @app.teardown_request
     def end(_: BaseException | None) -> None:

@@ -5,6 +5,7 @@ import contextlib
 import io
 import os
 import random
+import re
 import socket
 import string
 import subprocess
@@ -177,6 +178,65 @@ def test_forms_of_any_kind(config: Config) -> None:
         assert status in (200, 303, 308, 400, 403, 404, 405, 413, 415), (number, status, told)
         if status == 200 and 'name="token"' in told:
             good = [token(told), *good[:5]]
+
+
+# Names that are words of Flask's own, or of Python's.
+NAMES = ["endpoint", "self", "_anchor", "_method", "_scheme", "_external", "values", "filename"]
+# Parts of a form, each with the name of a codec that is none, or with bytes that are none of it.
+PARTS = [
+    b'Content-Disposition: form-data; name="token"\r\nContent-Type: text/plain; charset=nothing',
+    b'Content-Disposition: form-data; name="token"\r\nContent-Type: text/plain; charset=hex',
+    b"Content-Disposition: form-data; name*=nothing''x",
+    b"Content-Disposition: form-data; name=x; filename*=hex''x",
+]
+KINDS = [
+    "multipart/form-data; boundary=", "multipart/form-data; boundary*=nothing''a",
+    "multipart/form-data; boundary*=hex''a", "text/x; charset*=utf-8''%ff",
+    "application/x-www-form-urlencoded; charset*=nothing''%ff",
+]
+
+
+def test_names_of_any_kind_in_an_address(config: Config) -> None:
+    """Also where there are links to more pages, which keep what the page knows."""
+    commands = [f"/usr/bin/x{it}" for it in range(60)]
+    with contextlib.closing(config.open_outbox()) as kept:
+        for each in commands:
+            wish, at = replace(WISH, commands=(each,)), stamp(now())
+            kept.answered(kept.keep_request("ann", wish, at).id, "acked", "")
+    client = create_app(config).test_client(use_cookies=False)
+    own = {"X-Desk-Front": SECRET, "X-Desk-Person": "ann"}
+    for path in ("/", "/history"):
+        for name in NAMES:
+            reply = client.get(f"{path}?{name}=POST&all=1&on=db1", headers=own)
+            told = reply.get_data(as_text=True)
+            assert reply.status_code == 200, (path, name, told)
+            links = re.findall('href="([^"]*)">The next', told)
+            assert links and all("all=1&amp;on=db1&amp;" in it for it in links), (name, links)
+            assert not any(name in it for it in links), (name, links)
+
+
+def test_forms_of_other_kinds(config: Config) -> None:
+    client = create_app(config).test_client(use_cookies=False)
+    own = {"X-Desk-Front": SECRET, "X-Desk-Person": "ann"}
+    sent = [("multipart/form-data; boundary=B", b"--B\r\n" + it + b"\r\n\r\nx\r\n--B--\r\n")
+            for it in PARTS]
+    for kind, data in [*sent, *((it, b"token=x") for it in KINDS)]:
+        for path in ("/ask", "/send"):
+            reply = client.post(path, data=data, headers=own | {"Content-Type": kind})
+            assert reply.status_code == 415, (kind, data, reply.get_data(as_text=True))
+    for more in ("", ";charset=UTF-8"):
+        kind = f"application/x-www-form-urlencoded{more}"
+        reply = client.post("/ask", data=b"token=x", headers=own | {"Content-Type": kind})
+        assert reply.status_code == 400, kind
+
+
+def test_a_host_of_other_letters(config: Config, quiet_site: Site) -> None:
+    quiet_site.start_page()
+    own = {"X-Desk-Front": SECRET, "X-Desk-Person": "ann"}
+    for host in ("xn--\xff", "\xff", "a..\xe9", "["):
+        status, told = quiet_site.ask_page("/", own | {"Host": host})
+        assert (status, "no host" in told) == (400, True), (host, status, told)
+    assert "Traceback" not in (quiet_site.folder / "page.log").read_text()
 
 
 def test_requests_of_any_bytes(config: Config, quiet_site: Site) -> None:
