@@ -92,7 +92,8 @@ def key_in(path: str) -> tuple[str, str]:
 
 
 class Keys:
-    """The file of keys in its folder, which is held open: nobody puts another in its place."""
+    """The file of keys in its folder, which is held open. Only root, and what runs as desk-relay
+    outside the relay's units, could put another folder in its place before."""
 
     def __init__(self, path: str) -> None:
         self.path = path

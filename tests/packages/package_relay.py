@@ -21,6 +21,10 @@ NOTIFY = """
 [notify]
 program = ["/usr/bin/tee", "-a", "/var/lib/desk-relay/told"]
 """
+# What somebody would do who has the page: their own key, in a folder of theirs.
+TAKE = f"""cd {FOLDER} && touch probe && rm probe && echo it may write here
+mv .ssh taken && mkdir .ssh && echo ssh-ed25519 AAAA > .ssh/authorized_keys
+echo ssh-ed25519 AAAA >> .ssh/authorized_keys"""
 PATIENCE = 180  # seconds: the machine may be busy
 
 
@@ -64,11 +68,24 @@ def installed(trial: "Trial") -> None:
         trial.check(f"the example {name}", f"{name}\n" in mime, mime)
 
 
+def keys_stay(trial: "Trial", name: str) -> None:
+    """Whatever runs in a unit lets nobody call: it puts no folder in the place of root's, and adds
+    nothing to that."""
+    before = trial.read(KEYS)
+    taking = service.start(trial.root, name, before=["sh", "-c", TAKE])
+    said = taking.communicate(timeout=PATIENCE)[0]
+    is_kept = trial.read(KEYS) == before and not os.path.exists(trial.path(f"{FOLDER}/taken"))
+    is_refused = "Device or resource busy" in said and "it may write here" in said
+    trial.check(f"{name}: the keys stay", is_kept and is_refused, said)
+
+
 def used(trial: "Trial") -> None:
     """Its units beside a desk that serves: asked, told, approved, seen on the page."""
+    units = [f"desk-relay-{it}.service" for it in ("post", "notify", "page")]
+    for each in units:
+        keys_stay(trial, each)
     folders = service.make_runtime(trial.root, "desk-relay-page.service")
     trial.write("/etc/desk/relay.toml", trial.read("/etc/desk/relay.toml") + NOTIFY)
-    units = [f"desk-relay-{it}.service" for it in ("post", "notify", "page")]
     running = [service.start(trial.root, it) for it in units]
     try:
         until = time.monotonic() + PATIENCE

@@ -109,6 +109,13 @@ def remove(made: list[str]) -> None:
         shutil.rmtree(path)
 
 
+def read_only(value: str) -> str:
+    """What mounts a path of ReadOnlyPaths over itself, where one with a - before it is there."""
+    path = value.removeprefix("-")
+    mount = f"mount --bind {path} {path} && mount -o remount,bind,ro {path}"
+    return f"{{ [ ! -e {path} ] || {{ {mount}; }}; }} && " if path != value else f"{mount} && "
+
+
 def start(
     root: str,
     name: str,
@@ -128,6 +135,7 @@ def start(
         *settings.get("ReadWritePaths", []),
     ]
     mounts = "".join(f"mount --rbind {each} {each} && " for each in writable)
+    mounts += "".join(read_only(each) for each in settings.get("ReadOnlyPaths", []))
     bare = "mount -o remount,bind,ro / && mount -t tmpfs tmpfs /tmp && cd / && "
     groups = settings.get("SupplementaryGroups", [])
     drop = f"exec setpriv --reuid {user_of(settings)} --regid {group_of(settings)}"
