@@ -15,6 +15,7 @@ from steelnewt_relay.roster import Roster
 KEYS = {"desk", "relay", "roster", "outbox", "zone", "numbers", "auditors"}
 KEYS |= {"tls", "page", "why", "notify"}
 NOTIFY_KEYS = {"program", "seconds", "link"}
+MOST_SECONDS = 600  # that a program may take to tell: the unit's stop waits longer
 PAGE_KEYS = {"listen", "secret", "signing_key"}
 TLS_KEYS = {"certificate", "key", "ca", "reader_certificate", "reader_key"}
 
@@ -48,8 +49,8 @@ def notify_of(table: dict[str, object]) -> Notify:
     words = [it for it in program if isinstance(it, str)] if isinstance(program, list) else []
     if not words or words != program or not words[0].startswith("/"):
         raise ValueError("[notify] program is a list: a program's whole path, and its arguments")
-    if not isinstance(seconds, int | float) or not 1 <= seconds <= 600:
-        raise ValueError("[notify] seconds is a number from 1 to 600")
+    if not isinstance(seconds, int | float) or not 1 <= seconds <= MOST_SECONDS:
+        raise ValueError(f"[notify] seconds is a number from 1 to {MOST_SECONDS}")
     if not isinstance(link, str) or not link.isprintable():
         raise ValueError("[notify] link is no text of one line")
     return Notify(words, seconds, link)
@@ -112,7 +113,7 @@ class Config:
 
 
 def key_of(path: str) -> str:
-    """A key from its file, which is nobody else's to read."""
+    """A key from its file, which its owner and their group alone may read or write."""
     try:
         with open(path, encoding="ascii") as file:
             key, mode = file.read().strip(), os.fstat(file.fileno()).st_mode

@@ -24,7 +24,7 @@ from relays.tests.site import ROOT, Site
 from relays.tests.test_fuzz import answer
 from relays.tests.test_outbox import AT, WISH
 from steelnewt_client.moments import now, of_stamp
-from steelnewt_relay.config import read_config
+from steelnewt_relay.config import MOST_SECONDS, read_config
 from steelnewt_relay.events import Event, Finder
 from steelnewt_relay.notices import Notices, look, run
 from steelnewt_relay.outbox import Outbox
@@ -229,6 +229,24 @@ def test_killed_between(quiet_site: Site) -> None:
     found = [json.loads(line)["id"] for line in told.read_text().splitlines()]
     print(f"{kills} kills: {len(found) - len(ids)} of {len(ids)} events were told again")
     assert set(found) == ids and len(found) <= len(ids) + kills
+
+
+def test_a_stop_waits_for_the_program(quiet_site: Site) -> None:
+    """As the unit stops it: the relay alone is told, and waited for longer than a program may take;
+    then nobody is told twice."""
+    lines = (ROOT / "packaging/units/desk-relay-notify.service").read_text().splitlines()
+    assert "KillMode=mixed" in lines
+    (waits,) = [int(it.removeprefix("TimeoutStopSec=")) for it in lines if "TimeoutStopSec" in it]
+    assert waits > MOST_SECONDS
+    site, slow = quiet_site, "echo begun >> begun; sleep 2; cat >> told"
+    settings(site, "/bin/sh", "-c", f"cd {site.folder}; {slow}")
+    recorded(site, 1)
+    job = site.start("notify", "--every", "0.2")
+    wait_for((site.folder / "begun").exists)
+    job.terminate()
+    assert job.wait(timeout=60) == 0
+    assert len((site.folder / "told").read_text().splitlines()) == 1
+    assert due(site) == 0
 
 
 def test_a_program_that_fails_or_hangs(quiet_site: Site) -> None:
