@@ -5,7 +5,8 @@
 asks each desk for every host's file, for the verdicts that wait, and for the report at each
 moment, and compares the digests. A URL is http://HOST:PORT, or unix:/PATH for the desk's socket.
 Messages that are still in a desk's queue make it differ: it is asked again until all agree, or the
-patience is over. Status 0: they agree; 1: they differ; 2: one did not answer.
+patience is over. Status 0: they agree; 1: they differ; 2: one did not answer, or the roster
+cannot be read here (it has to be TOML 1.0).
 
     desk-compare messages NAME=FILE NAME=FILE.. [--since NAME=FILE..] [--lacking NAME]
 
@@ -29,6 +30,16 @@ from steelnewt_client.desk import BadAddress, Desk, Silent
 SHOWN = 5  # so many of the messages that a desk lacks are shown
 ANSWERS_IN = 60.0  # seconds
 Digests = dict[str, str]
+
+
+MEND = (
+    "See what desk-lint says of it; if the desks take it, write each inline table on one line, and"
+    " use no other word of TOML 1.1"
+)
+
+
+class BadRoster(Exception):
+    """The roster cannot be read here; the text says what to do."""
 
 
 class NoAnswer(Exception):
@@ -67,10 +78,25 @@ def ask(urls: list[str], targets: list[str], patience: float) -> dict[str, Diges
         wait = min(5.0, wait * 2)
 
 
+def hosts_of(path: str) -> list[str]:
+    """The hosts of a roster. (A desk reads TOML 1.1, and Python TOML 1.0.)"""
+    try:
+        with open(path, "rb") as file:
+            hosts = tomllib.load(file)["hosts"]
+        return sorted({str(it) for it in hosts})
+    except OSError as error:
+        raise BadRoster(f"cannot read {path}: {error.strerror}") from error
+    except (ValueError, KeyError, TypeError, AttributeError) as error:
+        raise BadRoster(f"cannot read {path}: {error!r}. {MEND}") from error
+
+
 def compare_answers(words: argparse.Namespace) -> int:
-    with open(words.roster, "rb") as file:
-        hosts = tomllib.load(file)["hosts"]
-    targets = [f"/v1/hosts/{host}/sudoers" for host in sorted(set(hosts))]
+    try:
+        hosts = hosts_of(words.roster)
+    except BadRoster as error:
+        print(error)
+        return 2
+    targets = [f"/v1/hosts/{host}/sudoers" for host in hosts]
     targets += ["/v1/parked", *(f"/v1/reviews/{moment}" for moment in words.at)]
     try:
         found = ask(words.urls, targets, words.patience)

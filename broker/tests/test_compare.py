@@ -88,6 +88,24 @@ def test_a_desk_that_does_not_answer(roster: str, tmp_path: Path) -> None:
     assert compare("answers", str(roster_of_nine), Answers().url, Answers().url)[0] == 2
 
 
+NONE = [
+    'hosts = ["h1"]\n[people]\nann = [{ duty = "a",\n  from = "20260101", until = "20260201" }]\n',
+    "hosts = 7\n", "", "hosts = [\n", "\xff",
+]
+
+
+@pytest.mark.parametrize("text", NONE)
+def test_a_roster_that_python_cannot_read(tmp_path: Path, text: str) -> None:
+    """The first is TOML 1.1, which the desk takes."""
+    path = tmp_path / "roster.toml"
+    path.write_bytes(text.encode("latin-1"))
+    status, said = compare("answers", str(path), "http://127.0.0.1:1", "http://127.0.0.1:1")
+    assert (status, len(said.splitlines())) == (2, 1), said
+    assert said.startswith(f"cannot read {path}: ") and "on one line" in said
+    status, said = compare("answers", f"{path}.none", "http://127.0.0.1:1")
+    assert (status, said) == (2, f"cannot read {path}.none: No such file or directory\n")
+
+
 def listing(folder: Path, name: str, *bodies: str) -> str:
     (folder / name).write_text("".join(body + "\n" for body in bodies))
     return f"{name}={folder / name}"
