@@ -16,7 +16,7 @@
 #   front-ca.sh DIR list                     the certificates that hold: end, serial, subject
 #
 # A new crl.pem counts from the moment on at which the front has it: copy it there, and restart the
-# front. If there is a program DIR/publish, each new crl.pem ends with a run of it.
+# front. If there is a program DIR/publish, each new crl.pem after the first ends with a run of it.
 #
 # DAYS in the environment is how long a certificate holds (365), or FROM and UNTIL are its dates,
 # yyyymmddhhmmssZ.

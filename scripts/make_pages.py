@@ -1,8 +1,9 @@
 #!/usr/bin/env python3
 """Makes the manual pages and the completions of both shells, in the folder that is named.
 
-desk(1) and the completions are made of packaging/commands.toml, the other pages of docs/: no fact
-stands twice. PREFIX in the environment is where the program is installed (/usr/local).
+desk(1), the pages of some tools and the completions are made of packaging/commands.toml,
+desk-relay.toml(5) of relays/relay.example.toml, the other pages of docs/: no fact stands twice.
+PREFIX in the environment is where the program is installed (/usr/local).
 """
 
 import os

@@ -1,8 +1,9 @@
 #!/usr/bin/env bash
 # The whole gate: what can be seen without a proof; `rt ci`; and then, over the program that it
 # left, the demo, the cases, sudo beside the desk, the desk served over loopback, its file beside
-# sqlite3, each request for memory refused, the relays and tools, hosts with their sudo, and several
-# desks behind a broker. The types of the relays, the broker's programs and the tools come before.
+# sqlite3, each request for memory refused, the short soak, the types of the Python beside the desk,
+# the relays and tools, hosts with their sudo, the pages and documents, the fronts, the packages,
+# and several desks behind a broker.
 # With WHOLE=1 a part that cannot run here fails; without it, it is left out and named. At the end
 # each part that failed is named again, with its last lines. The last line is 'N passed, M failed'.
 set -euo pipefail

@@ -63,7 +63,8 @@ start() {
     esac
 }
 
-# Two at once take 9.5 GB of memory, so with less than this they are built one after the other.
+# Two at once take 9.5 GB of memory: with less than 16 GiB that is free, which leaves room for what
+# else the machine does, they are built one after the other.
 enough_for_two=$((16 * 1024 * 1024))
 available=$(awk '$1 == "MemAvailable:" { print $2 }' /proc/meminfo)
 

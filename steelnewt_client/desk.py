@@ -20,7 +20,7 @@ from steelnewt_client.told import Grant, Name, Told, read_names
 
 CONNECTS_IN = 5.0  # seconds
 # seconds without a byte of a reply (a connection may wait for others, which the desk serves one
-# after the other)
+# after the other); for a post without TLS, all seconds from its beginning on
 ANSWERS_IN = 20.0
 # connections to a front that wait for the next request
 MOST_IDLE = 10
