@@ -25,6 +25,9 @@ NOTHING = "^$"
 # A message that ends its consumer each time leaves the queue after so many deliveries. A good one
 # stays through as many ends of a consumer whose desk is down: keep this large.
 MOST_DELIVERIES = 100
+# A look at what was refused is a delivery too. RabbitMQ 4 drops a message after 20 where no policy
+# says more; 3.10 takes no -1, which would be without limit.
+MOST_LOOKS = 1_000_000_000
 Json = dict[str, object]
 
 
@@ -65,6 +68,14 @@ def policy(desks: list[str]) -> Json:
     }
 
 
+def policy_of_refused() -> Json:
+    """What was refused stays until somebody takes it, however often it is looked at."""
+    return {
+        "vhost": VHOST, "name": "refused", "pattern": f"^{names.REFUSED}$".replace(".", r"\."),
+        "apply-to": "queues", "priority": 1, "definition": {"delivery-limit": MOST_LOOKS},
+    }
+
+
 def topology(desks: list[str]) -> Json:
     """Every message goes to the queue of every desk; what is refused goes to one queue."""
     queues = [names.queue(desk) for desk in desks]
@@ -76,7 +87,7 @@ def topology(desks: list[str]) -> Json:
             *(binding(names.MESSAGES, name) for name in queues),
             binding(names.REFUSED, names.REFUSED),
         ],
-        "policies": [policy(desks)],
+        "policies": [policy(desks), policy_of_refused()],
     }
 
 

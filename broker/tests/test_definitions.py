@@ -35,13 +35,21 @@ def test_every_queue_is_replicated_and_bound() -> None:
 
 def test_what_leaves_a_desks_queue_goes_to_the_refused_ones() -> None:
     made: dict[str, Any] = definitions.topology(["a", "b"])
-    [policy] = made["policies"]
+    [policy] = [it for it in made["policies"] if it["name"] == "desks"]
     covered = [name for name in (*OWN, "desk.c", "deskxa") if re.search(policy["pattern"], name)]
     assert covered == ["desk.a", "desk.b"]
     assert policy["definition"]["dead-letter-exchange"] == names.REFUSED
     assert policy["definition"]["dead-letter-strategy"] == "at-least-once"
     # (fewer would put by what a desk that is down cannot take)
     assert 100 <= policy["definition"]["delivery-limit"] <= 1_000
+
+
+def test_each_queue_has_one_policy() -> None:
+    """(without one RabbitMQ 4 drops a message after 20 deliveries, and of two only one counts)"""
+    made: dict[str, Any] = definitions.topology(["a", "b"])
+    for queue in made["queues"]:
+        found = [it for it in made["policies"] if re.search(it["pattern"], queue["name"])]
+        assert [it["priority"] > 0 for it in found] == [True], queue["name"]
 
 
 def may(granted: list[dict[str, Any]], user: str, right: str, name: str) -> bool:
