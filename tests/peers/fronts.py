@@ -608,12 +608,36 @@ def under_nginx(folder: str) -> list[tuple[int, int]]:
         return [*parts, outsiders(folder, port, server)]
 
 
+def passed_on(folder: str, port: int, recorder: front.Recorder) -> tuple[int, int]:
+    """Of a request's fields the desk hears Host, and those alone that say where it ends."""
+    extra = b"X-Desk-Person: bob\r\nCookie: a=b\r\nHost2: x\r\nExpect: 100-continue\r\n"
+    extra += b"X-Content-Length: 7\r\nContent-Length-X: 7\r\nAuthorization: Basic YQ==\r\n"
+    route = "/v1/relays/chat/messages"
+    given = request("POST", route, desk.approval().encode(), extra)
+    reply = front.exchange(front.context(folder, "relay-chat"), port, given)
+    until = time.monotonic() + 60
+    while not recorder.requests and time.monotonic() < until:
+        time.sleep(0.05)
+    head = b"".join(recorder.requests).partition(b"\r\n\r\n")[0].decode("latin-1")
+    names = sorted(it.partition(":")[0].lower() for it in head.split("\r\n")[1:])
+    is_right = b"HTTP/1.1 200 " in reply and set(names) <= {"connection", "content-length", "host"}
+    if not is_right or "content-length" not in names:
+        print(f"what haproxy passes on: {reply[:300]!r} {head}")
+        return 1, 1
+    return 1, 0
+
+
 def under_haproxy(folder: str) -> list[tuple[int, int]]:
     port = free_port()
+    with served(folder) as server:
+        recorder = front.Recorder(server.address, os.path.join(folder, "haproxy.sock"))
+        with front.front(front.haproxy_words(folder, port, recorder.address), port):
+            fields = passed_on(folder, port, recorder)
     with served(folder) as server, front.front(
         front.haproxy_words(folder, port, server.address), port
     ):
         return [
+            fields,
             ask_routes(folder, port),
             slow_body(folder, port),
             outsiders(folder, port, server),
