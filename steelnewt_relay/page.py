@@ -261,8 +261,8 @@ def create_app(config: Config) -> flask.Flask:
         return Markup(parts.card(standing, config.zone, roster, day, *words))
 
     def card(standing: Standing, visit: Visit, is_open: bool = False, kinds: Any = ()) -> Markup:
-        """A request's card, with buttons (`again` is whose it is). Who may approve it depends on the day; all else on what is given, so
-        one that was made is shown again."""
+        """A request's card, with buttons (`again` is whose it is). Who may approve it depends on
+        the day; all else on what is given, so one that was made is shown again."""
         day = visit.now.replace(hour=0, minute=0, second=0)
         return made(standing, visit.roster, day, is_open, kinds)
 
