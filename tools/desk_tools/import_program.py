@@ -13,7 +13,11 @@ from desk_tools.machine import hosts_of
 from desk_tools.sudoers import read
 
 KEPT, LEFT_OUT, FAILED = 0, 1, 2
-MOST_ENTRIES = 4096
+# what a desk's base has at most (K6)
+MOST_ENTRIES, MOST_WEIGHT, MOST_BYTES = 4096, 65536, 1 << 20
+RULES, LISTS = "write aliases and directories in place of many rules", "make lists shorter"
+# what `desk check` says of a text over the limits of any policy
+TOO_LARGE = "S10 "
 
 
 class Failed(Exception):
@@ -39,6 +43,10 @@ def checked(desk: str, text: str) -> str:
         file.write(text)
         file.flush()
         ran = subprocess.run([desk, "check", file.name], capture_output=True, text=True, check=False)
+    if ran.stderr.startswith(TOO_LARGE):
+        raise Failed(
+            "what was made is over the limits of a policy (S10): make fewer rules and shorter lists"
+        )
     if ran.returncode:
         raise Failed(f"the desk does not read what was made ({ran.stderr.strip()}): report this: {text}")
     return ran.stdout
@@ -48,12 +56,25 @@ def counted(count: int, thing: str, things: str) -> str:
     return f"{count:,} {thing if count == 1 else things}"
 
 
-def report(notes: list[Note], entries: int) -> str:
+def too_large(text: str, weight: int) -> list[str]:
+    """What a desk's base has at most and this one exceeds."""
+    sizes = (
+        (text.count("\n"), MOST_ENTRIES, "entries", RULES),
+        (weight, MOST_WEIGHT, "words in its rules with each alias written out", LISTS),
+        (len(text), MOST_BYTES, "bytes", RULES),
+    )
+    return [
+        f"the base has {size:,} {what}, and a desk's has up to {most:,} (K6): {advice}"
+        for size, most, what, advice in sizes
+        if size > most
+    ]
+
+
+def report(notes: list[Note], entries: int, large: list[str]) -> str:
     files = list(dict.fromkeys(note.place.file for note in notes))
     notes = sorted(notes, key=lambda it: (files.index(it.place.file), it.place.line))
     lines = [f"{note.place}: {'left out' if note.is_left_out else 'note'}: {note.what}: {note.said}" for note in notes]
-    if entries > MOST_ENTRIES:
-        lines.append(f"the base has {entries:,} entries, and a desk's has up to {MOST_ENTRIES:,} (K6): write aliases and directories in place of many rules")
+    lines += large
     left_out = sum(note.is_left_out for note in notes)
     lines.append(f"{counted(entries, 'entry', 'entries')}; {counted(left_out, 'thing is', 'things are')} left out")
     return "".join(f"{visible(line)}\n" for line in lines)
@@ -67,7 +88,7 @@ def imported(said: argparse.Namespace) -> int:
     desk = program(said.desk)
     job = Import(read(said.sudoers), hosts)
     text = checked(desk, job.run())
-    told = report(job.notes, text.count("\n"))
+    told = report(job.notes, text.count("\n"), too_large(text, job.above.weight))
     if said.report:
         with open(said.report, "w", encoding="utf-8") as file:
             file.write(told)

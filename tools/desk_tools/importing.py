@@ -9,10 +9,11 @@ from dataclasses import dataclass, field
 from typing import Any, NamedTuple
 
 from desk_tools import machine
+from desk_tools.above import Above
 from desk_tools.cvtsudoers import BadSudoers
 from desk_tools.machine import Host
 from desk_tools.schema import has_form
-from desk_tools.site import seems_directory, without_slash
+from desk_tools.site import FIRST, LAST, seems_directory, without_slash
 from desk_tools.sudoers import ALIAS_KEYS, ALIASES, Default, Place, Sudoers
 
 USER, RUNAS, HOST, COMMAND = ALIASES
@@ -61,6 +62,8 @@ REFUSES = {
     "intercept": (False, "it takes away what runs with another's rights (setuid)"),
     "always_query_group_plugin": (False, "a plugin says who is in a group"),
 }
+# the bounds of a command, and on which side of the desk's time each is always met
+BOUNDS = {"notbefore": -1, "notafter": 1}
 # what a command has, beside its options, that comes out of an alias
 IN_ALIAS = {"in_alias": True}
 MARK = "\ufeff"
@@ -134,7 +137,7 @@ class Import:
         self.kept: dict[str, set[str]] = {kind: set() for kind in ALIASES}
         self.target = "root"
         self.unsaid_target: str | None = None
-        self.has_nopasswd = False
+        self.above = Above()
         self.plain_all = ""
         self.refuses = REFUSES
 
@@ -322,6 +325,7 @@ class Import:
         words = self.commands_of(place, held) if kind == COMMAND else self.names(place, kind, held, False)
         if words.is_exact and words.items:
             self.kept[kind].add(name)
+            self.above.alias(kind, name, words.items)
             self.lines.append(f"{KINDS[kind]} {name} = {words}")
         else:
             self.note(place, name, "a part of its list cannot be said, so the alias is not kept: the rest stands where it is used", is_left_out=False)
@@ -367,9 +371,27 @@ class Import:
             options: dict[str, Any] = {key: True for name, key in SPECS.items() if part.get(name)}
             for option in part.get("Options", []):
                 options |= option
+            if not self.is_in_time(place, options):
+                continue
             for where, negated, item in self.items(place, COMMAND, part["Commands"]):
                 within = options if where == place else options | IN_ALIAS
                 self.one((place, where), spec, part, within, negated, item)
+
+    def is_in_time(self, place: Place, options: dict[str, Any]) -> bool:
+        """Whether a rule may hold in the desk's time. A bound that is always met there is taken
+        off; a rule that never holds held nothing back either."""
+        for key, met in BOUNDS.items():
+            side = side_of(options[key]) if key in options else 0
+            if not side:
+                continue
+            what, is_met = f"{key.upper()}={options[key]}", side == met
+            said = "is always met" if is_met else "is never met, so its commands are left out"
+            said = f"a desk's time is {FIRST[:4]} to {LAST[:4]}, in which it {said}"
+            self.note(place, what, said, is_left_out=not is_met)
+            if not is_met:
+                return False
+            del options[key]
+        return True
 
     def one(self, places: tuple[Place, Place], spec: dict[str, Any], part: dict[str, Any], options: dict[str, Any], negated: bool, item: Any) -> None:
         """One command of a rule, or one alias of commands: where the rule stands, and where the command does."""
@@ -384,13 +406,16 @@ class Import:
             for sign, each in alias:
                 self.one(places, spec, part, options | IN_ALIAS, sign, each)
             return
-        if not negated and (text is None or self.held_back(place, name, options, item)):
+        if not negated:
+            is_exact = all(it.is_exact for it in lists)
+            is_left_out = text is None or self.held_back(place, name, options, item)
             if text is None:
                 self.note(where, name, self.why_not(item))
-            if self.has_nopasswd and options.get("authenticate") is not False:
-                said = "what is left out wanted a password: where a rule above with NOPASSWD allows it too, it now wants none"
-                self.note(place, "PASSWD", said, is_left_out=False)
-            return
+            if is_left_out or not is_exact:
+                wide = lists if is_exact else self.wide_lists(place, spec, part)
+                self.left_out(place, wide, options, name, wider(name) if text is None else text)
+            if is_left_out:
+                return
         if text is None:
             text = wider(name)
             more = f"; {text} is denied in its place, which is more" if text else ""
@@ -400,14 +425,44 @@ class Import:
         self.widened(place, lists)
         self.look_at(where, text)
         if all(it.says_yes() for it in lists):
-            users, hosts, targets = lists
-            marks = [f"NOTBEFORE={options['notbefore']}"] if "notbefore" in options else []
-            marks += [f"NOTAFTER={options['notafter']}"] if "notafter" in options else []
-            marks += ["NOPASSWD:"] if options.get("authenticate") is False else []
-            self.has_nopasswd = self.has_nopasswd or marks[-1:] == ["NOPASSWD:"]
             if text == "ALL" and not negated and "in_alias" in options:
                 text = self.all_of_alias()
-            self.lines.append(" ".join([f"{users} {hosts} = ({targets})", *marks, f"{'!' if negated else ''}{text}"]))
+            self.line(lists, options, f"{'!' if negated else ''}{text}")
+
+    def line(self, lists: tuple[Words, Words, Words], options: dict[str, Any], text: str) -> None:
+        users, hosts, targets = lists
+        is_free = options.get("authenticate") is False
+        bounds = [f"{key.upper()}={options[key]}" for key in BOUNDS if key in options]
+        marks = [*bounds, "NOPASSWD:"] if is_free else bounds
+        self.above.rule(users.items, hosts.items, targets.items, text, is_free)
+        self.lines.append(" ".join([f"{users} {hosts} = ({targets})", *marks, text]))
+
+    def left_out(
+        self,
+        place: Place,
+        lists: tuple[Words, Words, Words],
+        options: dict[str, Any],
+        name: str,
+        text: str | None,
+    ) -> None:
+        """What sudo would have gone by, where a line above gives what is left out: that is denied
+        if it was held back by more than a password."""
+        if text is None or not all(it.says_yes() for it in lists):
+            return
+        above = self.above.may_give(lists[0].items, lists[1].items, text)
+        if name.startswith("sudoedit"):
+            # (no path gives it)
+            above = [it for it in above if "ALL" in it.commands]
+        is_held = any(options.get(key, False) is not False for key in OPTIONS)
+        sets_environment = any(it.sets_environment for it in above)
+        if above and is_held or options.get("setenv") is False and sets_environment:
+            said = "it is denied in place of what is left out, which a line above may give without that option or tag"
+            self.note(place, f"!{text}", said, is_left_out=False)
+            self.widened(place, lists)
+            self.line(lists, {key: options[key] for key in BOUNDS if key in options}, f"!{text}")
+        elif options.get("authenticate") is not False and not all(it.wants_password for it in above):
+            said = "what is left out wanted a password: where a rule above with NOPASSWD allows it too, it now wants none"
+            self.note(place, "PASSWD", said, is_left_out=False)
 
     def all_of_alias(self) -> str:
         """An alias of ALL alone. ALL in a rule lets its user set the environment, and ALL in an
@@ -416,6 +471,7 @@ class Import:
             self.plain_all = "ALL_WITHOUT_SETENV"
             while self.plain_all in self.sudoers.aliases[COMMAND]:
                 self.plain_all += "_"
+            self.above.alias(COMMAND, self.plain_all, ["ALL"])
             self.lines.append(f"{KINDS[COMMAND]} {self.plain_all} = ALL")
         return self.plain_all
 
@@ -447,6 +503,15 @@ class Import:
             self.names(place, HOST, spec["Host_List"], is_wide),
             self.targets(place, part, is_wide),
         )
+
+    def wide_lists(
+        self, place: Place, spec: dict[str, Any], part: dict[str, Any]
+    ) -> tuple[Words, Words, Words]:
+        """All that the lists may mean. (What cannot be said of them has its note.)"""
+        notes, self.notes = self.notes, []
+        found = self.lists(place, spec, part, is_wide=True)
+        self.notes = notes
+        return found
 
     def targets(self, place: Place, part: dict[str, Any], is_wide: bool) -> Words:
         """The targets of a command. Whoever may name a group alone (`sudo -g`) stays who they are,
@@ -492,6 +557,12 @@ class Import:
         if isinstance(item, str):
             return any(self.has_all(each) for _, each in self.written_out(item, False))
         return bool(item["command"] == "ALL")
+
+
+def side_of(moment: str) -> int:
+    """-1 for a moment before the desk's time, 1 for one behind it, 0 for one within."""
+    year = int(moment[: -len("0105093000Z")])
+    return (year > int(LAST[:4])) - (year < int(FIRST[:4]))
 
 
 def group_of(item: dict[str, Any]) -> str:

@@ -6,6 +6,7 @@ a host would pass over a file, there is no reading at all: whatever is not read 
 """
 
 import os
+import re
 import stat
 from collections.abc import Iterator
 from dataclasses import dataclass, field
@@ -18,6 +19,8 @@ ALIASES = ("User_Aliases", "Runas_Aliases", "Host_Aliases", "Command_Aliases")
 ALIAS_KEYS = dict(zip(ALIASES, ("useralias", "runasalias", "hostalias", "cmndalias")))
 MOST_FILES = 1024
 MOST_DEEP = 128
+# a backslash stands before the mark in an argument
+SELINUX = re.compile(r"\b(?:ROLE|TYPE)[ \t]*=")
 # as many aliases as a desk nests
 MOST_NESTED = 64
 
@@ -182,6 +185,11 @@ class Reader:
         except BadSudoers:
             raise BadSudoers(differs(place)) from None
         why = line.unsure
+        if has_half_context(line.text, read):
+            why = (
+                "ROLE without TYPE, or a command without both, which cvtsudoers mixes up: "
+                "write each command with its options as a rule of its own"
+            )
         if is_local:
             why = "a time without Z or an offset is another on each host: write it with Z"
         if why:
@@ -242,6 +250,12 @@ class Reader:
         if depths[name] > MOST_NESTED:
             raise BadSudoers(f"{held.place}: {name}: more than {MOST_NESTED} aliases deep")
         return depths[name]
+
+
+def has_half_context(text: str, read: Read) -> bool:
+    """Whether a rule may have a role or a type alone, of which cvtsudoers says nothing."""
+    parts = [part for spec in read.get("User_Specs", []) for part in spec["Cmnd_Specs"]]
+    return bool(SELINUX.search(text)) and not all("SELinux_Spec" in part for part in parts)
 
 
 def differs(place: Place) -> str:

@@ -93,7 +93,7 @@ def made(imports: Run, desk: str, tmp_path: Path, monkeypatch: pytest.MonkeyPatc
         ("Cmnd_Alias C = /bin/l*, /bin/kill\nann ALL = /bin/ps, !C\n", "ann ALL = (root) /bin/ps\nann ALL = (root) !/bin/\nann ALL = (root) !/bin/kill\n"),
         ("ann ALL = NOEXEC: /bin/ls, EXEC: /bin/kill, NOSETENV: ALL\n", "ann ALL = (root) /bin/kill\n"),
         ("ann ALL = CWD=/tmp /bin/ls, TIMEOUT=10 /bin/kill\n", ""),
-        ("Cmnd_Alias C = /bin/a, !/bin/b\nann ALL = ALL, NOEXEC: C\n", "Cmnd_Alias C = /bin/a, !/bin/b\nann ALL = (root) ALL\nann ALL = (root) !/bin/b\n"),
+        ("Cmnd_Alias C = /bin/a, !/bin/b\nann ALL = ALL, NOEXEC: C\n", "Cmnd_Alias C = /bin/a, !/bin/b\nann ALL = (root) ALL\nann ALL = (root) !/bin/a\nann ALL = (root) !/bin/b\n"),
         ("Cmnd_Alias C = /bin/a, !/bin/b\nann ALL = NOEXEC: !C\n", "Cmnd_Alias C = /bin/a, !/bin/b\nann ALL = (root) !/bin/a\n"),
         ("ann ALL = (: op) /bin/ls, () /bin/kill, (op : op) /bin/ps\n", "ann ALL = (op) /bin/ps\n"),
     ],
@@ -101,6 +101,174 @@ def made(imports: Run, desk: str, tmp_path: Path, monkeypatch: pytest.MonkeyPatc
 def test_bases(made: Make, text: str, base: str) -> None:
     found, _ = made(text)
     assert found == base
+
+
+LS = "ALL ALL = (root) /bin/ls\n"
+ANY = "ALL ALL = (root) ALL\n"
+NOT_LS = "ann ALL = (root) !/bin/ls\n"
+
+
+@pytest.mark.parametrize(
+    ("rule", "above", "denial"),
+    [
+        *(
+            (f"ann ALL = {mark}/bin/ls\n", LS, NOT_LS)
+            for mark in (
+                *("NOEXEC: ", "INTERCEPT: ", "CHROOT=/srv ", "CWD=/srv ", "TIMEOUT=9 "),
+                "ROLE=r TYPE=t ",
+            )
+        ),
+        ("ann ALL = NOEXEC: NOPASSWD: /bin/ls\n", LS, NOT_LS),
+        ("ann ALL = NOEXEC: ALL\n", LS, "ann ALL = (root) !ALL\n"),
+        ("ann ALL = NOEXEC: /bin/ls -l\n", LS, "ann ALL = (root) !/bin/ls -l\n"),
+        # (sudo takes it for the same file where /bin is a link)
+        ("ann ALL = NOEXEC: /usr/bin/ls\n", LS, "ann ALL = (root) !/usr/bin/ls\n"),
+        (
+            "ann ALL = NOTAFTER=2026010509Z NOEXEC: /bin/ls\n",
+            LS,
+            "ann ALL = (root) NOTAFTER=20260105090000Z !/bin/ls\n",
+        ),
+        # what cannot be said of the rule is taken wide
+        ("+net ALL = NOEXEC: /bin/ls\n", LS, "ALL ALL = (root) !/bin/ls\n"),
+        ("ann 10.0.0.1 = NOEXEC: /bin/ls\n", LS, NOT_LS),
+        ("ann ALL = (:adm) NOEXEC: /bin/ls\n", LS, "ann ALL = (ALL) !/bin/ls\n"),
+        ("ann ALL = (root : adm) NOEXEC: /bin/ls\n", LS, NOT_LS),
+        ("ann ALL = (root : !adm) NOEXEC: /bin/ls\n", LS, NOT_LS),
+        ("ann ALL = NOEXEC: /bin/l*\n", LS, "ann ALL = (root) !/bin/\n"),
+        ("ann ALL = NOEXEC: /bin/ls -*\n", LS, NOT_LS),
+        ("ann ALL = NOEXEC: ^/bin/l.*$\n", LS, "ann ALL = (root) !ALL\n"),
+        ("ann ALL = NOEXEC: sha224:0GomF8mNN3wlDt1HD9XldjJ3SNgpFdbjO1+NsQ== /bin/ls\n", LS, NOT_LS),
+        ("ann ALL = CWD=/srv sudoedit /etc/motd\n", ANY, "ann ALL = (root) !ALL\n"),
+        # ALL lets its user set the environment
+        ("ann ALL = NOSETENV: ALL\n", ANY, "ann ALL = (root) !ALL\n"),
+        ("ann ALL = NOSETENV: /bin/l*\n", ANY, "ann ALL = (root) !/bin/\n"),
+        (
+            "ann, +net ALL = NOSETENV: /bin/ls\n",
+            ANY,
+            "ALL ALL = (root) !/bin/ls\nann ALL = (root) /bin/ls\n",
+        ),
+        # no line above gives it
+        ("ann ALL = NOEXEC: /bin/kill\n", LS, ""),
+        ("ann ALL = NOEXEC: /bin/ls -l\n", "ann ALL = (root) /bin/ls -a\n", ""),
+        ("ann ALL = NOEXEC: /bin/ls\n", "bob ALL = (root) /bin/ls\n", ""),
+        ("ann db1 = NOEXEC: /bin/ls\n", "ann db2 = (root) /bin/ls\n", ""),
+        ("ann !db1 = NOEXEC: /bin/ls\n", LS, ""),
+        ("ann ALL = CWD=/srv sudoedit /etc/motd\n", LS, ""),
+        ("ann ALL = NOSETENV: ALL\n", LS, ""),
+        ("ann ALL = /bin/l*\n", ANY, ""),
+    ],
+)
+def test_what_is_left_out_of_a_rule_is_denied(
+    made: Make, rule: str, above: str, denial: str
+) -> None:
+    """sudo goes by the last rule that fits: without it, one above gives what it held back."""
+    assert made(above + rule)[0] == above + denial
+
+
+def test_what_aliases_above_give_is_denied(made: Make) -> None:
+    aliases = "User_Alias A = bob, !C\nUser_Alias C = !ann\nCmnd_Alias D = ALL, !E\nCmnd_Alias E = /bin/ls\n"
+    base, _ = made(f"{aliases}A ALL = !D\nann ALL = NOEXEC: E\nkim ALL = NOEXEC: E\n")
+    assert base.splitlines()[4:] == ["A ALL = (root) !D", "ann ALL = (root) !E"]
+
+
+FREE = "ALL ALL = NOPASSWD: /usr/bin/id\n"
+ALL_FREE = "ALL ALL = NOPASSWD: ALL\n"
+
+
+@pytest.mark.parametrize(
+    ("above", "rule", "has_note"),
+    [
+        (FREE, "ann ALL = /usr/bin/i*", True),
+        (FREE, "+net ALL = PASSWD: /usr/bin/id", True),
+        (FREE, "ann, +net ALL = /usr/bin/id", True),
+        (FREE, "ALL, !+net ALL = /usr/bin/id", True),
+        (ALL_FREE, "ann 10.0.0.1 = /usr/bin/id", True),
+        (ALL_FREE, "ann ALL = (:adm) /usr/bin/id", True),
+        (ALL_FREE, "ann ALL = (root : !adm) /usr/bin/id", True),
+        (ALL_FREE, "ann ALL = sudoedit /etc/motd", True),
+        ("Cmnd_Alias I = /usr/bin/id\nALL ALL = NOPASSWD: I\n", "+net ALL = /usr/bin/id", True),
+        ("ALL ALL = NOPASSWD: /bin/ls\n", "ann ALL = NOSETENV: ALL", True),
+        # nothing of it wants a password, or is left out, or is given above without one
+        (FREE, "+net ALL = NOPASSWD: /usr/bin/id", False),
+        (FREE, "ann ALL = PASSWD: /usr/bin/id", False),
+        (FREE, "ann !db1 = /usr/bin/id", False),
+        (FREE, "+net ALL = /bin/ls", False),
+        (FREE, "+net ALL = NOEXEC: /usr/bin/id", False),
+        ("ALL ALL = /usr/bin/id\n", "+net ALL = /usr/bin/id", False),
+    ],
+)
+def test_the_note_on_passwords(made: Make, above: str, rule: str, has_note: bool) -> None:
+    line = above.count("\n") + 1
+    note = (
+        f"sudoers:{line}: note: PASSWD: what is left out wanted a password: "
+        "where a rule above with NOPASSWD allows it too, it now wants none"
+    )
+    assert (note in made(f"{above}{rule}\n")[1]) == has_note
+
+
+@pytest.mark.parametrize(
+    ("text", "base", "status"),
+    [
+        ("NOTAFTER=99991231235959Z /bin/ls", "/bin/ls", 0),
+        ("NOTAFTER=21000101000000Z !/bin/ls", "!/bin/ls", 0),
+        ("NOTBEFORE=00010101000000Z /bin/ls", "/bin/ls", 0),
+        (f"NOTBEFORE=19691231235958Z {NINE.split()[1]} /bin/ls", f"{NINE.split()[1]} /bin/ls", 0),
+        ("NOTBEFORE=19700101000000Z /bin/ls", "NOTBEFORE=19700101000000Z /bin/ls", 0),
+        ("NOTAFTER=20991231235959Z /bin/ls", "NOTAFTER=20991231235959Z /bin/ls", 0),
+        # it never holds, and so it denies nothing in place of NOEXEC
+        ("NOTAFTER=19691231235958Z NOEXEC: /bin/ls", None, 1),
+        ("NOTBEFORE=21000101000000Z !/bin/ls", None, 1),
+        ("NOTBEFORE=99991231235959Z NOTAFTER=99991231235959Z /bin/ls", None, 1),
+    ],
+)
+def test_bounds_outside_of_the_desks_time(
+    made: Make, text: str, base: str | None, status: int
+) -> None:
+    found, said = made(f"{LS}ann ALL = {text}\n", status=status)
+    assert found == LS + (f"ann ALL = (root) {base}\n" if base else "")
+    has_note = "a desk's time is 1970 to 2099, in which it is " in said[0]
+    assert has_note == (text.count("=") != (base or "").count("="))
+
+
+LONG = f" {'y' * 64}" * 15
+
+
+def users_of(count: int, rules: int) -> str:
+    names = ", ".join(f"u{number}" for number in range(count))
+    lines = "".join(f"U ALL = /bin/x{number}\n" for number in range(rules))
+    return f"User_Alias U = {names}\n{lines}"
+
+
+@pytest.mark.parametrize(
+    ("text", "said"),
+    [
+        (users_of(4093, 16), None),
+        (f"{users_of(4093, 16)}V ALL = /bin/x\nUser_Alias V = U, !U\n", "73,725 words in its"),
+        (users_of(4000, 20), "80,060 words in its rules"),
+        (f"ann ALL = {', '.join(f'/bin/x{number}' for number in range(4096))}\n", None),
+        (f"ann ALL = {', '.join(f'/bin/x{number}' for number in range(4097))}\n", "4,097 entries"),
+        (f"ann ALL = {', '.join([f'/bin/x{LONG}'] * 1049)}\n", None),
+        (f"ann ALL = {', '.join([f'/bin/x{LONG}'] * 1050)}\n", "1,048,950 bytes"),
+    ],
+    # (a text is too long for the name of a test)
+    ids="weight, denied aliases, heavy, entries, more entries, bytes, more bytes".split(", "),
+)
+def test_a_base_too_large_for_a_desk(made: Make, text: str, said: str | None) -> None:
+    notes = made(text)[1][:-1]
+    assert len(notes) == (said is not None), notes
+    assert said is None or said in notes[0] and "(K6)" in notes[0]
+
+
+def test_a_base_over_the_limits_of_a_policy(made: Make) -> None:
+    """(The weight is the desk's own: one more word is refused by desk check.)"""
+    assert "131,072 words in its rules" in made(users_of(32765, 4))[1][0]
+    assert made(users_of(32766, 4), status=2) == (
+        "",
+        [
+            "desk-import: what was made is over the limits of a policy (S10): "
+            "make fewer rules and shorter lists"
+        ],
+    )
 
 
 def test_the_list_of_what_is_left_out(made: Make, tmp_path: Path) -> None:
@@ -140,6 +308,10 @@ NOTES = [
     ("ann ALL = ALL\n+net ALL = !/bin/ls\n", "sudoers:2: note: users: what cannot be said of them became ALL: the rule denies more than it did"),
     ("ann ALL = ALL\nann 10.0.0.1 = !/bin/ls\n", "sudoers:2: note: hosts: what cannot be said of them became ALL: the rule denies more than it did"),
     ("ALL, !+net, bob ALL = /bin/ls\n", "sudoers:1: note: users: a denial of them cannot be said: those named before it are left out"),
+    (
+        "ALL ALL = /bin/ls\nann ALL = NOEXEC: /bin/ls\n",
+        "sudoers:2: note: !/bin/ls: it is denied in place of what is left out, which a line above may give without that option or tag",
+    ),
     # a rule that gives nothing in sudo either, and what was surely meant
     ("ann !db1 = /bin/ls\n", "sudoers:1: note: hosts: a list of denials alone (!db1) means nobody, to sudo as well: begin it with ALL if that is meant"),
     (
@@ -219,6 +391,9 @@ REFUSALS = [
     ("\\x41LL ALL = /bin/ls\n", ":1: ALL between quotes or with a backslash is a name"),
     ("ann ALL = /bin/ls\\ -l\n", ":1: a blank in a command's path"),
     ("ann ALL = NOTAFTER=20260105093000 /bin/ls\n", ":1: a time without Z or an offset"),
+    # (cvtsudoers tells of neither alone)
+    ("ann ALL = ROLE=r /bin/ls\n", ":1: ROLE without TYPE"),
+    ("ann ALL = /bin/ls, TYPE = t /bin/kill\n", ":1: ROLE without TYPE"),
     ("%twin ALL = ALL\n", ":1: %twin: the groups other and twin share a number"),
 ]
 

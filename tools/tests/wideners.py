@@ -142,5 +142,30 @@ WIDENERS = [
         "a list that denies an alias that denies",
         f"Host_Alias H = db1, !db1\n{ALLOWS}ann !H = !/srv/bin/kill\n",
     ),
+    # what is left out had held back what a line above gives
+    Widener(
+        "a CHROOT below a line without",
+        "ALL ALL = NOPASSWD: /srv/bin/kill\nann ALL = CHROOT=/etc NOPASSWD: /srv/bin/kill\n",
+        is_run=True,
+    ),
+    Widener(
+        "a CWD for a netgroup, of a pattern",
+        "ALL ALL = NOPASSWD: /srv/bin/kill\n+net ALL = CWD=/none NOPASSWD: /srv/bin/k*\n",
+        asks=("eve", "db1", "root", "/srv/bin/kill"),
+        is_run=True,
+    ),
+    Widener(
+        "a NOEXEC below a line without",
+        "ALL ALL = NOPASSWD: /bin/sh\nann ALL = NOPASSWD: NOEXEC: /usr/bin/sh\n",
+        asks=("ann", "db1", "root", "/bin/sh", "-c", "/bin/true; exit $?"),
+        is_run=True,
+    ),
+    Widener(
+        "a NOEXEC of an alias that denies",
+        "Cmnd_Alias C = ALL, !/srv/bin/ls\nALL ALL = NOPASSWD: ALL\n"
+        "ann ALL = NOPASSWD: NOEXEC: C\n",
+        asks=("ann", "db1", "root", "/bin/sh", "-c", "/bin/true; exit $?"),
+        is_run=True,
+    ),
     Widener("a time of the host's own zone", "ann ALL = NOTBEFORE=2026010510 ALL\n"),
 ]
