@@ -46,6 +46,8 @@ HARMLESS = {
     "log_input": "LOG_INPUT is left out: keep `Defaults log_input` in the host's own sudoers",
     "log_output": "LOG_OUTPUT is left out: keep `Defaults log_output` in the host's own sudoers",
 }
+# settings that the hosts keep, and the tags by which a rule is free of them
+TAKEN_BACK = {"setenv": "NOSETENV", "sudoedit_follow": "NOFOLLOW"}
 HOLDS_BACK = set(
     "noexec targetpw rootpw runaspw use_pty env_reset secure_path env_check env_delete fqdn "
     "command_timeout runcwd role type apparmor_profile privs limitprivs sudoedit_checkdir "
@@ -138,6 +140,7 @@ class Import:
         self.target = "root"
         self.unsaid_target: str | None = None
         self.above = Above()
+        self.given_by_defaults: set[str] = set()
         self.plain_all = ""
         self.refuses = REFUSES
 
@@ -174,6 +177,8 @@ class Import:
                 f"{line.place}: {name}: {self.refuses[name][1]}, which a base cannot say: keep the line "
                 "in the hosts' own /etc/sudoers, and import a copy of the file without it"
             )
+        if name in TAKEN_BACK and value:
+            self.given_by_defaults.add(name)
         if name != "runas_default":
             return
         if line.is_scoped or not isinstance(value, str) or not has_form(value, "name"):
@@ -454,6 +459,7 @@ class Import:
             # (no path gives it)
             above = [it for it in above if "ALL" in it.commands]
         is_held = any(options.get(key, False) is not False for key in OPTIONS)
+        is_held = is_held or self.taken_back(options) is not None
         sets_environment = any(it.sets_environment for it in above)
         if above and is_held or options.get("setenv") is False and sets_environment:
             said = "it is denied in place of what is left out, which a line above may give without that option or tag"
@@ -534,11 +540,23 @@ class Import:
                 found.items = found.items if is_wide else []
         return found
 
+    def taken_back(self, options: dict[str, Any]) -> str | None:
+        """Why a tag that takes back what a Defaults line gives stands against the command."""
+        for key, tag in TAKEN_BACK.items():
+            if key in self.given_by_defaults and options.get(key) is False:
+                return (
+                    f"{tag} cannot be said, and takes back what `Defaults {key}` gives: take that "
+                    "line out of the hosts' own /etc/sudoers, and import a copy without it"
+                )
+        return None
+
     def holds_back(self, options: dict[str, Any], item: Any) -> str | None:
         """Why an option stands against the command: without it the rule would give more. None where none does."""
         for key, why in OPTIONS.items():
             if key in options and options[key] is not False:
                 return why
+        if (why_taken := self.taken_back(options)) is not None:
+            return why_taken
         if options.get("setenv") is False and self.has_all(item):
             return "NOSETENV cannot be said, and ALL lets its user set the environment: list the commands"
         return None

@@ -165,6 +165,22 @@ def test_what_is_left_out_of_a_rule_is_denied(
     assert made(above + rule)[0] == above + denial
 
 
+@pytest.mark.parametrize(
+    ("setting", "rule", "base"),
+    [
+        ("setenv", "NOSETENV: /bin/ls", LS + NOT_LS),
+        ("setenv", "NOSETENV: /bin/kill", LS),
+        ("!setenv", "NOSETENV: /bin/ls", f"{LS}ann ALL = (root) /bin/ls\n"),
+        ("sudoedit_follow", "NOFOLLOW: ALL", f"{LS}ann ALL = (root) !ALL\n"),
+    ],
+)
+def test_what_a_tag_takes_back_of_defaults(
+    made: Make, setting: str, rule: str, base: str
+) -> None:
+    """The Defaults stay on the hosts, and the tag cannot be said."""
+    assert made(f"Defaults {setting}\n{LS}ann ALL = {rule}\n")[0] == base
+
+
 def test_what_aliases_above_give_is_denied(made: Make) -> None:
     aliases = "User_Alias A = bob, !C\nUser_Alias C = !ann\nCmnd_Alias D = ALL, !E\nCmnd_Alias E = /bin/ls\n"
     base, _ = made(f"{aliases}A ALL = !D\nann ALL = NOEXEC: E\nkim ALL = NOEXEC: E\n")
