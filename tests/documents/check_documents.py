@@ -114,7 +114,7 @@ def store(page: Page) -> None:
     log_alone(page, from_log)
     page.says(
         "**`K4` does not**: the commit failed, and the message may be there",
-        "13 MB and some 930 bytes a message; served, 1,100, and up to 1,600 once asked for all",
+        "930 bytes a message; of a desk that serves, 1,100, and up to 1,600 once asked for all",
     )
 
 

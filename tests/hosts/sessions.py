@@ -204,6 +204,7 @@ HOSTILE = [
 BESIDE = [
     ("such bytes without a sudo", "SUDO_UID=4242 SUDO_COMMAND=$'\\xff' sleep 7511", "7511"),
     ("a long number", "SUDO_UID=1$(printf %05000d 1) SUDO_COMMAND=x sleep 7512", "7512"),
+    ("a command of no words", "SUDO_UID=4242 SUDO_COMMAND=' ' sleep 7513", "7513"),
 ]
 
 
