@@ -1,6 +1,6 @@
 # The commands of the repository. `rt` is the toolchain's command.
 
-.PHONY: all desk demo test quick try cases gate-times edits docs contracts peers bench faults soak types relays-test relays-demo tools-test several hosts install deb pages package-test clean
+.PHONY: all desk demo test quick try cases gate-times edits docs picture contracts peers bench faults soak types relays-test door-test tools-test several hosts moving install deb release pages package-test clean
 
 all: desk
 
@@ -20,17 +20,15 @@ demo:
 # The program on each case of cases/: files, words and inputs, with all that it answers. Both of the functions that decide, on 100,000 random invocations. Then reports of random sets of messages, beside a second
 # reading of the rules; and the same of desk-audit.
 cases: desk
-	python3 -m tests.cases.cases
-	python3 -m tests.cases.decisions
-	python3 -m tests.cases.random_reports
-	python3 -m tests.cases.audit
-	/usr/bin/python3 -m tests.cases.random_audits
+	$(GATE) cases
 
 # The whole gate (docs/change/GATE.md): `rt ci`, which proves everything from nothing, tries the edits that must be refused and runs the tests; then,
-# over the program that it left at build/desk, the demo, the cases, peers and faults. What it needs of Debian is installed where this is root; with
-# WHOLE=1 nothing may be left out. Its last line is 'N passed, 0 failed'.
+# over the program that it left at build/desk, all other parts side by side. What it needs of Debian is installed where this is root; with
+# WHOLE=1 nothing may be left out. Its last line is 'N passed, 0 failed'. A target below that names a part of it runs that part alone.
+# Nothing of it depends on what the shell that starts it has ignored, closed or set.
+GATE = python3 -I -S scripts/apart.py --grace 30 python3 scripts/gate.py
 test:
-	WHOLE=$(WHOLE) bash scripts/test.sh
+	WHOLE=$(WHOLE) $(GATE)
 
 # What can be seen in seconds, without a proof: the layout, that each edit fits its file, what the documents say of edits, the files that they name, and the scripts' own layout.
 quick:
@@ -48,6 +46,10 @@ edits:
 docs:
 	python3 scripts/make_docs.py
 
+# docs/concepts.svg of docs/concepts.dot (Debian's package graphviz).
+picture:
+	python3 scripts/picture.py
+
 # The clauses of each public function, at build/contracts.txt: `diff` of the lists of two trees shows what a change of the code does to contracts.
 contracts:
 	mkdir -p build
@@ -56,19 +58,7 @@ contracts:
 # What the desk decides beside what sudo itself answers (as root; Debian's packages sudo and faketime), and of 2,200 random policies; and what sudo reads of the files of 2,000
 # random requests of odd words; nothing of the machine changes. Then `desk serve` asked over loopback (curl), the file of a desk beside Debian's `sqlite3`, and a desk that is killed while it takes messages.
 peers: desk
-	python3 -m tests.peers.sudo
-	python3 -m tests.peers.policies
-	python3 -m tests.peers.peers_requests
-	python3 -m tests.peers.peers_http
-	python3 -m tests.peers.peers_socket
-	python3 -m tests.peers.peers_site
-	python3 -m tests.peers.patience
-	python3 -m tests.peers.crowd
-	python3 -m tests.peers.store
-	python3 -m tests.peers.fronts
-	python3 -m tests.peers.front_certificates
-	python3 -m tests.peers.authority
-	python3 -m tests.peers.monitoring
+	$(GATE) peers
 
 # Time and memory: `check` and `decide` beside visudo (Debian's package sudo) on up to 16,001 rules, on 8,000 aliases with 8,000 rules, and on
 # the greatest weight; `print` on 800 and 8,000 requests; `beyond` on 1,000,000 cases; `serve` beside nginx (Debian's package nginx-light) and, over a file, beside `deliver`; `deliver` to a
@@ -80,8 +70,7 @@ bench: desk
 
 # The program with each request for memory refused in turn.
 faults: desk
-	python3 -m tests.cases.faults
-	python3 -m tests.cases.allocation_counts
+	$(GATE) faults
 
 # Reads and writes of the program that fail, disks that fill and files that change under it, each place; the program killed 600 times over 20,000 messages; and
 # a million inputs changed at random, each answer beside a second reading. The last line has the counts. `make test` runs a short form of each.
@@ -102,19 +91,26 @@ types:
 relays-test:
 	bash relays/test.sh
 
+# The door (docs/SIGNING.md): forgeries, a real sshd and agent, a journal that is killed, cut and full. This is the long form, with 60 places, 100,000
+# rows and the door's rate; the gate has the short one.
+door-test:
+	bash door/test.sh whole
+
 # The tools (docs/LINT.md, docs/IMPORT.md, docs/USED.md, docs/EVIDENCE.md, docs/CHANGING.md, docs/PEOPLE.md): desk-lint beside the desk, desk-import and desk-used beside sudo itself, over build/desk or the program that DESK names.
 tools-test:
 	bash tools/test.sh
 
-# The hosts (docs/HOSTS.md): desk-host, and the sudo of Debian 11, 12, 13, sid and a 32-bit 12, with PAM and terminals, in roots that debootstrap makes
-# in ~/.cache/steelnewt-hosts (as root; some 1.3 GB, and once a minute or two each), over build/desk or the program that DESK names.
+# The hosts (docs/HOSTS.md): desk-host and sudo's plugin, and the sudo of Debian 11, 12, 13, sid and a 32-bit 12, with PAM and terminals, in roots that
+# debootstrap makes in ~/.cache/steelnewt-hosts (as root; some 1.3 GB, and once a minute or two each), and under a systemd; 102 revocations beside a
+# thousand processes; 100,000 random records. Over build/desk or the program that DESK names.
 hosts:
 	bash scripts/tools.sh
 	/usr/bin/python3 -m tests.hosts.hosts
 
-# A grant's life by ssh: ann asks, bob approves, ann revokes.
-relays-demo:
-	bash relays/demo.sh
+# A site's sudoers files moved to a desk (docs/IMPORT.md), in roots of this machine and of Debian 12, 13 and sid, beside their real sudo.
+moving:
+	bash scripts/tools.sh all
+	/usr/bin/python3 -m tests.moving.moving
 
 # The program, its manual pages, completions, units and examples below $(DESTDIR)$(PREFIX); the manual pages and completions alone; Debian's packages
 # in build/deb (dpkg-dev and debhelper); and these packages tried in a root of their own (as root, at most three minutes). None of them proves anything
@@ -131,18 +127,16 @@ install: build/desk build/desk-audit
 deb: build/desk build/desk-audit
 	bash scripts/deb.sh
 
+# The packages of the commit that is checked out, made twice, in build/release: an apt folder that KEY (a key of gpg) signs,
+# with the last lines of the gate's output, which GATE names. `python3 -m tests.packages.release` tries one.
+release: build/desk build/desk-audit
+	GATE='$(GATE)' KEY='$(KEY)' bash scripts/release.sh
+
 pages: build/desk
-	python3 scripts/make_pages.py build/pages
-	python3 -m tests.documents.check_pages
-	python3 -m tests.documents.check_readme
-	python3 -m tests.documents.check_documents
-	python3 -m tests.documents.check_runbooks
-	python3 -m tests.documents.check_team
+	$(GATE) pages
 
 package-test: build/desk build/desk-audit
-	bash scripts/deb.sh
-	bash tests/packages/lint.sh
-	python3 -m tests.packages.package_test
+	$(GATE) packages
 
 # Several desks behind a broker (docs/SEVERAL.md): the broker's package by its own tests, then three nodes of RabbitMQ and three desks on loopback while
 # messages go on and each is killed (as root; what it needs of Debian is installed). At most six minutes; `bash tests/several/several.sh --short` takes two.

@@ -5,8 +5,8 @@ there=$(mktemp)
 trap 'rm -f "$there"' EXIT
 # (dpkg-query fails where it knows none of a name)
 { dpkg-query -W -f '${db:Status-Status} ${Package}\n' "$@" 2>/dev/null || true; } |
-    awk '$1 == "installed" {print $2}' | sort > "$there"
-mapfile -t wanted < <(printf '%s\n' "$@" | sort | comm -23 - "$there")
+    awk '$1 == "installed" {print $2}' | sort -u > "$there"
+mapfile -t wanted < <(printf '%s\n' "$@" | sort -u | comm -23 - "$there")
 if [ "${#wanted[@]}" -gt 0 ] && [ "$(id -u)" = 0 ] && command -v apt-get >/dev/null; then
     echo "(installing from Debian: ${wanted[*]})" >&2
     # (a mirror may fail once, and another apt may be at work. A machine that is tested starts no

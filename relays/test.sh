@@ -1,7 +1,8 @@
 #!/usr/bin/env bash
 # Tests the client and the relays: a real sshd, a real browser behind nginx, sudo, and relays that are killed. It
 # installs what it needs of Debian, where this is root. The program is build/desk, or what DESK
-# names. The last line is 'N checks, M wrong'. Words are passed on to pytest.
+# names. The last line is 'N checks, M wrong'. `crowd` names the timed test alone, `rest` the others;
+# other words are passed on to pytest.
 # CROWD=60 is the long form of test_crowd.py, and FUZZ=20000 that of test_fuzz.py; the browser's
 # screenshots are left in build/relays-screenshots.
 set -euo pipefail
@@ -9,35 +10,35 @@ cd "$(dirname "$0")/.."
 export PATH="$PATH:/usr/sbin:/sbin"
 export DESK="${DESK:-$PWD/build/desk}"
 
-packages=(
-    openssh-server openssh-client openssl nginx-light tzdata sudo faketime util-linux
-    chromium chromium-driver fonts-dejavu-core curl msmtp msmtp-mta python3-aiosmtpd
-    apache2 libapache2-mod-auth-gssapi krb5-kdc krb5-admin-server krb5-user
-    libapache2-mod-auth-openidc glewlwyd dbconfig-sqlite3 python3-authlib
-    python3-flask python3-requests python3-waitress
-    python3-pip python3-setuptools python3-wheel
-    python3-pytest python3-pytest-xdist python3-selenium
-)
-bash relays/install.sh "${packages[@]}"
+. scripts/packages.sh
+bash relays/install.sh "${relays_packages[@]}"
 if [ ! -x "$DESK" ]; then
     echo "there is no program $DESK: run make desk"
     exit 1
 fi
 log=$(mktemp)
-trap 'rm -f "$log"' EXIT
+trap 'rm -rf "$log" "$base"' EXIT
 status=0
+# (short: a socket below it has 107 bytes for its whole path)
+base=${TMPDIR:-/tmp}/t.$$
 tests() {
-    /usr/bin/python3 -m pytest -p no:cacheprovider -q --durations=5 "$@" | tee -a "$log" || status=$?
+    /usr/bin/python3 -m pytest -p no:cacheprovider -q --durations=5 --basetemp "$base" "$@" |
+        tee -a "$log" || status=$?
 }
 # (each file of tests has sites of its own, so they go side by side; the crowd's answers are timed,
 # so it goes alone)
-if [ $# = 0 ]; then
-    tests -n "$(nproc)" --dist loadfile --ignore relays/tests/test_crowd.py \
-        steelnewt_client/tests relays/tests
+crowd() {
     tests relays/tests/test_crowd.py
-else
-    tests -n "$(nproc)" --dist loadfile relays/tests "$@"
-fi
+}
+rest() {
+    tests -n "${CORES:-$(nproc)}" --dist loadfile --ignore relays/tests/test_crowd.py \
+        steelnewt_client/tests relays/tests
+}
+case "$*" in
+    '') rest && crowd ;;
+    crowd | rest) "$1" ;;
+    *) tests -n "${CORES:-$(nproc)}" --dist loadfile relays/tests "$@" ;;
+esac
 # how many there are of a kind, by the last line of each run (there may be none)
 count() {
     awk -v kind="$1" '/^[0-9]+ .* in [0-9.]+s/ {

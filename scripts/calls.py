@@ -198,7 +198,9 @@ def told() -> (
     total: set[tuple[str, str]] = set()
     laws: set[tuple[str, str]] = set()
     crate = ""
-    for line in repository.read(DOCUMENT).partition(PART)[2].splitlines():
+    text = repository.read(DOCUMENT).partition(PART)[2]
+    # (a paragraph is wrapped: as one line here)
+    for line in re.sub(r"(?<=[^\n|])\n(?=[^\n|#])", " ", text).splitlines():
         if heading := re.fullmatch(r"### `(\w+)`", line):
             crate = heading[1]
         elif cells := re.fullmatch(r"\| `([\w:]+)` \| (.*) \| (.*) \|", line):

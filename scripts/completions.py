@@ -101,6 +101,9 @@ def tool_bash(tool: dict) -> str:
     function = "_" + tool["name"].replace("-", "_")
     text = TOOL_BASH.replace("@NAMES@", names).replace("@FUNCTION@", function)
     text = text.replace("@WORDS@", " ".join(tool.get("words", [])))
+    # (words stand behind the files where the first word may be one, and else in their place)
+    behind = '-O "${#COMPREPLY[@]}" ' if tool.get("or_files") else ""
+    text = text.replace("@TAKE@", f"mapfile -t {behind}COMPREPLY")
     return text.replace("@TOOL@", tool["name"]).replace("@OTHERS@", others or "--")
 
 
@@ -118,7 +121,7 @@ TOOL_BASH = """\
             compopt -o filenames 2> /dev/null
             mapfile -t COMPREPLY < <(compgen -f -- "$current")
             [ "$COMP_CWORD" -ne 1 ] || [ -z '@WORDS@' ] ||
-                mapfile -t COMPREPLY < <(compgen -W '@WORDS@' -- "$current")
+                @TAKE@ < <(compgen -W '@WORDS@' -- "$current")
             ;;
     esac
 }
@@ -129,7 +132,11 @@ complete -F @FUNCTION@ @TOOL@
 def tool_zsh(tool: dict) -> str:
     values = {"": "", "file": ":FILE:_files", "other": ":WORD: "}
     options = " ".join(f"'{name}[{name[2:]}]{values[kind]}'" for name, kind in tool["options"])
-    words = f"'1:WORD:({' '.join(tool['words'])})' " if "words" in tool else ""
+    words = ""
+    if "words" in tool:
+        named = " ".join(tool["words"])
+        first = f"{{compadd {named}; _files}}" if tool.get("or_files") else f"({named})"
+        words = f"'1:WORD:{first}' "
     return (
         f"#compdef {tool['name']}\n# What zsh completes behind `{tool['name']}`: options and"
         f" files.\n_arguments {options} {words}'*:FILE:_files'\n"

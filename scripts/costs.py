@@ -3,9 +3,9 @@
 of the last so many minutes (30).
 
 A check writes a file into the crate's `out/` as each part of a proof ends, one after the other
-where it has one job. So a part took the time since the file before it. Of the parts, `Lts` is the
-borrow checker's, which grows with the values that a function owns over its exits, `Proof` is what
-is searched, and `Answers` what is written.
+where it has one job. So a part took the time since the file before it. The part `Lts` is the borrow
+checker's, which grows with the values that a function owns over its exits; `Proof` is the search,
+and `Answers` are the written answers.
 """
 
 import glob

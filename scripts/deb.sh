@@ -1,8 +1,9 @@
 #!/usr/bin/env bash
 # Makes Debian's packages of what `make install` installs, in build/deb: steelnewt (the desk),
-# steelnewt-host (what fetches a host's file), steelnewt-tools, steelnewt-relay, steelnewt-broker,
-# and python3-steelnewt-client, which these three use. Nothing is proved or built: the program is
-# build/desk, byte for byte.
+# steelnewt-host (what fetches a host's file), steelnewt-host-plugin (what sudo tells it),
+# steelnewt-tools, steelnewt-relay, steelnewt-door, mydesk (a person's own), steelnewt-broker, and
+# python3-steelnewt-client, which four of these use. Nothing is proved, and nothing built but sudo's
+# plugin: the program is build/desk, byte for byte.
 set -euo pipefail
 cd "$(dirname "$0")/.."
 for tool in dpkg-buildpackage dh dh_python3; do

@@ -117,7 +117,7 @@ def needs(name: Name) -> Iterator[Name]:
 
 
 def all_needed(first: list[Name]) -> list[Name]:
-    """These and all that they need, each after what it needs."""
+    """These definitions and all that they need, each after what it needs."""
     found: dict[Name, bool] = {}
 
     def take(name: Name) -> None:

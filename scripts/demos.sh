@@ -8,7 +8,8 @@ if [ ! -x build/desk ]; then
     [ -x build/desk-unproved ] || bash scripts/try.sh desk_cli
     export DESK=$PWD/build/desk-unproved
 fi
-bash relays/demo.sh
+bash relays/install.sh openssh-server openssh-client tzdata
+relays/desk-demo --desk "${DESK:-build/desk}"
 if [ -n "${V:-}" ]; then
     bash scripts/demo.sh
 else

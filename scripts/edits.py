@@ -2,118 +2,120 @@
 """Tries the edits of crates/NAME/more-edits/, of the crates that are named or of all: the prover
 has to refuse each.
 
-`rt must-fail` tries what stands in must-fail/, so each lane works in a copy of the repository in
-which these edits stand there. A lane takes at most 24 edits of one crate, since the first costs a
-whole check of it; there are as many lanes as processors and memory allow. Prints each edit that is
-not refused, and the counts.
+`rt ci` tries what stands in must-fail/, so it runs over a copy of the repository in which these
+edits stand there. It takes what was proved on this machine, and what an edit came to, from its
+earlier runs over the same files; what was not proved, it proves. Prints each edit that is not
+refused, and the counts; a crate of which all are refused gets its line of
+docs/proof/refused-edits.txt (refused.py). `edits.py --sample N` tries N edits that the tree's
+checksum chooses, writes no line, and names the crates whose line is old.
 """
 
-import concurrent.futures
+from __future__ import annotations
+
 import os
 import re
 import shutil
 import subprocess
 import sys
 import tempfile
-from collections.abc import Iterable
+from collections.abc import Mapping
 
+import refused
 import repository
 
 CRATES = os.path.join(repository.ROOT, "crates")
-MOST = 24
-MEMORY = 4 << 30
+# the memory that one check takes at most
+MEMORY = 11 << 29
 
 
-def listed() -> dict[str, list[str]]:
-    """The crates, lowest first, each with the crates of the repository that it stands on."""
-    with open(os.path.join(repository.ROOT, "crates.txt")) as file:
-        lines = [line.partition(":") for line in file if ":" in line and not line.startswith("#")]
-    names = [name for name, _, _ in lines]
-    return {name: [word for word in words.split() if word in names] for name, _, words in lines}
-
-
-def edits_of(name: str) -> list[str]:
-    folder = os.path.join(CRATES, name, "more-edits")
-    if not os.path.isdir(folder):
-        return []
-    return sorted(os.path.join(folder, it) for it in os.listdir(folder) if it.endswith(".edit"))
-
-
-def lanes_of(name: str) -> list[tuple[str, list[str]]]:
-    """The crate's edits, in as few parts of about one length as have at most the greatest number
-    each."""
-    edits = edits_of(name)
-    count = -(-len(edits) // MOST)
-    return [(name, edits[at::count]) for at in range(count)]
-
-
-def copy_crates(names: Iterable[str], room: str) -> None:
-    """Copies the crates without their edits; of what was proved, only the libraries."""
-    for name in names:
-        source, target = os.path.join(CRATES, name), os.path.join(room, "crates", name)
-        shutil.copytree(
-            source, target, ignore=shutil.ignore_patterns("out", "must-fail", "more-edits")
-        )
-        if os.path.isdir(os.path.join(source, "out", "rlib")):
-            shutil.copytree(
-                os.path.join(source, "out", "rlib"), os.path.join(target, "out", "rlib")
-            )
+def copy_with(wanted: Mapping[str, list[str]], room: str) -> None:
+    """Copies the repository's crates, with these edits in must-fail/ and no others."""
+    shutil.copytree(
+        CRATES,
+        os.path.join(room, "crates"),
+        ignore=shutil.ignore_patterns("out", "must-fail", "more-edits"),
+    )
     for file in ("crates.txt", "HANDLES"):
         shutil.copy(os.path.join(repository.ROOT, file), room)
-
-
-def tried(name: str, edits: list[str]) -> tuple[int, list[str]]:
-    """How many of the edits are refused, and what is said of the others."""
-    with tempfile.TemporaryDirectory(prefix="edits-") as room:
-        copy_crates(listed(), room)
-        folder = os.path.join(room, "crates", name, "must-fail")
+    for crate, edits in wanted.items():
+        folder = os.path.join(room, "crates", crate, "must-fail")
         os.makedirs(folder)
         for edit in edits:
             shutil.copy(edit, folder)
-        ran = subprocess.run(
-            ["rt", "must-fail", name],
+
+
+def jobs() -> int:
+    """How many checks the machine has room for: of the processors, those that CORES grants."""
+    cores = int(os.environ.get("CORES") or len(os.sched_getaffinity(0)))
+    with open("/proc/meminfo", encoding="utf-8") as file:
+        [free] = re.findall(r"MemAvailable:\s+(\d+)", file.read())
+    return max(1, min(cores, (int(free) << 10) // MEMORY))
+
+
+def said_of(wanted: Mapping[str, list[str]]) -> str:
+    """What `rt ci` says of these edits."""
+    with tempfile.TemporaryDirectory(prefix="edits-") as room:
+        copy_with(wanted, room)
+        return subprocess.run(
+            ["rt", "ci", *wanted],
             cwd=room,
+            env={"RT_JOBS": str(jobs()), **os.environ},
             stdout=subprocess.PIPE,
             stderr=subprocess.STDOUT,
             text=True,
             check=False,
-        )
-    said = re.findall(rf"^rt: must-fail {name}/\S+: .*$", ran.stdout, re.M)
-    refused = [line for line in said if ": refused, as it must be" in line]
-    # what is refused for another cause than a clause says little, and is shown
-    shown = [line for line in said if line not in refused or "says little" in line]
-    if os.environ.get("VERBOSE"):
-        shown = said
-    if len(said) != len(edits):
-        shown.append(f"{name}: {len(edits) - len(said)} edits were not tried:\n{ran.stdout}")
-    return len(refused), shown
+        ).stdout
 
 
-def main() -> None:
-    crates = listed()
-    names = sys.argv[1:] or list(crates)
-    unknown = [name for name in names if name not in crates]
+def all_tried(wanted: Mapping[str, list[str]], keeps: bool) -> bool:
+    """Tries these edits, and prints what is not refused: whether all are. With `keeps`, a crate of
+    which all are refused gets its line of the record."""
+    digests = {crate: refused.basis(repository.ROOT, crate) for crate in wanted}
+    said = said_of(wanted)
+    every = refused_in_all = 0
+    for crate, edits in wanted.items():
+        lines = re.findall(rf"^rt: must-fail {crate}/\S+: .*$", said, re.M)
+        well = [line for line in lines if ": refused, as it must be" in line]
+        # what is refused for another cause than a clause says little, and is shown
+        is_all_shown = bool(os.environ.get("VERBOSE"))
+        for line in lines:
+            if is_all_shown or line not in well or "says little" in line:
+                print(line)
+        if len(lines) != len(edits):
+            print(f"{crate}: {len(edits) - len(lines)} edits were not tried:\n{said[-2000:]}")
+        every, refused_in_all = every + len(edits), refused_in_all + len(well)
+        is_same = refused.basis(repository.ROOT, crate) == digests[crate]
+        if keeps and len(well) == len(edits) and is_same:
+            refused.keep(crate, len(well), digests[crate])
+    print(f"{every} edits: {refused_in_all} refused, {every - refused_in_all} not refused")
+    return refused_in_all == every
+
+
+def tried_sample(count: int) -> bool:
+    """Tries so many edits that the tree's checksum chooses, and names the crates of which not all
+    were seen refused as the tree is now."""
+    old = refused.old()
+    if old:
+        print(f"their further edits were not tried since they changed: {', '.join(old)}")
+        print(f'to try them: make edits CRATES="{" ".join(old)}"', flush=True)
+    wanted = refused.sample(repository.ROOT, count)
+    for crate, edits in wanted.items():
+        names = ", ".join(os.path.basename(it).removesuffix(".edit") for it in edits)
+        print(f"chosen of {crate}: {names}", flush=True)
+    return all_tried(wanted, keeps=False)
+
+
+def main() -> int:
+    crates = refused.crates(repository.ROOT)
+    if sys.argv[1:2] == ["--sample"]:
+        return 0 if tried_sample(int(sys.argv[2])) else 1
+    unknown = [name for name in sys.argv[1:] if name not in crates]
     if unknown:
         sys.exit(f"crates.txt names no crate {' '.join(unknown)}")
-    for name in sorted({below for each in names for below in crates[each]}, key=list(crates).index):
-        if subprocess.run(
-            ["rt", "lib"], cwd=os.path.join(CRATES, name), stdout=subprocess.DEVNULL, check=False
-        ).returncode:
-            sys.exit(f"{name} is not proved: run rt check in crates/{name}")
-    lanes = [lane for name in reversed(list(crates)) if name in names for lane in lanes_of(name)]
-    with open("/proc/meminfo") as file:
-        [free] = re.findall(r"MemAvailable:\s+(\d+)", file.read())
-    workers = max(1, min(len(os.sched_getaffinity(0)), (int(free) << 10) // MEMORY))
-    refused = 0
-    with concurrent.futures.ThreadPoolExecutor(workers) as pool:
-        for lane in concurrent.futures.as_completed([pool.submit(tried, *lane) for lane in lanes]):
-            count, shown = lane.result()
-            refused += count
-            for line in shown:
-                print(line, flush=True)
-    wanted = sum(len(edits) for _, edits in lanes)
-    print(f"{wanted} edits: {refused} refused, {wanted - refused} not refused")
-    sys.exit(1 if refused != wanted else 0)
+    names = [name for name in crates if name in (sys.argv[1:] or crates)]
+    found = {name: refused.edits_of(repository.ROOT, name) for name in names}
+    return 0 if all_tried({name: it for name, it in found.items() if it}, keeps=True) else 1
 
 
-main()
+if __name__ == "__main__":
+    sys.exit(main())

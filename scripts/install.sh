@@ -22,29 +22,38 @@ put() {
     install -D -m "$1" "$2" "$root$3"
 }
 
-# A text in which the places of programs are written in.
+# Writes the places of the programs into a text, and puts that in place.
 fill() {
     sed "s,@LIBEXECDIR@,$libexec,g; s,@SBINDIR@,$PREFIX/sbin,g; s,@BINDIR@,$PREFIX/bin,g" \
-        "$1" > build/filled
-    put "$2" build/filled "$3"
-    rm -f build/filled
+        "$1" > "$room/filled"
+    put "$2" "$room/filled" "$3"
 }
 
-python3 scripts/make_pages.py build/pages
+# (what is made on the way lies in a folder of its own: others may install at the same time)
+room=$(mktemp -d)
+trap 'rm -rf "$room"' EXIT
+python3 scripts/make_pages.py "$room/pages"
 put 0755 build/desk "$PREFIX/bin/desk"
 put 0755 build/desk-audit "$PREFIX/bin/desk-audit"
 put 0755 packaging/desk-serve "$libexec/desk-serve"
-put 0755 packaging/desk-host "$PREFIX/sbin/desk-host"
+put 0755 packaging/mydesk "$PREFIX/bin/mydesk"
+put 0755 packaging/desk-memory "$libexec/desk-memory"
+python3 scripts/host_program.py "$room/desk-host"
+put 0755 "$room/desk-host" "$PREFIX/sbin/desk-host"
+# (it is of this machine's kind, and needs a C compiler and the header of Debian's package sudo)
+bash scripts/plugin.sh "$room/desk_host.so"
+put 0644 "$room/desk_host.so" "$libexec/desk_host.so"
 put 0644 packaging/host/desk-defaults "$PREFIX/share/doc/steelnewt-host/desk-defaults"
 put 0755 examples/monitoring/check_desk.py "$PREFIX/lib/nagios/plugins/check_desk"
-for page in build/pages/*.[1-8]; do
+for page in "$room"/pages/*.[1-8]; do
     put 0644 "$page" "$PREFIX/share/man/man${page##*.}/$(basename "$page")"
 done
 broker=(consume publish fill refused snapshot compare check-queues broker-definitions)
 for name in desk desk-audit desk-lint desk-import desk-used desk-evidence desk-change-roster \
-    desk-roster desk-relay desk-relay-person "${broker[@]/#/desk-}"; do
-    put 0644 "build/pages/$name.bash" "$PREFIX/share/bash-completion/completions/$name"
-    put 0644 "build/pages/_$name" "$PREFIX/share/zsh/$zsh/_$name"
+    desk-roster desk-demo desk-relay desk-relay-person desk-door desk-signer desk-verify mydesk \
+    "${broker[@]/#/desk-}"; do
+    put 0644 "$room/pages/$name.bash" "$PREFIX/share/bash-completion/completions/$name"
+    put 0644 "$room/pages/_$name" "$PREFIX/share/zsh/$zsh/_$name"
 done
 # The tools, the relay and the broker's programs, with the schemas and the codes (pyproject.toml),
 # where Debian's Python looks for them.
@@ -57,25 +66,30 @@ case $PREFIX in
     /usr) where=(--no-compile) ;; # (the packages compile where they are installed)
     /usr/local) layout='' where=() ;;
 esac
-rm -rf build/python
-mkdir -p build/python
+mkdir -p "$room/python/build/python"
+cp -r --parents pyproject.toml steelnewt_client steelnewt_relay steelnewt_door broker/desk_broker \
+    tools/desk_tools tools/schemas docs/CODES.md "$room/python"
 DEB_PYTHON_INSTALL_LAYOUT=$layout /usr/bin/python3 -m pip --disable-pip-version-check install \
     --quiet --no-index --no-deps --no-build-isolation --ignore-installed --no-warn-script-location \
-    --root-user-action=ignore --root "${root:-/}" "${where[@]}" .
+    --root-user-action=ignore --root "${root:-/}" "${where[@]}" "$room/python"
 packages=("$root$PREFIX"/lib/python3*/dist-packages)
 rm -f "${packages[0]}"/steelnewt-*.dist-info/{INSTALLER,RECORD,REQUESTED,direct_url.json}
-for name in desk-{lint,import,used,evidence,change-roster,roster,relay,relay-person} \
-    "${broker[@]/#/desk-}"; do
+for name in desk-{lint,import,used,evidence,change-roster,roster,demo,relay,relay-person} \
+    desk-{door,signer,verify} "${broker[@]/#/desk-}"; do
     # (nothing of the caller's environment, or of the folder that it is in, is imported)
     sed -i '1s,.*,#!/usr/bin/python3 -I,' "$root$PREFIX/bin/$name"
 done
 mkdir -p "$root$PREFIX/sbin"
-mv "$root$PREFIX/bin/desk-relay-person" "$root$PREFIX/sbin/desk-relay-person"
+for name in desk-relay-person desk-signer; do
+    mv "$root$PREFIX/bin/$name" "$root$PREFIX/sbin/$name"
+done
 # (the lines of people's keys that earlier versions wrote call the relay there)
 mkdir -p "$root$PREFIX/share/steelnewt-relay/relays"
 ln -sfn ../../../bin/desk-relay "$root$PREFIX/share/steelnewt-relay/relays/desk-relay"
 # The programs that tell people of the relay's news, and what a site begins with.
 ln -sfn ../man1/desk-relay.1 "$root$PREFIX/share/man/man8/desk-relay-person.8"
+ln -sfn desk-door.8 "$root$PREFIX/share/man/man8/desk-signer.8"
+ln -sfn ../man8/desk-door.8 "$root$PREFIX/share/man/man1/desk-verify.1"
 for name in notify-mail notify-webhook; do
     put 0755 "relays/$name" "$libexec/$name"
 done
@@ -86,6 +100,8 @@ for kind in gssapi openidc; do
         "$PREFIX/share/doc/steelnewt-relay/examples/desk-page-$kind.conf"
 done
 put 0755 examples/front-ca.sh "$PREFIX/share/doc/steelnewt-relay/examples/front-ca.sh"
+put 0644 examples/door/desk.conf "$PREFIX/share/doc/steelnewt-door/examples/desk.conf"
+[ -e "$root/etc/desk/door.toml" ] || put 0644 door/door.example.toml /etc/desk/door.toml
 [ -e "$root/etc/desk/relay.toml" ] || put 0644 relays/relay.example.toml /etc/desk/relay.toml
 # Several desks behind a broker: its settings.
 for file in rabbitmq.conf tls.conf; do
@@ -103,11 +119,11 @@ done
 for text in README.md CHANGELOG.md \
     docs/{OPERATING,RUNBOOKS,HTTP,RELAYS,AUDITING,ROSTER,SUDOERS,MESSAGES,STORE}.md \
     docs/{CODES,proof/PROOFS,LINT,IMPORT,SECURITY,HOSTS,USED,EVIDENCE,CONTROLS,CHANGING}.md \
-    docs/{PEOPLE,TEAM,SEVERAL}.md; do
-    python3 scripts/installed.py "$text" > build/filled
-    put 0644 build/filled "$doc/$(basename "$text")"
-    rm -f build/filled
+    docs/{PEOPLE,TEAM,SEVERAL,SIGNING,CONCEPTS,PROGRAMS}.md; do
+    python3 scripts/installed.py "$text" > "$room/filled"
+    put 0644 "$room/filled" "$doc/$(basename "$text")"
 done
+put 0644 docs/concepts.svg "$doc/concepts.svg"
 # What the desk answers to messages, for the tests of a relay.
 for file in deliver deliver-admission print-messages; do
     put 0644 "cases/$file.toml" "$doc/cases/$file.toml"

@@ -9,6 +9,7 @@ import re
 import sys
 from collections.abc import Iterator
 
+import picture
 import repository
 from markdown_to_mdoc import INSTALLED, PAGES
 
@@ -20,6 +21,8 @@ OTHERS = ("docs/README.md", "cases/README.md")
 def place(path: str) -> str | None:
     """Where a file of the repository is installed, beside the documents; None if it is not."""
     name = os.path.basename(path)
+    if path == picture.PICTURE:
+        return name
     if path.endswith(".md"):
         is_there = name in PAGES or name in INSTALLED
         return name if is_there and path not in OTHERS else None

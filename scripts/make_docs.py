@@ -9,22 +9,27 @@ stands above it and the calls.
 
 An edit says both at its head: `# wrong: TEXT` is the wrong program that it makes, and several edits
 may share it; `# promise: TEXT` is the promise for which it is refused, by the words with which its
-row of docs/proof/PROMISES.md begins. To `rt` both are comments.
+entry of docs/proof/PROMISES.md begins. To `rt` both are comments.
 """
 
 import collections
 import os
 import re
 import sys
+import textwrap
 from collections.abc import Iterator
 from typing import NamedTuple
 
 import definitions
+import entries
 import repository
 
 DEFINITIONS = "docs/proof/DEFINITIONS.md"
 PROMISES = "docs/proof/PROMISES.md"
-COUNT = re.compile(r"It depends on definitions in these \d+ files\..*?of these\.", re.DOTALL)
+HEADLINE = re.compile(r"^The headline is `.*?(?=\n\n)", re.DOTALL | re.MULTILINE)
+COUNT = re.compile(r"It depends on definitions in these \d+ files\..*?of these\.")
+# how wide a line of a page is
+WIDTH = 120
 # the types that the code declares, which these files name, with where they are declared
 TYPES = re.compile(r"^- \d+ (types that the code declares.*?)\n\n", re.DOTALL | re.MULTILINE)
 DECLARED = re.compile(r"^use Rattle\.(\w+)\.specs\.declared\.\w+\.([A-Z]\w*)", re.MULTILINE)
@@ -88,12 +93,9 @@ def cells_of(line: str) -> list[str]:
     return re.split(r"(?<!\\)\|", line)
 
 
-def promises() -> Iterator[str]:
-    """The first cell of each row of the promises."""
-    for line in repository.read(PROMISES).splitlines():
-        cells = cells_of(line)
-        if len(cells) > 2 and not line.startswith("|--"):
-            yield cells[1].strip()
+def promises() -> list[str]:
+    """The promises, as their entries begin."""
+    return [it.title for it in entries.entries(PROMISES)]
 
 
 def refused() -> dict[str, list[Edit]]:
@@ -104,7 +106,7 @@ def refused() -> dict[str, list[Edit]]:
             named = [promise for promise in found if promise.startswith(words)]
             if len(named) != 1:
                 raise Fault(
-                    f"{PROMISES}: {len(named)} rows begin with the words of an edit: {words}"
+                    f"{PROMISES}: {len(named)} promises begin with the words of an edit: {words}"
                 )
             found[named[0]].append(edit)
     return found
@@ -152,10 +154,13 @@ def with_headline(text: str) -> str:
     count = (
         f"It depends on definitions in these {len(needed.files)} files. They have"
         f" {needed.lines:,} lines without blanks and comments, or {needed.bare:,} without their"
-        f" `use` lines\ntoo; the definitions that the headline needs, directly or through others,"
+        f" `use` lines too; the definitions that the headline needs, directly or through others,"
         f" take {needed.taken:,} of these."
     )
-    text, found = COUNT.subn(count, text)
+    found = 0
+    if headline := HEADLINE.search(text):
+        told, found = COUNT.subn(count, " ".join(headline[0].split()))
+        text = text.replace(headline[0], textwrap.fill(told, WIDTH, break_on_hyphens=False))
     for crate, files in needed.by_crate(crates()).items():
         row = re.compile(rf"^(\| `{crate}` \| )(`\w+`(?:, `\w+`)*)( \|)", re.MULTILINE)
         text, rows = row.subn(rf"\g<1>{quoted(files)}\g<3>", text, count=1)

@@ -34,6 +34,8 @@ DOCUMENTS = [
     ("desk-evidence", 1, "EVIDENCE.md", "put together what an audit rests on"),
     ("desk-change-roster", 1, "CHANGING.md", "change the roster of a running desk"),
     ("desk-roster", 1, "PEOPLE.md", "bring the people of a roster up to date"),
+    ("desk-door", 8, "SIGNING.md", "each message to a desk with its author's signature"),
+    ("mydesk", 1, "SIGNING.md", "ask and approve at a desk with your own signature"),
     ("desk-broker", 7, "SEVERAL.md", "several desks behind a message broker"),
 ]
 

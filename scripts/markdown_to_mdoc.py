@@ -22,10 +22,13 @@ PAGES = {
     "PEOPLE.md": "desk-roster(1)",
     "SEVERAL.md": "desk-broker(7)",
     "HOSTS.md": "desk-host(8)",
+    "SIGNING.md": "desk-door(8)",
 }
 INSTALLED = (
     "README.md",
     "CHANGELOG.md",
+    "CONCEPTS.md",
+    "PROGRAMS.md",
     "OPERATING.md",
     "RUNBOOKS.md",
     "SECURITY.md",

@@ -19,6 +19,7 @@ from collections.abc import Iterator
 import calls
 import contracts
 import definitions
+import entries
 import make_docs
 import repository
 
@@ -98,15 +99,11 @@ def named_definitions(places: str, folder: str) -> Iterator[tuple[str, str]]:
 
 @functools.cache
 def listed() -> dict[tuple[str, str], str]:
-    """The definitions that docs/proof/DEFINITIONS.md names, by their file and name; and the row."""
+    """The definitions that docs/proof/DEFINITIONS.md names, by file and name; and each's title."""
     found: dict[tuple[str, str], str] = {}
-    folder = ""
-    for line in repository.read("docs/proof/DEFINITIONS.md").splitlines():
-        cells = make_docs.cells_of(line)
-        if heading := re.fullmatch(r"### `(\w+)`", line):
-            folder = f"{heading[1]}/specs"
-        elif folder and len(cells) == 7 and "`" in cells[2]:
-            found |= dict.fromkeys(named_definitions(cells[2], folder), cells[1].strip())
+    for it in entries.entries("docs/proof/DEFINITIONS.md"):
+        folder = f"{it.heading.strip('`')}/specs"
+        found |= dict.fromkeys(named_definitions(it.fields["File"], folder), it.title)
     return found
 
 
@@ -167,8 +164,8 @@ def missing_clauses() -> Iterator[str]:
     every = set[str]().union(*clauses().values())
     declared = {name for text in files().values() for name in DECLARED.findall(text)}
     known = {*make_docs.crates(), *OF_RUST, *(name for name in declared if name[0].isupper())}
-    for cells in rows("proof/PROMISES", 4):
-        for part in cells[1].split("; "):
+    for promise in entries.entries(make_docs.PROMISES):
+        for part in promise.fields.get("Contract", "").split("; "):
             bare = re.sub(r"\([^)]*\)", "", part)
             named = [name.removeprefix(it[1]) for name in quoted(bare) if (it := PLACE.match(name))]
             beside = [name for name in named if name in clauses()]
@@ -196,8 +193,8 @@ def missing_laws() -> Iterator[str]:
             law = LAW.fullmatch(name)
             if law and law[2] not in (laws().get(law[1], set()) if law[1] else every):
                 yield f"{page}: there is no law {name}"
-    for cells in rows("proof/PROMISES", 4):
-        for name in quoted(cells[1]):
+    for promise in entries.entries(make_docs.PROMISES):
+        for name in quoted(promise.fields.get("Contract", "")):
             if name.removeprefix("laws::") in every:
                 yield f"docs/proof/PROMISES.md: it names the law {name} without its crate"
 

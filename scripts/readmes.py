@@ -1,9 +1,10 @@
 """The README of each crate: that it is there, that it is short, and that what it names is there.
 
-A crate's README.md says what the crate does, what is proved of it, what is not, and what to read
-first. A file that it names is one of the crate, or of another that it names with its folder; a law
-and a call of a type are public calls of the crate, or of another crate that the page names; any
-other name is declared in the crate, in one that it stands on, or in one that the page names.
+A crate's README.md says what the crate does, what is proved, what is not, and what to read first.
+A file that the page names is one of the crate, or of another crate that the page names with its
+folder; a law and a call of a type are public calls of the crate, or of another crate that the page
+names; any other name is declared in the crate, in one that it stands on, or in one that the page
+names.
 `make quick` asks for all of it.
 """
 
@@ -18,7 +19,7 @@ import names
 import repository
 
 MOST_LINES = 20
-MOST_COLUMNS = 160
+MOST_COLUMNS = 120
 PARTS = ("**Proved.**", "**Not proved.**", "**Read first.**")
 CODE = re.compile(r"[A-Z]\d+")
 # what is outside the crates: a target of make, a program, and a file that quick.py looks up

@@ -1,8 +1,10 @@
 #!/usr/bin/env bash
 # Installs what the gate asks beside the toolchain, where it is not there: sudo, with visudo, and a
 # clock that stands still, curl, nc and sqlite3 for `make peers`, a C compiler for `make faults`,
-# and what the packages, their front and their pages are made and tried with. Where this is not
-# root, or there is no apt-get, nothing is installed.
+# and what the packages, their front and their pages are made and tried with. With `all` also what
+# the tests of the relays, of the tools and of the pages install by themselves, so that no part of
+# the gate runs apt beside another. Where this is not root, or there is no apt-get, nothing is
+# installed.
 set -euo pipefail
 cd "$(dirname "$0")/.."
 export PATH="$PATH:/usr/sbin:/sbin"
@@ -33,7 +35,7 @@ command -v strace >/dev/null || wanted+=(strace)
 command -v zsh >/dev/null || wanted+=(zsh)
 /usr/bin/python3 -c 'import jsonschema' 2>/dev/null || wanted+=(python3-jsonschema)
 # (the packages of the relay and of the broker depend on these)
-for name in flask waitress pika; do
+for name in flask waitress pika cryptography; do
     /usr/bin/python3 -c "import ${name//-/_}" 2>/dev/null || wanted+=("python3-$name")
 done
 /usr/bin/python3 -c 'import pytest' 2>/dev/null || wanted+=(python3-pytest)
@@ -42,11 +44,21 @@ done
 command -v ip >/dev/null || wanted+=(iproute2)
 # A host's sudo at a terminal, and the roots of other Debians: `make hosts`.
 command -v debootstrap >/dev/null || wanted+=(debootstrap)
+command -v tmux >/dev/null || wanted+=(tmux)
 /usr/bin/python3 -c 'import pexpect' 2>/dev/null || wanted+=(python3-pexpect)
 # The broker that the package's consumer is tried with; it is not started.
 [ -d /usr/lib/rabbitmq ] || bash tests/several/tools.sh
 command -v systemd-analyze >/dev/null || wanted+=(systemd)
+command -v dbus-daemon >/dev/null || wanted+=(dbus libpam-systemd)
 command -v adduser >/dev/null || wanted+=(adduser)
-if [ "${#wanted[@]}" -gt 0 ] && [ "$(id -u)" = 0 ] && command -v apt-get >/dev/null; then
+if [ "${1:-}" = all ]; then
+    . scripts/packages.sh
+    mapfile -t documents < <(python3 -m tests.documents.check_team --needs)
+    wanted+=("${relays_packages[@]}" "${tools_packages[@]}" "${types_packages[@]}")
+    wanted+=("${door_packages[@]}")
+    wanted+=("${moving_packages[@]}" "${release_packages[@]}" "${picture_packages[@]}")
+    wanted+=("${documents[@]}")
+fi
+if [ "${#wanted[@]}" -gt 0 ]; then
     bash relays/install.sh "${wanted[@]}"
 fi

@@ -14,7 +14,7 @@ mkdir -p build
 rooms=$(mktemp -d "$PWD/build/try.XXXXXX")
 trap 'rm -rf "$rooms"' EXIT
 
-# Behind the pipe's other end, in a room, is the program that waits.
+# Takes the program out of a room: it waits there for the pipe's other end, which this opens.
 take() {
     exec 3> "$1/policy"
     local found
@@ -23,8 +23,8 @@ take() {
     cp "$found" "$1/taken"
 }
 
-# Builds the program of a crate: the crate, what it is called, and how its words begin that have it
-# read the pipe first.
+# Builds a crate's program. The words here are the crate, the program's name, and the program's own
+# first words, by which it reads the pipe.
 build() {
     local crate=$1 name=$2 room=$rooms/$1 words status=0 try taker
     shift 2

@@ -1,15 +1,13 @@
 #!/usr/bin/env bash
-# Looks through the client, the relays, the broker's programs and the tools, with their tests: mypy
-# in its strictest form (pyproject.toml), and flake8, for Debian 12 has no ruff. It installs what it
-# needs of Debian, where this is root. The last line is 'N programs and modules: types and style
-# fit'.
+# Looks through the client, the relays, the broker's programs, the tools and the hosts' program,
+# with their tests: mypy in its strictest form (pyproject.toml), and flake8, for Debian 12 has no
+# ruff. It installs what it needs of Debian, where this is root. The last line is 'N programs and
+# modules: types and style fit'.
 set -euo pipefail
 cd "$(dirname "$0")/.."
 
-# (mypy reads the types of what is imported, so all of that has to be there)
-bash relays/install.sh mypy python3-typeshed python3-flake8 \
-    python3-aiosmtpd python3-flask python3-jsonschema python3-pika python3-pytest \
-    python3-requests python3-selenium python3-waitress
+. scripts/packages.sh
+bash relays/install.sh "${types_packages[@]}"
 
 # The files of a folder that are Python, with those programs that have no .py in their names.
 python_of() {
@@ -25,9 +23,10 @@ typed() {
         --no-error-summary "$@"
 }
 
-mapfile -t relays < <(python_of relays steelnewt_client steelnewt_relay)
+mapfile -t relays < <(python_of relays door steelnewt_client steelnewt_relay steelnewt_door)
 mapfile -t broker < <(python_of broker)
 mapfile -t tools < <(python_of tools)
+mapfile -t host < <(python_of steelnewt_host)
 mkdir -p build/types
 # (apart, for the tests of the broker and of the tools both have a conftest.py; two at once)
 typed relays "${relays[@]}" > build/types/relays.said 2>&1 &
@@ -35,12 +34,14 @@ relays_ended=$!
 status=0
 MYPYPATH=broker:broker/tests typed broker "${broker[@]}" || status=1
 MYPYPATH=tools:tools/tests typed tools "${tools[@]}" || status=1
+# (hosts may have an older Python)
+typed host --python-version 3.9 "${host[@]}" || status=1
 wait "$relays_ended" || status=1
 cat build/types/relays.said
 # (a line may have more than flake8's 79 columns, and a slice a blank before its colon)
 /usr/bin/python3 -m flake8 --extend-ignore=E203,E501 "${relays[@]}" "${broker[@]}" \
-    "${tools[@]}" || status=1
-count=$((${#relays[@]} + ${#broker[@]} + ${#tools[@]}))
+    "${tools[@]}" "${host[@]}" || status=1
+count=$((${#relays[@]} + ${#broker[@]} + ${#tools[@]} + ${#host[@]}))
 if [ "$status" != 0 ] || [ "$count" -lt 100 ]; then
     echo "$count programs and modules: FAILED"
     exit 1

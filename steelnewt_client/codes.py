@@ -85,7 +85,7 @@ def unusable(status: int, text: str) -> str:
     return f"a front before the desk answers {status}, not the desk: {means}"
 
 
-# Of each code: when it comes, and what to do. A test compares them with docs/CODES.md.
+# When each code comes, and what to do. A test compares them with docs/CODES.md.
 SENTENCES = {
     "M1 TooLong": ("more than 16,384 bytes", "ask in several requests"),
     "M2 NotCanonical": (
@@ -94,9 +94,8 @@ SENTENCES = {
     ),
     "M3 BadField": (
         "canonical JSON, but not a message",
-        "compare its members with the table of its kind; no file is named `sudoedit`, and no person, "
-        "host or target `sudoedit`, `sha224`, `sha256`, `sha384` or `sha512`: sudo would take these "
-        "for its own",
+        "compare its members with the table of its kind; docs/MESSAGES.md, 'Values', has the names "
+        "that sudo keeps for itself",
     ),
     "A1 UnknownPerson": (
         "`by`, or a verdict's `of`, is no person of the roster",
@@ -129,6 +128,31 @@ SENTENCES = {
     "A8 WindowBackwards": (
         "not `at` <= `from` <= `until`",
         "ask again with a window that lies ahead",
+    ),
+    "A20 BadSignature": (
+        "no key made it that the message's author has now, or not for these bytes, this site and "
+        "this purpose",
+        "sign it with a key of `desk-signer list`, for this site",
+    ),
+    "A21 NotOfNow": (
+        "the message came longer after its `at` than the door's `late` says",
+        "look at the relay's clock, and say it anew",
+    ),
+    "A22 OtherRequest": (
+        "an approval was given over other bytes than the desk holds under that name",
+        "do not approve it: find out who showed its approver something else",
+    ),
+    "A23 NoRequest": (
+        "an approval came, and its request not, for two minutes",
+        "approve it once the desk has the request",
+    ),
+    "A24 NameTaken": (
+        "under the request's number the desk holds an approval that was not given over it",
+        "ask under another number",
+    ),
+    "A25 OtherReason": (
+        "an approval was given over another reason or ticket than the request was signed with",
+        "do not approve it: find out who showed its approver something else",
     ),
 }
 

@@ -1,5 +1,6 @@
 """A desk over HTTP (docs/HTTP.md): posts messages to it, and asks it."""
 
+import ipaddress
 import re
 import select
 import socket
@@ -14,8 +15,8 @@ from functools import lru_cache
 from http.client import HTTPConnection, HTTPException, IncompleteRead, RemoteDisconnected
 
 from steelnewt_client.codes import NO_ROUTE, TOO_LONG, Answer, Fate, judge, unusable
-from steelnewt_client.messages import MOST_BYTES
 from steelnewt_client.moments import of_stamp, stamp
+from steelnewt_client.signed import is_too_long
 from steelnewt_client.told import Grant, Name, Told, read_names
 
 CONNECTS_IN = 5.0  # seconds
@@ -89,6 +90,16 @@ class Place:
         is_encrypted = parts.scheme == "https"
         port = port or (443 if is_encrypted else 80)
         return Place("", host, port, is_encrypted, parts.path.rstrip("/"))
+
+    @property
+    def is_here(self) -> bool:
+        """Whether it is on this machine, by its address alone: no name is looked up."""
+        if self.path or self.host == "localhost":
+            return True
+        try:
+            return ipaddress.ip_address(self.host).is_loopback
+        except ValueError:
+            return False
 
     def connected(self, patience: float) -> socket.socket:
         if not self.path:
@@ -291,13 +302,13 @@ class Desk:
             raise Silent(unreached(fault)) from None
 
     def begin(self, relay: str, body: bytes) -> Post | Answer:
-        """Sends a message as the relay's; the post, or the answer where there is one already. It
-        knows no TLS.
+        """Sends a message, or a line with its signature, as the relay's; the post, or the answer
+        where there is one already. It knows no TLS.
 
         (A desk on this machine is connected to at once, or not at all, and there is room for the
         longest message on the way to it: nothing waits here.)
         """
-        if len(body) > MOST_BYTES:
+        if is_too_long(body):
             # the desk says so by the length alone, and need not be sent the bytes
             return Answer(Fate.FINAL, TOO_LONG)
         head = f"POST {self.place.prefix}{route(relay)} HTTP/1.1\r\nHost: {self.host()}\r\n"
@@ -322,7 +333,7 @@ class Desk:
         if not self.place.is_encrypted:
             begun = self.begin(relay, body)
             return begun if isinstance(begun, Answer) else begun.wait()
-        if len(body) > MOST_BYTES:
+        if is_too_long(body):
             return Answer(Fate.FINAL, TOO_LONG)
         try:
             reply = self.posting.exchange("POST", route(relay), body)
@@ -397,11 +408,13 @@ def route(relay: str) -> str:
 
 
 def plain_desk(address: str, patience: float = ANSWERS_IN) -> Desk:
-    """A desk itself, and no front: at its socket, or at a host and a port."""
+    """A desk itself on this machine, and no front: at its socket, or at a port of loopback."""
     if re.fullmatch(r"unix:/.+|http://[^/]+/?", address):
         with suppress(BadAddress):
-            return Desk(address, patience=patience)
-    raise BadAddress(f"{address!r} is neither unix:/PATH nor http://HOST:PORT")
+            found = Desk(address, patience=patience)
+            if found.place.is_here:
+                return found
+    raise BadAddress(f"{address!r} is neither unix:/PATH nor http://127.0.0.1:PORT")
 
 
 def no_reply(error: Exception) -> Answer:

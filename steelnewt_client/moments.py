@@ -38,6 +38,7 @@ def of_stamp(text: str) -> datetime:
         raise BadMoment(f"{text!r} is no moment of the calendar") from None
 
 
+@lru_cache(maxsize=16_384)
 def seconds(text: str) -> int:
     """A moment in seconds since 1970."""
     return calendar.timegm(of_stamp(text).timetuple())

@@ -46,9 +46,9 @@ def read_names(text: str) -> dict[Name, Told]:
 
 
 def entries(text: str) -> list[tuple[Name, Told]]:
-    """Each name with what is told of it. Most are told as they were the last time, and those are
-    not read again: so the text is cut where one may end, and where each piece and the rest are
-    JSON, the whole is, and says the same."""
+    """Each name of the document, and what the desk tells about the name. The text is split between
+    names, so that unchanged names come from the cache. If every piece and the rest are JSON, the
+    whole document is, with the same meaning."""
     names, is_cut, windows = text.rpartition(BEHIND)
     if is_cut and names.startswith(FIRST) and names.endswith("}"):
         pieces = names[len(FIRST) : -1].split(BETWEEN)

@@ -7,17 +7,21 @@ from dataclasses import dataclass
 from datetime import tzinfo
 
 from steelnewt_client.desk import BadAddress, Desk, Place
+from steelnewt_client.signed import SITE
+from steelnewt_relay.caller import Files
 from steelnewt_relay.moments import zone_of
 from steelnewt_relay.outbox import Outbox
 from steelnewt_relay.reasons import Demand, demand_of
 from steelnewt_relay.roster import Roster
 
 KEYS = {"desk", "relay", "roster", "outbox", "zone", "numbers", "auditors"}
-KEYS |= {"tls", "page", "why", "notify"}
+KEYS |= {"tls", "page", "why", "notify", "ssh", "signing"}
+SIGNING_KEYS = {"site", "required"}
 NOTIFY_KEYS = {"program", "seconds", "link"}
 MOST_SECONDS = 600  # that a program may take to tell: the unit's stop waits longer
 PAGE_KEYS = {"listen", "secret", "signing_key"}
 TLS_KEYS = {"certificate", "key", "ca", "reader_certificate", "reader_key"}
+SSH_KEYS = {"keys", "principals", "revoked"}
 
 
 TWO_KEYS = (
@@ -57,6 +61,27 @@ def notify_of(table: dict[str, object]) -> Notify:
 
 
 @dataclass(frozen=True)
+class Signing:
+    """How people sign (docs/SIGNING.md): the site's name, and whether what is not signed is taken
+    here."""
+
+    site: str
+    required: bool
+
+
+def signing_of(table: object) -> Signing:
+    """The settings below [signing]."""
+    if not isinstance(table, dict) or table.keys() - SIGNING_KEYS:
+        raise ValueError("[signing] has site and required, and nothing else")
+    site, required = table.get("site"), table.get("required", True)
+    if not isinstance(site, str) or not SITE.fullmatch(site):
+        raise ValueError("[signing] site is the name that door.toml has, as desk.example")
+    if not isinstance(required, bool):
+        raise ValueError("[signing] required is true or false")
+    return Signing(site, required)
+
+
+@dataclass(frozen=True)
 class Config:
     desk: str
     relay: str
@@ -67,11 +92,18 @@ class Config:
     auditors: str
     tls: dict[str, str]
     page: dict[str, str]
+    ssh: Files
     demand: Demand
     notify: Notify | None
+    signing: Signing | None = None
 
     def open_outbox(self) -> Outbox:
-        return Outbox(self.outbox, self.numbers)
+        return Outbox(self.outbox, self.numbers, self.signing is not None)
+
+    @property
+    def is_signed(self) -> bool:
+        """Whether nothing unsigned is sent from here."""
+        return self.signing is not None and self.signing.required
 
     def open_desk(self) -> Desk:
         own, reader = self.pair("certificate", "key"), self.pair("reader_certificate", "reader_key")
@@ -126,24 +158,33 @@ def key_of(path: str) -> str:
     return key
 
 
-def check_address(text: str) -> None:
+def check_address(text: str, ca: str | None) -> None:
+    """Refuses a way to the desk on which others could answer in its place, and acknowledge what it
+    never got."""
     try:
-        Place.of(text)
+        place = Place.of(text)
     except BadAddress as fault:
         raise BadConfig(f"desk = {fault}") from None
+    if place.is_here:
+        return
+    if not place.is_encrypted:
+        raise BadConfig(f"desk = {text!r}: without TLS only at 127.0.0.1; write https://")
+    if ca is None:
+        raise BadConfig(f"desk = {text!r}: name the authority of its front, [tls] ca")
 
 
 def read_config(path: str) -> Config:
     try:
         with open(path, "rb") as file:
             found = tomllib.load(file)
-        tls, page = found.get("tls", {}), found.get("page", {})
+        tls, page, ssh = (found.get(it, {}) for it in ("tls", "page", "ssh"))
         unknown = (found.keys() - KEYS) | (page.keys() - PAGE_KEYS) | (tls.keys() - TLS_KEYS)
+        unknown |= ssh.keys() - SSH_KEYS
         if unknown:
             raise BadConfig(f"{path}: no setting is named {', '.join(sorted(unknown))}")
-        if not all(isinstance(it, str) for it in (*page.values(), *tls.values())):
-            raise BadConfig(f"{path}: a setting of [page] or [tls] is no text between quotes")
-        check_address(found["desk"])
+        if not all(isinstance(it, str) for it in (*page.values(), *tls.values(), *ssh.values())):
+            raise BadConfig(f"{path}: a setting of [page], [ssh] or [tls] is no text in quotes")
+        check_address(found["desk"], tls.get("ca"))
         first, last = found.get("numbers", [1, 999_999_999])
         return Config(
             desk=found["desk"],
@@ -155,8 +196,10 @@ def read_config(path: str) -> Config:
             auditors=found.get("auditors", ""),
             tls=tls,
             page=page,
+            ssh=Files(**ssh),
             demand=demand_of(found.get("why", {})),
             notify=notify_of(found["notify"]) if "notify" in found else None,
+            signing=signing_of(found["signing"]) if "signing" in found else None,
         )
     except KeyError as fault:
         raise BadConfig(f"{path}: the setting {fault} is missing") from None

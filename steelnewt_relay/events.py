@@ -82,8 +82,8 @@ class Finder:
         return self.event("ends-soon", kept, standing, when)
 
     def of_past(self, kept: Kept) -> Event | None:
-        """What a request came to whose window is over: nothing is told of one that was refused or
-        revoked, which was told before."""
+        """What a request came to whose window is over. A refused or revoked request gives no event:
+        the refusal or revocation itself was told before."""
         standing = self.standing(kept)
         if standing.grant:
             return self.event("granted", kept, standing, f"{standing.name} was granted.")
@@ -103,8 +103,11 @@ class Finder:
             data |= {name: asked[name] for name in COPIED}
             approvers = self.approvers(standing)
             lines = telling.kept_lines(standing.kept, self.zone)
-            told += [f"  {label:<9} {text}" for label, text in lines] + [self.fate(standing)]
-        data |= {"approvers": approvers, "to": told_to(kind, by, who, standing, approvers)}
+            told += [*telling.rows(lines), self.fate(standing)]
+        to = told_to(kind, by, who, standing, approvers)
+        # (whoever gives a verdict may name anybody, and a mail goes to that name at the site)
+        people = self.knowledge.roster.people
+        data |= {"approvers": approvers, "to": [it for it in to if it in people]}
         if kind == "asked" and approvers:
             told.append(f"To approve it they write: approve {who} {no}")
         text = "\n".join([*told, *([self.link] if self.link else [])])

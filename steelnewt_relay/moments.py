@@ -38,8 +38,8 @@ def length_of(text: str) -> timedelta:
 
 
 def in_units(length: timedelta) -> str:
-    """The same as a person would write it, such as 1h30m. Seconds of a longer one are those for
-    which somebody looked at it before they said yes: they are made up for."""
+    """A length of time as a person writes it, such as 1h30m. A length over five minutes is rounded
+    up to whole minutes: its odd seconds went by while the asker read the confirmation."""
     left, words = int(length.total_seconds()), ""
     if left > 300:
         left += -left % 60

@@ -11,9 +11,12 @@ import sqlite3
 from collections.abc import Iterable, Iterator
 from contextlib import contextmanager
 from dataclasses import dataclass, replace
+from datetime import timedelta
 from functools import lru_cache
 
 from steelnewt_client.messages import BadWord, Request, Verdict, Wish, measured, read
+from steelnewt_client.moments import of_stamp, stamp
+from steelnewt_client.signed import Signed, reason_digest
 from steelnewt_relay.reasons import NONE, Reason
 
 SCHEMA = """
@@ -38,14 +41,25 @@ CREATE TABLE IF NOT EXISTS reasons (
     id INTEGER PRIMARY KEY, why TEXT NOT NULL, ticket TEXT NOT NULL
 ) STRICT;
 CREATE TABLE IF NOT EXISTS said (id INTEGER PRIMARY KEY, words TEXT NOT NULL) STRICT;
+CREATE TABLE IF NOT EXISTS prepared (
+    body TEXT PRIMARY KEY, by TEXT NOT NULL, why TEXT NOT NULL, ticket TEXT NOT NULL
+) STRICT;
+CREATE TABLE IF NOT EXISTS signatures (
+    id INTEGER PRIMARY KEY, signature TEXT NOT NULL, about TEXT NOT NULL, why TEXT NOT NULL
+) STRICT;
 """
 MADE = set(re.findall(r"IF NOT EXISTS (\w+)", SCHEMA))
-COLUMNS = "id, body, state, answer, why, ticket"
+COLUMNS = (
+    "id, body, state, answer, reasons.why, ticket, signature, about, signatures.why"
+)
+JOINED = "messages LEFT JOIN reasons USING (id) LEFT JOIN signatures USING (id)"
 # Verdicts on the requests whose names a list of JSON has.
 ON_NAMES = """kind <> 'request'
  AND (of, no) IN (SELECT value ->> 0, value ->> 1 FROM json_each(?))"""
 # The requests of such names.
 NAMED = ON_NAMES.replace("<>", "=")
+# How long somebody may take to sign what was prepared.
+PREPARED_FOR = timedelta(hours=1)
 # Why an approval is not posted.
 UNASKED = "the desk refused the request that it approves"
 
@@ -59,7 +73,7 @@ class Kept:
     """A message that is on the disk, and what the desk answered so far.
 
     `state` is 'kept' until the desk answers, then 'acked' or 'refused'. `answer` is the desk's
-    refusal, or, of one that is kept, why it could not be posted yet.
+    refusal; while the message is kept, it is why the post failed.
     """
 
     id: int
@@ -68,6 +82,7 @@ class Kept:
     answer: str
     is_new: bool = True
     reason: Reason = NONE
+    signature: tuple[str, str, str] = ("", "", "")
 
     @property
     def request(self) -> Request:
@@ -79,16 +94,31 @@ class Kept:
         assert isinstance(self.message, Verdict)
         return self.message
 
+    @property
+    def line(self) -> bytes:
+        """What is posted: the message, and its author's signature where there is one."""
+        return Signed(self.message.text(), *self.signature).line().encode("utf-8")
+
 
 @lru_cache(maxsize=16_384)
-def kept_of(id: int, body: str, state: str, answer: str, why: str, ticket: str) -> Kept:
+def kept_of(
+    id: int,
+    body: str,
+    state: str,
+    answer: str,
+    reason: tuple[str, str],
+    signature: tuple[str, str, str],
+) -> Kept:
     """A row of the outbox: one that is as it was is not read again."""
-    return Kept(id, read(body), state, answer, reason=Reason(why, ticket))
+    return Kept(id, read(body), state, answer, True, Reason(*reason), signature)
 
 
 class Outbox:
-    def __init__(self, path: str, numbers: tuple[int, int] = (1, 999_999_999)) -> None:
-        self.numbers = numbers
+    def __init__(
+        self, path: str, numbers: tuple[int, int] = (1, 999_999_999), signs: bool = True
+    ) -> None:
+        """(`signs` is false where no door takes signatures: a desk itself takes messages alone)"""
+        self.numbers, self.signs = numbers, signs
         try:
             # (SQLite gives its log the rights of the file)
             os.close(os.open(path, os.O_CREAT | os.O_RDWR, 0o600))
@@ -167,6 +197,49 @@ class Outbox:
                 raise BadWord(f"{UNASKED}: there is nothing to approve")
             return self.insert(verdict, verdict.kind, verdict.of, verdict.no, once)
 
+    def prepare_request(self, by: str, wish: Wish, at: str, reason: Reason = NONE) -> Request:
+        """Gives a wish the person's next number, for its author to sign. It is sent once it comes
+        back signed; a number that was prepared is used."""
+        with self.writing():
+            request = Request(by, self.next_number(by), at, wish)
+            self.prepare(request, reason)
+            return request
+
+    def prepare_verdict(self, verdict: Verdict, reason: Reason = NONE) -> None:
+        """Notes a verdict for its author to sign, with the reason that the request has."""
+        with self.writing():
+            if self.is_approval_of_refused(verdict):
+                raise BadWord(f"{UNASKED}: there is nothing to approve")
+            self.prepare(verdict, reason)
+
+    def prepare(self, message: Request | Verdict, reason: Reason) -> None:
+        old = stamp(of_stamp(message.at) - PREPARED_FOR)
+        self.base.execute("DELETE FROM prepared WHERE body ->> '$.at' < ?", (old,))
+        row = (measured(message.text()), message.by, reason.why, reason.ticket)
+        self.base.execute("INSERT OR REPLACE INTO prepared VALUES (?, ?, ?, ?)", row)
+
+    def keep_signed(self, by: str, signed: Signed) -> Kept:
+        """Keeps a message that was prepared for this person, with the signature. The same message
+        again is the same, with the signature that came first."""
+        with self.writing():
+            row = self.base.execute(
+                "SELECT why, ticket FROM prepared WHERE body = ? AND by = ?", (signed.message, by)
+            ).fetchone()
+            if row is None:
+                raise BadWord("this was not prepared for you here, or too long ago: begin again")
+            if signed.why != reason_digest(*row):
+                raise BadWord("this was signed with another reason or ticket: begin again")
+            message = read(signed.message)
+            is_request = isinstance(message, Request)
+            of = message.by if isinstance(message, Request) else message.of
+            kind = "request" if isinstance(message, Request) else message.kind
+            kept = self.insert(message, kind, of, message.no, None)
+            what = (kept.id, signed.signature, signed.about, signed.why)
+            self.base.execute("INSERT OR IGNORE INTO signatures VALUES (?, ?, ?, ?)", what)
+            if is_request and row != ("", ""):
+                self.base.execute("INSERT OR IGNORE INTO reasons VALUES (?, ?, ?)", (kept.id, *row))
+            return replace(self.entry(kept.id), is_new=kept.is_new)
+
     def is_approval_of_refused(self, verdict: Verdict) -> bool:
         request = self.request(verdict.of, verdict.no) if verdict.kind == "approve" else None
         return request is not None and request.state == "refused"
@@ -205,14 +278,16 @@ class Outbox:
     def find(self, where: str, *values: object) -> list[Kept]:
         """Messages in the order in which they were kept."""
         rows = self.base.execute(
-            f"SELECT {COLUMNS} FROM messages LEFT JOIN reasons USING (id) WHERE {where}"
-            " ORDER BY id",
-            values,
+            f"SELECT {COLUMNS} FROM {JOINED} WHERE {where} ORDER BY id", values
         )
         return [
-            kept_of(id, body, state, answer, why or "", ticket or "")
-            for id, body, state, answer, why, ticket in rows
+            kept_of(*row[:4], (row[4] or "", row[5] or ""), self.signature_of(*row[6:]))
+            for row in rows
         ]
+
+    def signature_of(self, *parts: str | None) -> tuple[str, str, str]:
+        signature, about, why = (it or "" if self.signs else "" for it in parts)
+        return signature, about, why
 
     def unposted(self) -> list[Kept]:
         return self.find("state = 'kept'")
@@ -228,9 +303,9 @@ class Outbox:
         return self.find("kind = 'request' AND body ->> '$.until' >= ?", at)
 
     def first_open(self, at: str, behind: int = 0) -> tuple[str, str, int]:
-        """The moment from which on the requests ask that were kept behind one, and whose window
-        ends at a moment or later: that moment itself where none asks from an earlier one on; the
-        end of the request that does; and the last message that is kept."""
+        """When the first window begins among the requests that were kept behind the message of this
+        number and that end at `at` or later, and when that request ends; `at` twice where no window
+        begins before it. The third is the number of the last message that is kept."""
         row = self.base.execute(
             "SELECT min(body ->> '$.from'), body ->> '$.until' FROM messages"
             " WHERE kind = 'request' AND id > ? AND body ->> '$.until' >= ?",

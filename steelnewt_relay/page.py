@@ -40,6 +40,7 @@ from steelnewt_relay.posting import post_one
 from steelnewt_relay.reasons import Reason
 from steelnewt_relay.roster import BadRoster, Roster
 from steelnewt_relay.sharing import Shared
+from steelnewt_relay.signing import SIGN
 from steelnewt_relay.standing import SHOWN_FOR, Board, Knowledge, Row, Standing, State
 from steelnewt_relay.timeline import timeline
 from steelnewt_relay.words import BadWords, checked_if, split, unescaped, window_of
@@ -88,15 +89,15 @@ HEADERS = {
 
 class Seen:
     """What the page saw last: the board, and from which moment on something is asked that is open.
-    Of both, what did not change since is not looked for again."""
+    Both are kept, and only newer messages are read."""
 
     def __init__(self) -> None:
         self.board: Board | None = None
         self.first = "", "", 0
 
     def first_open(self, outbox: Outbox, at: str) -> str:
-        """The moment from which on the requests ask whose window ends at a moment or later; that
-        moment itself where none asks from an earlier one on."""
+        """When the first window begins among those that end at `at` or later; `at` itself where
+        none begins before it."""
         begins, ends, last = self.first
         if ends < at:
             self.first = outbox.first_open(at)
@@ -132,8 +133,9 @@ class Visit:
         return Knowledge(self.outbox, self.desk, self.roster, self.now)
 
     def shared_knowledge(self, asked: list[Kept], is_all: bool) -> tuple[Knowledge, Board]:
-        """The same, of what is open and of what a person asked, by a question for all who come at
-        the same time; a day's, so that they ask the same."""
+        """What is known of everything open and of what a person asked. Whoever comes at the same
+        time shares one question to the desk: it begins with a whole day, so that all ask the
+        same."""
         begins = [it.request.wish.begins for it in asked]
         first = of_stamp(min([self.seen.first_open(self.outbox, stamp(self.now)), *begins]))
         first = first if is_all else max(first, self.now - SHOWN_FOR)
@@ -143,8 +145,7 @@ class Visit:
         return found, board
 
     def look(self, day: datetime) -> Board:
-        """What is known at this moment, which is later than that at which anybody came who asks
-        for it."""
+        """What is known at this moment: everybody who shares this question came before it."""
         found = Knowledge(self.outbox, self.desk, self.roster, now())
         self.seen.board = board = found.make_board(day, self.seen.board)
         return board
@@ -411,7 +412,7 @@ def show_history() -> str:
 
 
 def show_form(visit: Visit, words: dict[str, str], text: str) -> str:
-    """The form with the words that were given, and what is wrong with them."""
+    """The form, filled with the words that were given, and a text that says what is wrong."""
     return flask.render_template(
         "ask.html",
         person=visit.person,
@@ -463,6 +464,8 @@ def send() -> Response:
 
 def keep(visit: Visit, said: dict[str, Any]) -> Kept:
     """Keeps what the token says, as of the moment of saying yes to it."""
+    if visit.config.is_signed:
+        raise BadWord(SIGN)
     if said["what"] == "send-verdict":
         verdict = Verdict(visit.person, said["kind"], said["of"], said["no"], stamp(visit.now))
         return visit.outbox.keep_verdict(verdict, said["once"])

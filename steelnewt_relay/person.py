@@ -1,75 +1,41 @@
 """The program `desk-relay-person`: the relay's authorized_keys, a line for each person's key."""
 
 import argparse
-import base64
 import contextlib
 import fcntl
 import os
 import re
 import secrets
 import stat
-import subprocess
 import sys
 from collections.abc import Iterator
-from dataclasses import dataclass
 
 from steelnewt_client.names import PERSON
 from steelnewt_client.places import place
+from steelnewt_relay.calls import end_calls
+from steelnewt_relay.keys import (
+    KEY,
+    KEYS,
+    LINE,
+    BadKey,
+    Holder,
+    digest_of,
+    fingerprints,
+    holders_in,
+    lines_of,
+)
 
-KEYS = "/var/lib/desk-relay/.ssh/authorized_keys"
 RELAY = place("relays/desk-relay", "bin/desk-relay")
 # The longest file that is read: a public key of 16,384 bits has some 3,000 bytes.
 MOST = 8192
-# A public key's kinds that sshd takes: no certificate, which says who it is by itself, and no DSA.
-KINDS = (
-    r"ssh-ed25519|ssh-rsa|ecdsa-sha2-nistp(?:256|384|521)"
-    r"|sk-ssh-ed25519@openssh\.com|sk-ecdsa-sha2-nistp256@openssh\.com"
-)
-KEY = re.compile(rf"({KINDS}) +([A-Za-z0-9+/]+={{0,2}})(?: [ -~]*)?")
-PATH = r"[A-Za-z0-9._/+-]+"
-# A line that this program wrote, or one that its documents used to say.
-LINE = re.compile(
-    rf'restrict,pty,command="(?:{PATH}/)?desk-relay(?: --config {PATH})? --person ({PERSON})"'
-    rf" ({KINDS}) +([A-Za-z0-9+/]+={{0,2}})(?: [ -~]*)?"
-)
 
 
 class Refused(Exception):
     """Nothing was changed; the text says why."""
 
 
-@dataclass(frozen=True)
-class Holder:
-    """A person's key, and the line that lets it in."""
-
-    name: str
-    kind: str
-    key: str
-    line: str
-
-    def has(self, key: str) -> bool:
-        """Whether that is the same key, however it is written."""
-        return base64.b64decode(self.key) == base64.b64decode(key)
-
-
-def fingerprint(kind: str, key: str) -> str:
-    """What ssh-keygen says of one key: its size, its digest and its kind."""
-    ran = subprocess.run(
-        ["ssh-keygen", "-lf", "-"],
-        input=f"{kind} {key} key\n",
-        capture_output=True,
-        text=True,
-        check=False,
-    )
-    lines = ran.stdout.splitlines()
-    if ran.returncode != 0 or len(lines) != 1:
-        raise Refused(f"ssh-keygen takes it for no public key: {ran.stderr.strip()}")
-    size, digest, _, form = lines[0].split(" ")
-    return f"{digest} {form} {size}"
-
-
-def key_in(path: str) -> tuple[str, str]:
-    """The one public key in a file, which has nothing beside it."""
+def key_in(path: str) -> str:
+    """The one public key in a file, which has nothing beside it: its kind and itself."""
     try:
         with open(path, "rb") as file:
             given = file.read(MOST + 1)
@@ -87,8 +53,7 @@ def key_in(path: str) -> tuple[str, str]:
             f"{path} is no public key alone: its line begins with the key's kind, as ssh-ed25519,"
             " and has no options"
         )
-    fingerprint(found[1], found[2])
-    return found[1], found[2]
+    return f"{found[1]} {found[2]}"
 
 
 class Keys:
@@ -116,27 +81,29 @@ class Keys:
             raise Refused(f"{self.path} cannot be read: {fault.strerror}") from None
         with open(file, encoding="utf-8", newline="\n") as text:
             try:
-                # (sshd's lines end at nothing else)
-                return text.read().removesuffix("\n").split("\n")
+                return lines_of(text.read())
             except ValueError:
                 raise Refused(f"{self.path} is no text") from None
 
     def holders(self) -> Iterator[tuple[int, str, Holder | None]]:
         """Each line that lets somebody in: its number, itself, and whose it is."""
-        for number, line in enumerate(self.lines(), 1):
-            if line.strip() and not line.startswith("#"):
-                found = LINE.fullmatch(line)
-                yield number, line, Holder(found[1], found[2], found[3], line) if found else None
+        yield from holders_in("\n".join(self.lines()))
 
-    def known(self) -> list[Holder]:
-        """The keys of persons; refused where a line is something else."""
-        others = [number for number, _, holder in self.holders() if holder is None]
-        if others:
-            raise Refused(
-                f"{self.path}: line {others[0]} is no person's key, and may let its holder in as"
-                " everybody: look at it, and take it away"
-            )
-        return [holder for _, _, holder in self.holders() if holder]
+    def known(self) -> dict[Holder, str]:
+        """The keys of persons, each with its fingerprint; refused where a line is something else,
+        or names another key's digest."""
+        listed = list(self.holders())
+        found = [holder for _, _, holder in listed if holder]
+        prints = dict(zip(found, fingerprints(it.bare for it in found), strict=True))
+        for number, _, holder in listed:
+            if holder is None:
+                raise Refused(
+                    f"{self.path}: line {number} is no person's key, and may let its holder in as"
+                    " everybody: look at it, and take it away"
+                )
+            if holder.said and holder.said != digest_of(prints[holder]):
+                raise Refused(f"{self.path}: line {number} names the digest of another key")
+        return prints
 
     def write(self, lines: list[str]) -> None:
         """Puts these lines into the place of all others, in one step."""
@@ -158,38 +125,67 @@ class Keys:
             raise Refused(f"{self.path} cannot be written: {fault.strerror}") from None
 
 
-def add(keys: Keys, name: str, path: str, config: str | None) -> str:
-    kind, key = key_in(path)
-    print_of = fingerprint(kind, key)
-    for holder in keys.known():
-        if holder.has(key) and holder.name != name:
-            raise Refused(f"that key is {holder.name}'s: {print_of}")
-        if holder.has(key):
-            return f"{name} has that key: {print_of}"
+def line_of(name: str, key: str, digest: str, config: str | None) -> str:
+    """The line that lets a person in with a key."""
     settings = f" --config {config}" if config else ""
-    line = f'restrict,pty,command="{RELAY}{settings} --person {name}" {kind} {key} {name}'
+    command = f"{RELAY}{settings} --person {name} --key {digest}"
+    line = f'restrict,pty,command="{command}" {key} {name}'
     if not LINE.fullmatch(line):
         raise Refused(f"no such line can stand in the file: {line}")
-    keys.write([*keys.lines(), line])
+    return line
+
+
+def add(keys: Keys, name: str, path: str, config: str | None) -> str:
+    key = key_in(path)
+    [print_of] = fingerprints([key])
+    # (sshd compares keys as they are read, and one may be written in several ways)
+    for holder, known in keys.known().items():
+        if digest_of(known) == digest_of(print_of) and holder.name != name:
+            raise Refused(f"that key is {holder.name}'s: {print_of}")
+        if digest_of(known) == digest_of(print_of):
+            return f"{name} has that key: {print_of}"
+    keys.write([*keys.lines(), line_of(name, key, digest_of(print_of), config)])
     return f"{name} may call with {print_of}"
 
 
 def remove(keys: Keys, name: str) -> str:
-    gone = [holder for holder in keys.known() if holder.name == name]
+    """Takes away a person's keys, and ends the calls that began with one of them."""
+    gone = {holder: it for holder, it in keys.known().items() if holder.name == name}
     if not gone:
         raise Refused(f"{name} has no key here")
     lines = {holder.line for holder in gone}
     keys.write([line for line in keys.lines() if line not in lines])
-    prints = ", ".join(fingerprint(holder.kind, holder.key) for holder in gone)
-    return f"{name} may call no longer with {prints}. What was granted stays: revoke that"
+    ended = end_calls(name, [digest_of(it) for it in gone.values()])
+    were = f" {ended} of {name}'s calls were open, and ended." if ended else ""
+    prints = ", ".join(gone.values())
+    return f"{name} may call no longer with {prints}.{were} What was granted stays: revoke that"
+
+
+def renew(keys: Keys) -> str:
+    """Writes each line of an older version, which names no digest, as this one does."""
+    new = {
+        holder.line: renewed(holder, digest_of(it))
+        for holder, it in keys.known().items()
+        if not holder.said
+    }
+    if new:
+        keys.write([new.get(line, line) for line in keys.lines()])
+    return f"{len(new)} lines were written anew"
+
+
+def renewed(holder: Holder, digest: str) -> str:
+    """The line of a holder with the key's digest behind the name."""
+    command = f" --person {holder.name}"
+    return holder.line.replace(f'{command}"', f'{command} --key {digest}"', 1)
 
 
 def show(keys: Keys) -> int:
     """Prints who has which key; 1 where a line is no person's."""
-    status = 0
-    for number, _, holder in keys.holders():
+    status, listed = 0, list(keys.holders())
+    prints = iter(fingerprints(holder.bare for _, _, holder in listed if holder))
+    for number, _, holder in listed:
         if holder:
-            print(f"{holder.name} {fingerprint(holder.kind, holder.key)}")
+            print(f"{holder.name} {next(prints)}")
         else:
             print(f"line {number} is no person's key: look at it", file=sys.stderr)
             status = 1
@@ -209,22 +205,25 @@ def parser() -> argparse.ArgumentParser:
     removing = jobs.add_parser("remove", help="take away each key of a person")
     removing.add_argument("name", metavar="NAME")
     jobs.add_parser("list", help="print who has which key")
+    jobs.add_parser("renew", help="write the lines of an older version as this one does")
     return found
 
 
 def main(words: list[str] | None = None) -> int:
     said = parser().parse_args(words)
     try:
-        if said.job != "list" and not re.fullmatch(PERSON, said.name):
+        if said.job in ("add", "remove") and not re.fullmatch(PERSON, said.name):
             raise Refused(f"{ascii(said.name)} is no person's name, such as ann")
         keys = Keys(said.keys)
         if said.job == "list":
             return show(keys)
         if said.job == "add":
             print(add(keys, said.name, said.file, said.config))
-        else:
+        elif said.job == "remove":
             print(remove(keys, said.name))
+        else:
+            print(renew(keys))
         return 0
-    except Refused as fault:
+    except (Refused, BadKey) as fault:
         print(f"desk-relay-person: {fault}", file=sys.stderr)
         return 2

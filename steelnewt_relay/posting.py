@@ -23,7 +23,7 @@ def try_to_post(outbox: Outbox, desk: Desk, kept: Kept) -> None:
     """Posts a message and notes the answer. `Silent` where nothing can be reached."""
     if kept.state != "kept" or not is_ready(outbox, kept):
         return
-    answer = desk.post(desk.relay, kept.message.text().encode("utf-8"))
+    answer = desk.post(desk.relay, kept.line)
     if answer.fate is Fate.TAKEN:
         outbox.answered(kept.id, "acked", "")
     elif answer.fate is Fate.FINAL:

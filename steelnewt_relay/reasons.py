@@ -5,6 +5,7 @@ from collections.abc import Iterator
 from dataclasses import dataclass, field
 
 from steelnewt_client.messages import BadWord
+from steelnewt_relay.letters import plain, tidy
 
 MOST_WHY, MOST_TICKET = 500, 64  # characters
 TICKET = r"[!-~]+"
@@ -12,20 +13,21 @@ TICKET = r"[!-~]+"
 
 @dataclass(frozen=True)
 class Reason:
-    """Both may be empty, where nobody demands them."""
+    """A reason and a ticket. Both may be empty, where nobody demands them."""
 
     why: str = ""
     ticket: str = ""
 
     @staticmethod
     def of(why: str | None, ticket: str | None) -> "Reason":
-        """A reason of words that were checked: one line, and nothing that a terminal obeys, turns
-        round or does not show."""
+        """A reason of words that were checked: one line, and nothing that a terminal obeys or turns
+        round. What nobody would see in it is left out."""
         text, name = (why or "").strip(), (ticket or "").strip()
         if len(text) > MOST_WHY:
             raise BadWord(f"a reason has at most {MOST_WHY} characters, and this has {len(text)}")
         if not text.isprintable():
             raise BadWord("a reason is one line, and has no control characters")
+        text = tidy(text)
         if name and (len(name) > MOST_TICKET or not re.fullmatch(TICKET, name)):
             raise BadWord(
                 f"a ticket has at most {MOST_TICKET} letters, digits and marks, and no blank"
@@ -46,11 +48,6 @@ class Reason:
 
 
 NONE = Reason()
-
-
-def plain(text: str) -> str:
-    """A text as a terminal may have it, whoever wrote it into the outbox."""
-    return "".join(it if it.isprintable() else ascii(it)[1:-1] for it in text)
 
 
 @dataclass(frozen=True)

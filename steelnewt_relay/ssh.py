@@ -5,26 +5,28 @@ import json
 import sqlite3
 import sys
 from collections.abc import Callable
-from dataclasses import replace
 from datetime import timedelta, tzinfo
-from typing import TextIO
+from typing import NoReturn, TextIO
 
 from steelnewt_client.desk import Silent
-from steelnewt_client.messages import BadWord, Verdict, Wish, checked
+from steelnewt_client.messages import VERDICTS, BadWord, Verdict, Wish
 from steelnewt_client.moments import now, stamp
-from steelnewt_relay import telling
+from steelnewt_relay import signing, telling
 from steelnewt_relay.admission import objections
+from steelnewt_relay.caller import Caller, Gone, is_allowed
 from steelnewt_relay.config import Config
 from steelnewt_relay.leading import Leader
-from steelnewt_relay.moments import BadTime, in_units, moment_of, shown, zone_of
+from steelnewt_relay.moments import BadTime, moment_of, shown, zone_of
 from steelnewt_relay.outbox import Kept, Outbox, OutOfNumbers
 from steelnewt_relay.posting import post_one
 from steelnewt_relay.reasons import Reason
 from steelnewt_relay.roster import BadRoster
+from steelnewt_relay.sending import DONE, KEPT, NOT_SENT, REFUSED, again_of, asked_of, told_request
+from steelnewt_relay.sending import told_verdict
 from steelnewt_relay.standing import Knowledge, Standing
-from steelnewt_relay.words import USAGE, BadWords, parse, window_of, wish_of, words_of
+from steelnewt_relay.summary import summed_up
+from steelnewt_relay.words import USAGE, BadWords, parse, wish_of, words_of
 
-DONE, NOT_SENT, REFUSED, KEPT = 0, 1, 2, 3
 SAME_FOR = timedelta(minutes=10)
 MOST_TYPED = 1_000  # characters of an answer
 YES = ("y", "yes")
@@ -36,8 +38,9 @@ LIVE_LINES = ("on", "as", "may run", "why", "ticket")
 class Call:
     """One call of a person's."""
 
-    def __init__(self, config: Config, person: str, said: argparse.Namespace) -> None:
-        self.person, self.said = checked("person", person), said
+    def __init__(self, config: Config, caller: Caller, said: argparse.Namespace) -> None:
+        self.config, self.caller = config, caller
+        self.person, self.said = caller.person, said
         self.zone: tzinfo = zone_of(said.zone) if said.zone else config.zone
         self.outbox: Outbox = config.open_outbox()
         self.desk = config.open_desk()
@@ -59,15 +62,18 @@ class Call:
         self.say(f"\033[1m{text}\033[0m" if self.talk().isatty() else text)
 
     def say_lines(self, lines: telling.Lines) -> None:
-        last = None
-        for label, text in lines:
-            self.say(f"  {'' if label == last else label:<9} {text}")
-            last = label
+        for row in telling.rows(lines):
+            self.say(row)
 
     def is_agreed(self, question: str) -> bool:
-        """Whether the person says yes, before anything is sent."""
-        if self.said.yes:
-            return True
+        """Whether the person says yes, before anything is sent. They may have taken their time, so
+        who is calling is looked at again."""
+        if not (self.said.yes or self.says_yes(question)):
+            return False
+        admit(self.config, self.caller)
+        return True
+
+    def says_yes(self, question: str) -> bool:
         print(f"{question} [y/N] ", end="", file=self.talk(), flush=True)
         answer = sys.stdin.readline(MOST_TYPED)
         if not sys.stdin.isatty():
@@ -82,31 +88,16 @@ class Call:
             print(json.dumps(data, indent=2))
 
 
-def status_of(kept: Kept) -> int:
-    return {"acked": DONE, "refused": REFUSED, "kept": KEPT}[kept.state]
-
-
 def ask(call: Call) -> int:
     """Asks for rights, by the words that say for what."""
-    wish = wish_of(call.said, call.zone, now())
-    reason = call.demand.reason(wish.ceiling, call.said.why, call.said.ticket)
+    wish, reason = asked_of(call)
     is_meant, words = call.said.again, words_of(call.said, call.zone)
     return send(call, wish, reason, is_meant, call.said.once, words)
 
 
 def again(call: Call) -> int:
     """Asks for the same as an older request of this person's."""
-    said, asked = call.said, call.outbox.requests_of(call.person)
-    found = [it for it in asked if said.no in (None, it.request.no)]
-    if not found:
-        raise BadWord("there is no such request of yours: 'mine --all' shows them")
-    old = found[-1]
-    if not said.length and not said.ends:
-        said.length = in_units(old.request.wish.length())
-    window = window_of(said.begins, said.length, said.ends, call.zone, now())
-    wish = replace(old.request.wish, begins=window[0], ends=window[1])
-    why, ticket = said.why or old.reason.why, said.ticket or old.reason.ticket
-    return send(call, wish, call.demand.reason(wish.ceiling, why, ticket), True)
+    return send(call, *again_of(call), True)
 
 
 def lead(call: Call) -> int:
@@ -119,7 +110,7 @@ def lead(call: Call) -> int:
     leader = Leader(call.talk(), call.zone, call.demand, now())
     if asked := call.outbox.requests_of(call.person):
         call.say_strong(f"Your last request, {call.person} {asked[-1].request.no}")
-        call.say_lines(telling.kept_lines(asked[-1], call.zone))
+        call.say_lines(telling.brief_lines(asked[-1], call.zone))
         if leader.asked("The same again, from now on (y, or nothing)", str).lower() in YES:
             vars(call.said).update(NO_WINDOW)
             return again(call)
@@ -146,19 +137,13 @@ def send(
         call.say(telling.fate(old, call.zone, call.roster, now()))
         call.say("Nothing was sent. Write --again to ask for it once more.")
         return NOT_SENT
+    call.say(summed_up(call.person, wish))
     if not call.is_agreed("Send it?"):
         return NOT_SENT
     at = now()
     kept = call.outbox.keep_request(call.person, wish.as_of(at), stamp(at), once, words, reason)
-    name = f"{call.person} {kept.request.no}"
-    call.say_strong(f"Kept as {name}.")
-    kept = post_one(call.outbox, call.desk, kept)
-    standing = call.knowledge().standing(kept)
-    call.say(telling.fate(standing, call.zone, call.roster, now()))
-    if kept.state == "acked":
-        call.say(f"To approve it they write: approve {name}")
-    call.give_data(telling.as_data(standing))
-    return status_of(kept)
+    call.say_strong(f"Kept as {call.person} {kept.request.no}.")
+    return told_request(call, post_one(call.outbox, call.desk, kept))
 
 
 def same_wish(call: Call, wish: Wish) -> Standing | None:
@@ -174,6 +159,7 @@ def same_wish(call: Call, wish: Wish) -> Standing | None:
 def give_verdict(call: Call) -> int:
     """Approves, refuses or revokes a request."""
     kind, of, no = call.said.command, call.said.of, call.said.no
+    call.say(f"You are {call.person}.")
     knowledge = call.knowledge()
     request = call.outbox.request(of, no)
     standing = knowledge.standing(request) if request else None
@@ -181,20 +167,14 @@ def give_verdict(call: Call) -> int:
     if not call.said.again and is_said(call, standing):
         call.say(f"You {telling.DONE[kind]} it already. Write --again to say it once more.")
         return NOT_SENT
+    if standing:
+        call.say(summed_up(of, standing.request.wish))
     if not call.is_agreed(f"{call.person}: {kind} {of} {no}?"):
         return NOT_SENT
     verdict = Verdict(call.person, kind, of, no, stamp(now()))
     kept = call.outbox.keep_verdict(verdict)
     call.say("Kept.")
-    kept = post_one(call.outbox, call.desk, kept)
-    after = call.knowledge().standing(request) if request else None
-    barred = after.bar_of(verdict) if after else ""
-    call.say(telling.verdict_fate(kind, kept.state, kept.answer, barred))
-    if after:
-        call.say(telling.fate(after, call.zone, call.roster, now()))
-    data = {"verdict": vars(verdict), "state": kept.state, "answer": kept.answer or None}
-    call.give_data(data | {"barred": barred or None})
-    return status_of(kept)
+    return told_verdict(call, post_one(call.outbox, call.desk, kept))
 
 
 def show_request(call: Call, knowledge: Knowledge, standing: Standing | None) -> None:
@@ -206,7 +186,7 @@ def show_request(call: Call, knowledge: Knowledge, standing: Standing | None) ->
     if kind == "approve":
         telling.approvable(standing.kept)
     call.say_strong(f"{of} {no}")
-    call.say_lines(telling.kept_lines(standing.kept, call.zone))
+    call.say_lines(telling.brief_lines(standing.kept, call.zone))
     call.say(telling.fate(standing, call.zone, call.roster, now()))
     if warning := telling.warning(kind, knowledge.bar_now(standing, kind, call.person)):
         call.say_strong(warning)
@@ -222,11 +202,17 @@ def is_said(call: Call, standing: Standing | None) -> bool:
     return any((it.by, it.kind) == (call.person, call.said.command) for it in given)
 
 
-def show(call: Call, standings: list[Standing], knowledge: Knowledge, none: str) -> int:
+def show(
+    call: Call,
+    standings: list[Standing],
+    knowledge: Knowledge,
+    none: str,
+    lines_of: Callable[[Kept, tzinfo], telling.Lines] = telling.brief_lines,
+) -> int:
     """Requests, each with what it asks for, who said what, and what became of it."""
     for standing in standings:
         call.say_strong(f"{standing.name}  [{standing.state.value}]")
-        call.say_lines(telling.kept_lines(standing.kept, call.zone))
+        call.say_lines(lines_of(standing.kept, call.zone))
         for said in standing.said:
             call.say(f"  {telling.said_line(said, call.zone)}")
         call.say(f"  {telling.fate(standing, call.zone, call.roster, knowledge.now)}")
@@ -270,7 +256,7 @@ def show_one(call: Call) -> int:
     knowledge, kept = call.knowledge(), call.outbox.request(call.said.of, call.said.no)
     if kept is None:
         raise BadWord(f"this relay brought no request {call.said.of} {call.said.no}")
-    return show(call, [knowledge.standing(kept)], knowledge, "")
+    return show(call, [knowledge.standing(kept)], knowledge, "", telling.kept_lines)
 
 
 def history(call: Call) -> int:
@@ -290,7 +276,7 @@ def live(call: Call) -> int:
         window = f"{shown(grant.begins, call.zone)} until {shown(grant.ends, call.zone)}"
         call.say(f"{grant.who} {grant.no}  {grant.ceiling}  {window}")
         if kept:
-            lines = telling.kept_lines(kept, call.zone)
+            lines = telling.brief_lines(kept, call.zone)
             call.say_lines([it for it in lines if it[0] in LIVE_LINES])
         else:
             call.say("  asked through another relay: hosts and commands are not known here")
@@ -333,14 +319,42 @@ ANSWERS: dict[str, Callable[[Call], int]] = {
     "live": live,
     "review": review,
     "help": give_help,
+    "prepare": signing.prepare,
+    "send": signing.send_signed,
 }
+# What a relay that takes signed messages alone does not send for anybody.
+UNSIGNED = ("ask", "again", "lead", *VERDICTS)
 
 
-def answer(config: Config, person: str, line: str) -> int:
+class Late(Exception):
+    """A call has taken as long as one may."""
+
+
+def too_late(*_: object) -> NoReturn:
+    raise Late
+
+
+def admit(config: Config, caller: Caller) -> None:
+    """Raises where a caller may not call now: by what they came with, or by the roster, without
+    which nobody reads anything here."""
+    is_allowed(caller)
+    if caller.person not in config.read_roster().people:
+        raise Gone(f"the roster has nobody whose name is {caller.person}")
+
+
+def answer(config: Config, caller: Caller, line: str) -> int:
     """Answers a person's words. Whatever they say, they speak for this person alone."""
     try:
+        admit(config, caller)
         said = parse(line or "help")
-        return ANSWERS[said.command](Call(config, person, said))
+        if said.command in UNSIGNED and config.is_signed:
+            raise BadWords(signing.SIGN)
+        if said.command in ("prepare", "send") and not config.signing:
+            raise BadWords("this relay takes no signatures: its settings have no [signing]")
+        return ANSWERS[said.command](Call(config, caller, said))
+    except Gone as why:
+        print(f"Nothing was sent: {why}. Ask the operator.", file=sys.stderr)
+        return REFUSED
     except sqlite3.Error as fault:
         print(f"Nothing was sent: the outbox fails: {fault}. Tell the operator.", file=sys.stderr)
         return REFUSED
@@ -349,6 +363,9 @@ def answer(config: Config, person: str, line: str) -> int:
         return REFUSED
     except KeyboardInterrupt:
         print("\nInterrupted. 'mine' shows what was kept before.", file=sys.stderr)
+        return NOT_SENT
+    except Late:
+        print("\nThis took too long. 'mine' shows what was kept before.", file=sys.stderr)
         return NOT_SENT
     except Silent as why:
         print(f"The desk does not answer: {why}. Ask again in a while.", file=sys.stderr)

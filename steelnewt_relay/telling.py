@@ -1,16 +1,19 @@
 """How a request and what became of it are told, in plain words."""
 
+from collections.abc import Iterator, Sequence
 from datetime import datetime, timedelta, tzinfo
 
 from steelnewt_client.codes import in_words
 from steelnewt_client.messages import BadWord, Verdict, Wish
 from steelnewt_client.moments import of_stamp, stamp
 from steelnewt_client.told import Grant
+from steelnewt_relay.letters import wrapped
 from steelnewt_relay.moments import shown, spoken
 from steelnewt_relay.outbox import UNASKED, Kept
 from steelnewt_relay.reasons import Demand, Reason
 from steelnewt_relay.roster import Ceiling, Roster
 from steelnewt_relay.standing import Said, Standing, State
+from steelnewt_relay.summary import by_reach, few
 
 DONE = {"approve": "approved", "refuse": "refused", "revoke": "revoked"}
 BARS = {
@@ -39,11 +42,62 @@ FINDINGS = {
     "PARKED": "verdicts whose request has not come",
 }
 Lines = list[tuple[str, str]]
+# The labels of what the asker wrote, which is quoted: it never looks like a row of the relay's.
+QUOTED = ("why", "ticket")
+# Columns of a terminal, what stands before a row's text, and the rows that commands may have of a
+# screen of 24, the columns of each.
+COLUMNS, BEFORE, MOST_ROWS = 80, 12, 7
+ROOM = COLUMNS - BEFORE
 
 
 def finding(part: str) -> str:
     """A heading of the report, with what stands below it."""
     return f"{part}, {FINDINGS[part]}" if part in FINDINGS else part
+
+
+def rows(lines: Lines) -> Iterator[str]:
+    """Lines as rows of a terminal. Each row of what the asker wrote has its label and a mark, and
+    is as wide as the relay makes it."""
+    last = ""
+    for label, text in lines:
+        if label in QUOTED:
+            yield from (f"  {label:<9} | {it}" for it in wrapped(text, ROOM - 2))
+        else:
+            yield f"  {'' if label == last else label:<9} {text}"
+        last = label
+
+
+def command_lines(commands: Sequence[str]) -> Lines:
+    """What may be run, the widest first."""
+    return [("may run", it) for it in by_reach(commands)]
+
+
+def brief_lines(kept: Kept, zone: tzinfo) -> Lines:
+    """Everything that is asked for, and why: as much as a screen has room for."""
+    wish, name = kept.request.wish, f"{kept.request.by} {kept.request.no}"
+    found, is_told = list[tuple[str, str]](), False
+    for label, text in kept_lines(kept, zone):
+        if label == "on" and len(text) > 2 * ROOM:
+            text = f"{few(wish.hosts)}: show {name}"
+        if label != "may run":
+            found.append((label, text))
+        elif not is_told:
+            found += few_commands(wish.commands, name)
+            is_told = True
+    return found
+
+
+def few_commands(commands: Sequence[str], name: str) -> Lines:
+    """The widest commands, whole, as long as there are rows for them, and how many more."""
+    listed, used, fits = by_reach(commands), 0, 0
+    while fits < len(listed) and (used := used + -(-len(listed[fits]) // ROOM)) <= MOST_ROWS:
+        fits += 1
+    found = command_lines(listed[:fits])
+    if not fits:
+        found = [("may run", f"{listed[0][: MOST_ROWS * ROOM - 1]}…")]
+        return [*found, ("may run", f"the whole, and {len(listed) - 1} more: show {name}")]
+    left = len(listed) - fits
+    return [*found, ("may run", f"and {left} more: show {name}")] if left else found
 
 
 def wish_lines(wish: Wish, zone: tzinfo) -> Lines:
@@ -53,7 +107,7 @@ def wish_lines(wish: Wish, zone: tzinfo) -> Lines:
         ("under", wish.ceiling),
         ("on", ", ".join(wish.hosts)),
         ("as", wish.runas),
-        *(("may run", command) for command in wish.commands),
+        *command_lines(wish.commands),
         ("from", shown(first, zone)),
         ("until", shown(last, zone)),
         ("how long", spoken(last - first)),
@@ -96,7 +150,7 @@ def approvals(count: int) -> str:
 
 
 def said_line(said: Said, zone: tzinfo) -> str:
-    """A verdict, when it was given, and what is known of it."""
+    """A verdict on one line: its author, its moment, and why it does not count, if it does not."""
     verdict = said.verdict
     text = f"{verdict.by} {DONE[verdict.kind]} it, {shown(of_stamp(verdict.at), zone)}"
     if said.kept.state == "kept":

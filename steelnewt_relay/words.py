@@ -10,6 +10,7 @@ from typing import NoReturn
 
 from steelnewt_client.messages import VERDICTS, BadWord, Wish, checked, command_of, number_of
 from steelnewt_client.moments import stamp
+from steelnewt_client.signed import MOST_LISTED
 from steelnewt_relay.moments import length_of, moment_of
 
 DAY = re.compile(r"today|tomorrow|in|[0-9]{4}-[0-9]{2}-[0-9]{2}")
@@ -88,7 +89,8 @@ def parser() -> Parser:
     history.add_argument("--on", metavar="HOST")
     commands.add_parser("live", parents=[common]).add_argument("--at", default="now")
     commands.add_parser("review", parents=[common])
-    commands.add_parser("help", parents=[common])
+    for word in ("send", "help"):
+        commands.add_parser(word, parents=[common])
     return main
 
 
@@ -161,6 +163,8 @@ def cut(words: list[str]) -> tuple[list[str], list[list[str]]]:
 def parse(line: str) -> argparse.Namespace:
     """What a line of words says. `commands` has a request's commands, as a policy writes them."""
     words = split(line)
+    if words[:1] == ["prepare"]:
+        return prepared(words[1:])
     commands: list[list[str]] = []
     if words[:1] in (["ask"], ["again"]):
         words = joined_texts(words)
@@ -182,6 +186,26 @@ def parse(line: str) -> argparse.Namespace:
     if said.command == "history":
         said.who, said.on = checked_if("person", said.who), checked_if("host", said.on)
     return said
+
+
+def prepared(words: list[str]) -> argparse.Namespace:
+    """What is prepared for its author to sign: a request, or verdicts, of which `names` has whose
+    requests they are about, and their numbers."""
+    kind, *names = words or [""]
+    if kind in VERDICTS:
+        if len(names) % 2 or not 2 <= len(names) <= 2 * MOST_LISTED:
+            raise BadWords(f"{kind} WHO NUMBER, and up to {MOST_LISTED} of them")
+        pairs = [(checked("person", of), number_of(no)) for of, no in zip(names[::2], names[1::2])]
+        if len(set(pairs)) != len(pairs):
+            raise BadWords("one of them is there twice")
+        said = argparse.Namespace(command=kind, names=pairs, zone=None)
+    elif kind in ("ask", "again") and words != ["ask"]:
+        said = parse(shlex.join(words))
+        if said.json or said.yes or getattr(said, "once", None) or getattr(said, "again", False):
+            raise BadWords("what is signed is asked once for each signature: leave --once, --again")
+    else:
+        raise BadWords("prepare a request or verdicts")
+    return argparse.Namespace(command="prepare", json=True, yes=True, zone=said.zone, said=said)
 
 
 def unescaped(command: str) -> str:

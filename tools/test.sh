@@ -8,11 +8,10 @@ set -euo pipefail
 cd "$(dirname "$0")/.."
 export PATH="$PATH:/usr/sbin:/sbin"
 export DESK="${DESK:-$PWD/build/desk}" PYTHONPATH=$PWD/tools:$PWD
-bash relays/install.sh python3-jsonschema python3-pytest python3-pytest-xdist sudo faketime util-linux \
-    iproute2 jq openssh-client tzdata procps sqlite3 \
-    slapd ldap-utils python3-icalendar python3-recurring-ical-events
+. scripts/packages.sh
+bash relays/install.sh "${tools_packages[@]}"
 if [ ! -x "$DESK" ]; then
     echo "there is no program $DESK: run make desk"
     exit 1
 fi
-/usr/bin/python3 -m pytest -p no:cacheprovider -q -rs -n "$(nproc)" --dist load tools/tests "$@"
+/usr/bin/python3 -m pytest -p no:cacheprovider -q -rs -n "${CORES:-$(nproc)}" --dist load tools/tests "$@"

@@ -47,7 +47,7 @@ LATER = 0.05  # and while more of them wait here
 
 
 class Link:
-    """One connection to the broker: what came over it, and what was settled of that."""
+    """One connection to the broker: its messages that came, and which of these are settled."""
 
     def __init__(self, connection: BlockingConnection, queue: str) -> None:
         self.connection, self._queue = connection, queue
@@ -82,7 +82,7 @@ class Link:
         flight.begin(delivery)
 
     def is_taking(self) -> bool:
-        """Not, where the broker closed the channel, or cancelled it with its queue."""
+        """Whether messages still come: the broker may close the channel, or cancel it."""
         return bool(self._channel.is_open and self._channel.consumer_tags)
 
     def settle(self, delivery: Delivery) -> None:
@@ -177,7 +177,7 @@ class Consumer:
         delivery: Delivery,
         answer: Answer,
     ) -> bool:
-        """Whether the message may leave the queue; not, where it is time to stop before."""
+        """Whether the message may leave the queue: it may not if it is time to stop first."""
         if answer.fate is not Fate.TAKEN and not self._put_by(connection, refusals, delivery, answer):
             return False
         self.tally.done(answer.fate is Fate.TAKEN, delivery.lag())

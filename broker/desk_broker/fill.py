@@ -40,7 +40,7 @@ def fill(desk: Desk, relay: str, bodies: Iterable[bytes]) -> tuple[int, list[str
 def main() -> int:
     about = "Fills a desk with the messages of its input, one a line."
     parser = argparse.ArgumentParser("desk-fill", description=about)
-    parser.add_argument("desk", metavar="DESK", help="unix:/PATH, or http://HOST:PORT")
+    parser.add_argument("desk", metavar="DESK", help="unix:/PATH, or http://127.0.0.1:PORT")
     parser.add_argument("relay", metavar="RELAY", help="the relay in whose name they are posted")
     words = parser.parse_args()
     lines = (line.rstrip(b"\n") for line in sys.stdin.buffer)

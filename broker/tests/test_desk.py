@@ -146,8 +146,10 @@ def test_nobody_listens() -> None:
 
 @pytest.mark.parametrize(
     "address",
-    ["", "127.0.0.1:80", "https://desk", "http://", "http://desk/v1", "http://desk:x", "unix:desk"],
+    ["", "127.0.0.1:80", "https://desk", "http://", "http://desk/v1", "http://desk:x", "unix:desk",
+     "http://desk:80", "http://10.0.0.7:80", "http://127.0.0.1.example"],
 )
 def test_no_address(address: str) -> None:
-    with pytest.raises(ValueError, match="is neither unix:/PATH nor http://HOST:PORT"):
+    """Past this machine others could acknowledge in the desk's place."""
+    with pytest.raises(ValueError, match="is neither unix:/PATH nor http://127.0.0.1:PORT"):
         plain_desk(address)

@@ -14,9 +14,13 @@ of the group desk-front, and without a certificate.
 Each may be given with the others. One line on the output, and the status 0 (all is well), 1
 (somebody has to look), 2 (the desk does not answer, what is looked at cannot be read, or a limit is
 passed) or 3 (the words are wrong: nothing was looked at). With --textfile the figures are written
-there as well, in one step. It asks the desk only what an auditor's certificate may: /v1/parked and
-/v1/reviews/NOW; and with `--roster` /v1/requests/after/NOW, to remark below that line each grant
-that begins after the last day on which its asker may ask.
+there as well, in one step. It asks the desk only what an auditor's certificate may: /v1/parked,
+/v1/reviews/NOW and /v1/count; and with `--roster` /v1/requests/after/NOW, to remark below that line
+each grant that begins after the last day on which its asker may ask. Remarked are also commands in
+force that are ALL or a directory, as the roster's ceilings allow them.
+
+With `--unit desk`, on the desk's machine, it compares the messages with the memory that the unit
+may have, and with `--roster` how much of the roster's limits is used: what grows for years.
 """
 
 import argparse
@@ -48,6 +52,9 @@ FIGURES = {
     "desk_grants_needless": "grants in force of which the base gives all",
     "desk_conflicts": "pairs of conflicting duties that one person holds",
     "desk_broad": "commands in force that are ALL or a directory",
+    "desk_messages": "messages that the desk holds",
+    "desk_memory_percent": "how much of its memory the messages may need",
+    "desk_roster_percent": "how much is used of that limit of rosters of which most is used",
     "desk_parked": "verdicts whose request has not come",
     "desk_parked_old": "verdicts that have waited for more than a day",
     "desk_grants_after_last_day": "grants that begin after their asker's last day",
@@ -67,6 +74,21 @@ LIMITS = (
     ("free", 15, 5, "percent of the store's disk that are free", True),
     ("waits", 300, 3600, "seconds for which a relay's message waits", False),
 )
+# What a message may need of the desk's memory, in bytes.
+A_MESSAGE = 2048
+# The limits of a roster: its bytes, what each of its tables and lists may have, and one person.
+ROSTER_BYTES = 1 << 20
+ROSTER_MOST = {
+    "relays": 64,
+    "hosts": 1024,
+    "duties": 256,
+    "conflicts": 4096,
+    "people": 4096,
+    "ceilings": 1024,
+}
+PERSON_MOST = 256
+# From how many percent of one of them on somebody is told.
+NEAR = 90
 # What one clock may be ahead of another, in seconds.
 AHEAD = 300
 
@@ -88,6 +110,12 @@ def words() -> argparse.Namespace:
     parser.add_argument("--ca", help="the authority of the front's certificate")
     parser.add_argument(
         "--roster", help="the desk's roster: remark grants that begin after their asker's last day"
+    )
+    parser.add_argument(
+        "--unit", help="the desk's unit on this machine, as desk: compare messages and memory"
+    )
+    parser.add_argument(
+        "--broad-warning", action="store_true", help="a command that is ALL or a directory warns"
     )
     parser.add_argument("--store", help="the store, where this runs beside the desk")
     parser.add_argument(
@@ -132,8 +160,9 @@ def check_words(parser: Words, given: argparse.Namespace) -> None:
             parser.error(f"--{name.replace('_', '-')} has an empty value")
     if not any(getattr(given, name) for name in LOOKED_AT):
         parser.error("name what to look at: " + ", ".join(f"--{name}" for name in LOOKED_AT))
-    if given.roster and not given.desk:
-        parser.error("--roster needs a --desk")
+    for name in ("roster", "unit", "broad_warning"):
+        if getattr(given, name) and not given.desk:
+            parser.error(f"--{name.replace('_', '-')} needs a --desk")
     if given.front_pid and not (given.certificate or given.crl):
         parser.error("--front-pid needs a --certificate or a --crl")
     for name, _, _, _, is_less_worse in LIMITS:
@@ -200,8 +229,8 @@ def sections(report: str) -> dict[str, list[str]]:
     return found
 
 
-def of_desk(given: argparse.Namespace, now: float) -> dict[str, int]:
-    """The figures of what the desk answers."""
+def of_desk(given: argparse.Namespace, now: float) -> tuple[dict[str, int], list[str]]:
+    """The figures of what the desk answers, and its broad commands."""
     parked = ask(given, "/v1/parked").splitlines()
     text = ask(given, f"/v1/reviews/{stamp(now)}")
     # (a page of something before the desk is no report, and must not be taken for an empty one)
@@ -209,8 +238,9 @@ def of_desk(given: argparse.Namespace, now: float) -> dict[str, int]:
     if lines[:1] != [f"REVIEW {stamp(now)}"] or not set(HEADINGS) <= set(lines):
         raise ValueError("what comes is not a report")
     report = sections(text)
-    return {
+    figures = {
         "desk_up": 1,
+        "desk_messages": int(ask(given, "/v1/count").split()[0]),
         "desk_grants": len(report["LIVE"]),
         "desk_grants_needless": sum(line.endswith(" needless") for line in report["LIVE"]),
         "desk_conflicts": len(report["CONFLICTS"]),
@@ -218,6 +248,28 @@ def of_desk(given: argparse.Namespace, now: float) -> dict[str, int]:
         "desk_parked": len(parked),
         "desk_parked_old": sum(json.loads(line)["at"] < stamp(now - DAY) for line in parked),
     }
+    return figures, report["BROAD"]
+
+
+def memory_of(unit: str) -> int:
+    """How many bytes a unit may have, or else the machine."""
+    words = ["systemctl", "show", "--property=LoadState", "--property=MemoryMax", "--", unit]
+    ran = subprocess.run(words, capture_output=True, text=True, check=False)
+    told = dict(line.partition("=")[::2] for line in ran.stdout.splitlines())
+    if told.get("LoadState") != "loaded":
+        raise ValueError(ran.stderr.strip() or "systemd has no such unit")
+    machine = os.sysconf("SC_PHYS_PAGES") * os.sysconf("SC_PAGE_SIZE")
+    limit = told.get("MemoryMax", "")
+    return min(machine, int(limit)) if limit.isdecimal() else machine
+
+
+def shares(path: str, roster: dict) -> dict[str, int]:
+    """How many percent of each limit of rosters one uses."""
+    used = {"bytes": (os.path.getsize(path), ROSTER_BYTES)}
+    used |= {name: (len(roster.get(name, ())), most) for name, most in ROSTER_MOST.items()}
+    longest = max(map(len, roster.get("people", {}).values()), default=0)
+    used["entries of one person"] = longest, PERSON_MOST
+    return {name: 100 * count // most for name, (count, most) in used.items()}
 
 
 def last_day(roster: dict, person: str, duty: str) -> str:
@@ -231,14 +283,17 @@ def last_day(roster: dict, person: str, duty: str) -> str:
     return max(days)
 
 
-def late_grants(given: argparse.Namespace, now: float) -> list[str]:
-    """Each grant, now or to come, that begins after the last day on which its asker holds the duty
-    that the ceiling asks for."""
+def roster_of(path: str) -> dict:
     # (hosts, which need none of this, may have a Python before 3.11)
     import tomllib
 
-    with open(given.roster, "rb") as file:
-        roster = tomllib.load(file)
+    with open(path, "rb") as file:
+        return tomllib.load(file)
+
+
+def late_grants(given: argparse.Namespace, roster: dict, now: float) -> list[str]:
+    """Each grant, now or to come, that begins after the last day on which its asker holds the duty
+    that the ceiling asks for."""
     found = []
     for it in json.loads(ask(given, f"/v1/requests/after/{stamp(now)}"))["names"]:
         if it["status"] != "granted":
@@ -362,7 +417,10 @@ class Found:
 
     def desk(self) -> None:
         try:
-            self.figures |= of_desk(self.given, self.now)
+            figures, broad = of_desk(self.given, self.now)
+            self.figures |= figures
+            if not self.given.broad_warning:
+                self.remarks += [f"broad: {' '.join(line.split())}" for line in broad]
         except (OSError, ValueError, KeyError, TypeError) as fault:
             self.figures["desk_up"] = 0
             self.critical.append(f"{self.given.desk} does not answer: {fault}")
@@ -372,12 +430,28 @@ class Found:
             ("desk_broad", "broad commands in force"),
             ("desk_parked_old", "verdicts waiting for more than a day"),
         ):
+            if name == "desk_broad" and not self.given.broad_warning:
+                continue
             if self.figures.get(name):
                 self.warning.append(f"{self.figures[name]} {said}")
 
+    def unit(self, name: str) -> None:
+        messages, memory = self.figures["desk_messages"], memory_of(name)
+        self.figures["desk_memory_percent"] = share = 100 * A_MESSAGE * messages // memory
+        if share >= 50:
+            said = f"{messages} messages may need {share} % of the memory of {name}"
+            self.warning.append(f"{said}: restart it, or give the machine more")
+
     def roster(self, path: str) -> None:
-        self.remarks = late_grants(self.given, self.now)
-        self.figures["desk_grants_after_last_day"] = len(self.remarks)
+        roster = roster_of(path)
+        used = shares(path, roster)
+        self.figures["desk_roster_percent"] = max(used.values())
+        near = [f"{share} % of its {name}" for name, share in used.items() if share >= NEAR]
+        if near:
+            self.warning.append(f"the roster has {', '.join(near)}")
+        late = late_grants(self.given, roster, self.now)
+        self.remarks += late
+        self.figures["desk_grants_after_last_day"] = len(late)
 
     def store(self, path: str) -> None:
         os.stat(path)
@@ -427,8 +501,9 @@ def gather(given: argparse.Namespace, now: float) -> Found:
     found = Found(given, now)
     if given.desk:
         found.desk()
-    if given.roster and found.figures["desk_up"]:
-        found.look(given.roster, found.roster)
+    for part in ("unit", "roster"):
+        if getattr(given, part) and found.figures["desk_up"]:
+            found.look(getattr(given, part), getattr(found, part))
     for part in ("store", "certificate", "crl", "front_pid", "outbox", "file"):
         named = getattr(given, part) or []
         for path in [named] if isinstance(named, str) else named:

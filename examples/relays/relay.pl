@@ -3,7 +3,8 @@
 #
 # sshd starts it for a person's key, command="relay.pl FOLDER SOCKET RELAY PERSON",restrict: the key
 # says who is calling. The words, in SSH_ORIGINAL_COMMAND, are ask CEILING HOST RUNAS MINUTES COMMAND,
-# or approve, refuse or revoke with ASKER NUMBER; without any it posts what is kept. A message is a
+# or show, approve, refuse or revoke with ASKER NUMBER; without any it posts what is kept. Nobody
+# approves what this relay cannot show: another request could come by that name. A message is a
 # file of FOLDER, below the words that it was made of, until the desk has said its last word on it:
 # the same bytes are posted again, and the same words make no second message while it is kept.
 use strict;
@@ -50,6 +51,14 @@ sub answer {
     return $reply =~ m{^HTTP/1\.1 (4\d\d) .*\r\n\r\n([AM]\d+ \w+)\n\z}s ? "$1 $2" : '';
 }
 
+# The file of a request that this relay brought, and its words.
+sub request {
+    my ($of, $no) = @_;
+    my ($file) = grep { /^\Q$no\E\.(done|kept|refused)\z/ } glob "$no.*";
+    my $said = $file ? (rows($file))[0] : '';
+    return $said =~ /^\Q$of\E ask / ? ($file, $said) : ();
+}
+
 sub rows {
     open my $file, '<', shift or die "$!\n";
     chomp(my @rows = <$file>);
@@ -61,6 +70,13 @@ umask 077;
 chdir $folder or die "$folder: $!\n";
 open my $lock, '>>', 'lock' or die "lock: $!\n";
 flock $lock, LOCK_EX or die "lock: $!\n";    # one call at a time
+if (defined $kind && $kind =~ /^(show|approve)\z/) {
+    my ($file, $said) = @words == 2 && $words[1] =~ /^\d{1,9}\z/ ? request(@words) : ();
+    $file or die "this relay brought no such request, so it cannot show what it asks for\n";
+    print "$words[1], $said\n";
+    exit 0 if $kind eq 'show';
+    $file !~ /refused/ or die "the desk refused it: there is nothing to approve\n";
+}
 if (defined $kind && !grep { (rows($_))[0] eq "$person $line" } glob '*.kept') {
     my ($last) = sort { $b <=> $a } 0, map { /^(\d+)\./ } glob '*.*';
     my ($no, $text) = ($last + 1, message($last + 1));

@@ -24,7 +24,7 @@ client=usr/lib/python3/dist-packages/steelnewt_client
 cp "$here/packaging/debian/steelnewt-relay.postinst" "$root/root/postinst"
 cp "$desk" "$clone/desk"
 cp "$here/examples/roster.toml" "$root/etc/desk/roster.toml"
-# (what apt needs of Debian is there, and there is no systemd: these lines stand for theirs)
+# (Debian's packages are there already, and no systemd: these lines stand in for both)
 cat > "$root/usr/local/sbin/apt" <<'E'
 #!/bin/sh
 case $* in *steelnewt-relay_*)

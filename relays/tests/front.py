@@ -74,7 +74,7 @@ class Front:
         wait_for_port(self.tls)
 
     def certificates(self, people: list[str]) -> None:
-        """Those of the people, by the authority of examples/, and some that nobody may have."""
+        """Certificates of the people, by examples/' authority, and some that nobody may have."""
         self.ca("init")
         self.ca("server", "127.0.0.1", "127.0.0.1")
         for person in people:

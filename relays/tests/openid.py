@@ -111,7 +111,7 @@ class Glewlwyd:
         self.port, self.admin = port, self.browser()
 
     def set_up(self) -> None:
-        """Its codes, scopes and key, by the administrator whom the package's tables have."""
+        """Sets the provider's codes, scopes and key, as the administrator that its tables have."""
         wait_for_port(self.port)
         self.sign_in(self.admin, "admin", "password")
         self.send("POST", "scope", {"name": "profile", "display_name": "profile"})

@@ -12,6 +12,8 @@ from contextlib import closing
 from pathlib import Path
 
 from steelnewt_client.desk import Desk
+from steelnewt_client.moments import now
+from tests.common.calling import call_words
 
 ROOT = Path(__file__).resolve().parents[2]
 DESK = os.environ.get("DESK", str(ROOT / "build" / "desk"))
@@ -25,6 +27,10 @@ roster = "{folder}/site.roster"
 outbox = "{folder}/outbox.db"
 zone = "Europe/Berlin"
 auditors = "audit"
+[ssh]
+keys = "{folder}/authorized_keys"
+principals = "{folder}/authorized_principals"
+revoked = "{folder}/revoked"
 [page]
 listen = "unix:{folder}/page.sock"
 secret = "{folder}/page.secret"
@@ -44,6 +50,14 @@ def wait_for_port(port: int, seconds: float = PATIENCE) -> None:
                 return
         time.sleep(0.05)
     raise TimeoutError(f"nothing listens at port {port}")
+
+
+def wait_for_next_second() -> None:
+    """Waits until this second is over. (Moments are whole seconds: the same word twice in one
+    second is one message, and what begins and ends within one second was never in force.)"""
+    begun = now()
+    while now() <= begun:
+        time.sleep(0.02)
 
 
 class PageConnection(http.client.HTTPConnection):
@@ -70,6 +84,7 @@ class Site:
         for name, key in (("page.secret", SECRET), ("page.key", SIGNING_KEY)):
             (folder / name).write_text(key + "\n")
             (folder / name).chmod(0o600)
+        (folder / "revoked").write_text("# nobody's key yet\n")
         self.config, self.socket = folder / "relay.toml", folder / "page.sock"
         self.config.write_text(SETTINGS.format(folder=folder))
 
@@ -137,7 +152,8 @@ class Site:
         self.stop_desk()
 
     def words(self, person: str) -> list[str]:
-        return [RELAY, "--config", str(self.config), "--person", person]
+        """What sshd starts for a person, who has a key for it."""
+        return call_words(RELAY, self.config, self.folder / "authorized_keys", person)
 
     def run(
         self, person: str, line: str, given: str = "", **variables: str

@@ -21,6 +21,8 @@ KbdInteractiveAuthentication no
 AuthorizedKeysFile {folder}/authorized_keys
 TrustedUserCAKeys {folder}/ca.pub
 AuthorizedPrincipalsFile {folder}/authorized_principals
+RevokedKeys {folder}/revoked
+ExposeAuthInfo yes
 AcceptEnv LANG LC_* PYTHON* SSH_ORIGINAL_COMMAND
 Subsystem sftp internal-sftp
 """
@@ -56,7 +58,9 @@ class Sshd:
         return ran.stdout + ran.stderr
 
     def options(self, person: str) -> str:
-        return f'restrict,pty,command="{RELAY} --config {self.config} --person {person}"'
+        """What stands before the principal of a certificate."""
+        command = f"{RELAY} --config {self.config} --person {person} --certificate"
+        return f'restrict,pty,command="{command}"'
 
     def start(self) -> None:
         if os.geteuid() == 0:

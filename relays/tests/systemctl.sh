@@ -1,5 +1,5 @@
 #!/bin/sh
-# What systemd would do of a unit, in a test: starts its ExecStart as its User and Group, with its
+# What systemd would do with a unit, in a test: starts its ExecStart as its User and Group, with its
 # RuntimeDirectory; restarts Apache; reloads nginx.
 set -eu
 case $1 in

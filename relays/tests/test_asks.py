@@ -227,7 +227,7 @@ def test_who_tells_people_asks_once(asking: tuple[Site, Counter]) -> None:
 
 
 def test_what_was_revoked_long_before_its_end(quiet_site: Site) -> None:
-    """Its window is older than what is asked for first."""
+    """A revoked grant is found, though its window is older than what the relay asks for first."""
     site, roster = quiet_site, quiet_site.folder / "site.roster"
     roster.write_text(roster.read_text().replace("longest = 7200", "longest = 2592000"))
     site.start_desk()
@@ -277,7 +277,7 @@ def test_a_person_who_is_named_as_a_route(quiet_site: Site) -> None:
 
 
 def test_an_older_desk(asking: tuple[Site, Counter]) -> None:
-    """It is said in plain words. What people send is posted, and they are told once it is there."""
+    """People read in plain words that the desk is older. What they send is posted all the same."""
     site, counter = asking
     config = read_config(str(site.config))
     outbox = config.open_outbox()

@@ -1,7 +1,6 @@
 """A real browser: ask as ann, approve as bob, see it in force, let sudo decide, revoke."""
 
 import os
-import time
 from collections.abc import Iterator
 from pathlib import Path
 
@@ -13,7 +12,7 @@ from selenium.webdriver.common.keys import Keys
 from relays.tests import sudo_says
 from relays.tests.chromium import browser, press, see
 from relays.tests.front import Front
-from relays.tests.site import ROOT, Site
+from relays.tests.site import ROOT, Site, wait_for_next_second
 from steelnewt_client.moments import now, of_stamp, stamp
 
 SHOTS = ROOT / "build" / "relays-screenshots"
@@ -94,7 +93,7 @@ def test_a_grants_life_in_two_browsers(
     granted = fetched(site)
     sudo_allows_exactly_it(site, granted)
     # revoked in the second of its approval, it would have been in force at no moment
-    time.sleep(1.1)
+    wait_for_next_second()
     press(ann, "#mine-1 button.revoke")
     see(ann, "Revoke ann 1?")
     press(ann, "#yes")

@@ -2,14 +2,13 @@
 
 import json
 import re
-import time
 from collections.abc import Iterator
 from pathlib import Path
 
 import pytest
 
 from relays.tests.front import Front
-from relays.tests.site import Site
+from relays.tests.site import Site, wait_for_next_second
 from relays.tests.test_outbox import answering
 from relays.tests.test_page import get, post, token
 from steelnewt_client.desk import Desk
@@ -92,7 +91,7 @@ def test_a_refusal_after_enough_approvals(fronted: tuple[Site, Front]) -> None:
     site, _ = fronted
     no = asked(site)
     assert site.run("bob", f"approve ann {no} --yes").returncode == 0
-    time.sleep(1.1)  # (a refusal of the same second counts)
+    wait_for_next_second()  # (a refusal of the same second counts)
     ran = site.run("carol", f"refuse ann {no} --yes")
     assert "Your refusal will not count: enough people have approved it: revoke it" in ran.stdout
     assert state(site, no) == "in-force"

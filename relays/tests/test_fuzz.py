@@ -12,18 +12,21 @@ import subprocess
 import sys
 from collections.abc import Callable
 from dataclasses import replace
+from pathlib import Path
 
 import pytest
 from flask.testing import FlaskClient
 from werkzeug.datastructures import Headers
 
-from relays.tests.site import SECRET, Site
+from relays.tests.site import RELAY, SECRET, Site
 from relays.tests.test_outbox import WISH, answering
 from relays.tests.test_page import token
 from steelnewt_client.moments import now, stamp
 from steelnewt_relay import ssh
+from steelnewt_relay.caller import Caller, Keyed
 from steelnewt_relay.config import Config, read_config
 from steelnewt_relay.page import create_app
+from tests.common.calling import call_words
 
 COUNT = int(os.environ.get("FUZZ", "2000")) // 4
 SEED = int(os.environ.get("FUZZ_SEED", "53"))
@@ -96,13 +99,19 @@ def config(quiet_site: Site) -> Config:
     return found
 
 
+def caller(config: Config, person: str) -> Caller:
+    """Who has a key, or, with a name of any kind, nobody that a line names."""
+    words = call_words(RELAY, Path("relay.toml"), Path(config.ssh.keys), person)
+    return Keyed(person, words[-1], config.ssh)
+
+
 def answer(config: Config, person: str, said: str, given: str = "") -> tuple[int, str]:
     """A call's status and all that it prints."""
     printed = io.StringIO()
     before, sys.stdin = sys.stdin, io.StringIO(given)
     try:
         with contextlib.redirect_stdout(printed), contextlib.redirect_stderr(printed):
-            return ssh.answer(config, person, said), printed.getvalue()
+            return ssh.answer(config, caller(config, person), said), printed.getvalue()
     finally:
         sys.stdin = before
 

@@ -122,7 +122,7 @@ def test_by_mail(site: Site, mails: Mails) -> None:
     void = [it[1] for it in told if it[0] == "void"]
     assert len(void) == 1 and void[0].startswith("The desk refused it. A7 WindowTooLong: ")
     first = next(it for it in mails.mails if it["X-Desk-Event"] == "asked").get_content()
-    assert "why       disk full" in first and "bob, carol may approve it" in first
+    assert "why       | disk full" in first and "bob, carol may approve it" in first
     assert "approve ann 2" in first and "https://desk/" in first
     assert len({it["Message-ID"] for it in mails.mails}) == len(mails.mails)
     assert log.read_text().count(": told") == len(wanted) + 1
@@ -187,6 +187,20 @@ def test_what_time_brings(site: Site) -> None:
     assert "cannot be reached" in look(
         notices, lambda: Finder(Knowledge(outbox, desk, config.read_roster(), now()), config.zone)
     )
+
+
+def test_nobody_outside_the_roster_is_told(site: Site) -> None:
+    """Whoever gives a verdict may name anybody: a mail would go to that name at the site."""
+    config = read_config(str(site.config))
+    outbox = config.open_outbox()
+    notices = Notices(outbox)
+    for line in ("revoke all-staff 7 --yes", "refuse ann 7 --yes", "revoke postmaster 1 --yes"):
+        say(site, "bob", line)
+    knowledge = Knowledge(outbox, config.open_desk(), config.read_roster(), now())
+    assert look(notices, lambda: Finder(knowledge, config.zone)) == ""
+    bodies = [json.loads(it[0]) for it in outbox.base.execute("SELECT body FROM notices")]
+    assert sorted(it["who"] for it in bodies) == ["all-staff", "ann", "postmaster"]
+    assert {it for body in bodies for it in body["to"]} == {"ann", "bob"}
 
 
 def recorded(site: Site, count: int) -> set[str]:
@@ -281,7 +295,7 @@ def is_running(pid: int) -> bool:
 
 
 class Room(HTTPServer):
-    """A chat server: what was posted to it."""
+    """A chat server, which keeps the posts that it gets."""
 
     def __init__(self) -> None:
         super().__init__(("127.0.0.1", 0), RoomHandler)
@@ -341,7 +355,7 @@ def test_in_a_chat_room(tmp_path: Path, kind: str) -> None:
 
 
 def test_a_chat_server_of_the_sites_authority(tmp_path: Path) -> None:
-    """It is told where its certificate is of the authority that is named, and not else."""
+    """The server is told if the authority that is named signed its certificate, and not else."""
     for name in ("init", "server 127.0.0.1 127.0.0.1"):
         subprocess.run(["sh", AUTHORITY, str(tmp_path / "ca"), *name.split()], check=True)
     room, file = Room(), tmp_path / "hook"

@@ -6,10 +6,9 @@ import pty
 import random
 import re
 import subprocess
-import time
 from datetime import timedelta
 
-from relays.tests.site import BASE, DESK, ROSTER, SECRET, Site
+from relays.tests.site import BASE, DESK, ROSTER, SECRET, Site, wait_for_next_second
 from relays.tests.test_fuzz import answer
 from relays.tests.test_page import token
 from steelnewt_client.messages import Request, Wish
@@ -195,6 +194,6 @@ def test_a_revocation_once_more(site: Site) -> None:
     assert site.run("ann", "revoke ann 1 --yes").returncode == 0
     ran = site.run("ann", "revoke ann 1 --yes")
     assert ran.returncode == 1 and "You revoked it already" in ran.stdout, ran
-    time.sleep(1.1)  # (a verdict of the same second is the same message)
+    wait_for_next_second()  # (a verdict of the same second is the same message)
     assert site.run("ann", "revoke ann 1 --yes --again").returncode == 0
     assert len(site.kept()) == 3

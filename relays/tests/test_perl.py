@@ -76,13 +76,29 @@ class Between:
 def test_it_asks_and_approves(site: Site) -> None:
     status, said = call(site, "ann", ASK)
     assert (status, said) == (0, f"1, ann {ASK}: ack\n")
-    assert call(site, "bob", "approve ann 1") == (0, "2, bob approve ann 1: ack\n")
+    said = f"1, ann {ASK}\n2, bob approve ann 1: ack\n"
+    assert call(site, "bob", "approve ann 1") == (0, said)
     file = site.ask("/v1/hosts/db1/sudoers")
     granted = r"^ann db1 = \(root\) NOTBEFORE=\d+Z NOTAFTER=\d+Z /usr/bin/id -u$"
     assert re.search(granted, file, re.MULTILINE)
     assert call(site, "ann", "revoke ann 1")[0] == 0
     assert kept(site) == ["1.done", "2.done", "3.done"]
     assert {it["kind"] for it in held(site)} == {"request", "approve", "revoke"}
+
+
+def test_nobody_approves_what_is_not_shown(site: Site) -> None:
+    """Nor what the desk refused: the word would wait there for any other request of that name."""
+    call(site, "bob", ASK)
+    assert kept(site) == ["1.refused"]
+    odd = ["ann 1", "bob 1", "ann 2", "ann 1.refused", "ann ../1"]
+    for line in (*(f"approve {it}" for it in odd), "show ann 1", "show bob"):
+        status, said = call(site, "carol", line)
+        assert status not in (0, 1, 3) and kept(site) == ["1.refused"], (line, said)
+    assert "the desk refused it" in call(site, "carol", "approve bob 1")[1]
+    call(site, "ann", ASK)
+    assert call(site, "bob", "show ann 2") == (0, f"2, ann {ASK}\n")
+    said = f"2, ann {ASK}\n3, bob approve ann 2: ack\n"
+    assert call(site, "bob", "approve ann 2") == (0, said)
 
 
 def test_what_the_desk_refuses_is_not_posted_again(site: Site) -> None:

@@ -1,13 +1,16 @@
 """desk-relay-person: who calls by ssh with which key, through a real sshd."""
 
+import base64
 import os
+import re
+import struct
 import subprocess
 from collections.abc import Iterator
 from pathlib import Path
 
 import pytest
 
-from relays.tests.site import Site
+from relays.tests.site import RELAY, Site
 from relays.tests.sshd import PERSON, Sshd, keygen
 
 OPTIONS = 'command="/bin/sh" '
@@ -61,7 +64,8 @@ def test_two_lines_give_nobody_a_shell(sshd: Sshd) -> None:
     assert kept(sshd) == before
     assert not has_shell(sshd, "mallory") and not has_shell(sshd, "carol")
     with open(sshd.folder / "authorized_keys", "a", encoding="ascii") as file:
-        file.write(f"{sshd.options('carol')} {Path(two).read_text()}")
+        command = f"{RELAY} --config {sshd.config} --person carol"
+        file.write(f'restrict,pty,command="{command}" {Path(two).read_text()}')
     assert has_shell(sshd, "mallory")
     assert "line 3 is no person's key" in sshd.person("list", status=1)
     path = f"{sshd.folder}/mallory.pub"
@@ -111,6 +115,51 @@ def test_one_key_is_one_persons(sshd: Sshd) -> None:
     assert kept(sshd) == before
     windows = given(sshd, public(sshd, "ann").replace("\n", "\r\n"))
     assert "that key is ann's" in sshd.person("add", "bob", windows, status=2)
+
+
+def with_zeros(line: str) -> str:
+    """An RSA key whose exponent has zeros before it (mpint of RFC 4251, written too long)."""
+    kind, blob = line.split(" ")[:2]
+    given, parts = base64.b64decode(blob), list[bytes]()
+    while given:
+        [size] = struct.unpack(">I", given[:4])
+        parts, given = [*parts, given[4 : 4 + size]], given[4 + size :]
+    parts[1] = b"\0\0\0" + parts[1]
+    written = b"".join(struct.pack(">I", len(it)) + it for it in parts)
+    return f"{kind} {base64.b64encode(written).decode()} other\n"
+
+
+def test_one_key_however_it_is_written(sshd: Sshd) -> None:
+    """sshd would take carol for whoever has the first line: it compares what it read."""
+    keygen("-t", "rsa", "-b", "2048", "-N", "", "-f", str(sshd.folder / "rsa"))
+    settings = ["--config", str(sshd.config)]
+    sshd.person("add", *settings, "bob", given(sshd, with_zeros(public(sshd, "rsa"))))
+    assert "You are bob." in sshd.ssh("rsa", "help").stdout
+    said = sshd.person("add", *settings, "carol", f"{sshd.folder}/rsa.pub", status=2)
+    assert "that key is bob's: SHA256:" in said
+    assert "bob has that key" in sshd.person("add", *settings, "bob", f"{sshd.folder}/rsa.pub")
+
+
+def test_lines_of_an_older_version(sshd: Sshd) -> None:
+    """Such lines name no key: nobody calls by them, until they are written anew."""
+    keys = sshd.folder / "authorized_keys"
+    today = keys.read_text()
+    keys.write_text(re.sub(" --key [^\"]*", "", today))
+    ran = sshd.ssh("ann", "help")
+    assert ran.returncode == 2 and "desk-relay-person renew" in ran.stderr, ran
+    assert "1 lines were written anew" in sshd.person("renew")
+    assert keys.read_text() == today
+    assert "You are ann." in sshd.ssh("ann", "help").stdout
+    assert "0 lines were written anew" in sshd.person("renew")
+
+
+def test_a_line_with_the_digest_of_another_key(sshd: Sshd) -> None:
+    keys = sshd.folder / "authorized_keys"
+    bare = public(sshd, "mallory").split(" ")[1]
+    keys.write_text(keys.read_text().replace(public(sshd, "ann").split(" ")[1], bare))
+    said = sshd.person("remove", "ann", status=2)
+    assert "line 1 names the digest of another key" in said
+    assert "mallory" not in sshd.person("list")
 
 
 def test_removed(sshd: Sshd) -> None:

@@ -49,10 +49,10 @@ def exported(site: Site) -> list[dict[str, object]]:
 
 def test_by_ssh_it_is_shown_before_a_yes(site: Site) -> None:
     ran = site.run("ann", f"{LINE} {WORDS} /usr/bin/id")
-    assert ran.returncode == 0 and "why       the disk of db1 is full\n" in ran.stdout, ran
+    assert ran.returncode == 0 and "why       | the disk of db1 is full\n" in ran.stdout, ran
     for line in ("waiting", "approve ann 1"):
         _, told = answered(site, "bob", line)
-        assert "  why       the disk of db1 is full\n  ticket    OPS-7\n" in told, told
+        assert "  why       | the disk of db1 is full\n  ticket    | OPS-7\n" in told, told
         assert "?" not in told or told.index("why") < told.index("[y/N]")
     assert answered(site, "bob", "approve ann 1 --yes")[0] == 0
     assert "OPS-7" in answered(site, "dave", "live")[1]
@@ -80,7 +80,7 @@ def test_on_the_page_it_is_shown_before_a_yes(quiet_site: Site) -> None:
     assert [it["why"] for it in exported(quiet_site)] == ["<b>the</b> disk"]
 
 
-# Words, and what is said of them.
+# Words of a call, and the refusal that they get.
 ODD = [
     (f"--why {'x' * 501}", "at most 500"),
     ("--why 'a\x1b[2Jb'", "control"),

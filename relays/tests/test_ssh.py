@@ -5,12 +5,13 @@ import os
 import re
 import select
 import subprocess
+import time
 from collections.abc import Iterator
 
 import pytest
 
-from relays.tests.site import Site
-from relays.tests.sshd import Sshd
+from relays.tests.site import PATIENCE, ROOT, Site, wait_for_next_second
+from relays.tests.sshd import USER, Sshd
 
 ASK = "ask db-care --on db1 --as root --for 2h /usr/bin/id".split()
 
@@ -59,6 +60,7 @@ def test_a_grants_whole_life(both: tuple[Site, Sshd]) -> None:
     assert "ann db1 = (root) NOTBEFORE=" in sudoers(site, "db1")
     assert "/usr/bin/id" not in sudoers(site, "db2")
     assert "[in force]" in sshd.ssh("ann", "mine").stdout
+    wait_for_next_second()  # (revoked in that of its approval, it was in force at no moment)
     ran = sshd.ssh("ann", "revoke", "ann", no, "--yes")
     assert ran.returncode == 0 and "It was in force from" in ran.stdout, ran
     assert "revoked, so it ends before" in ran.stdout
@@ -302,10 +304,50 @@ def test_who_audits_reads_the_findings(both: tuple[Site, Sshd]) -> None:
     assert ran.returncode == 2 and "for auditors" in ran.stderr
 
 
-def test_nobody_outside_the_roster(both: tuple[Site, Sshd]) -> None:
+def test_the_envelopes_key_beside_an_agent(both: tuple[Site, Sshd]) -> None:
+    """RUNBOOKS' line for the key of break-glass, where an agent has one's own: that is offered
+    first, and one's own approval would not count."""
+    site, sshd = both
+    page = (ROOT / "docs" / "RUNBOOKS.md").read_text(encoding="utf-8")
+    [options] = re.findall(r"^ssh (.*)-i /root/glass desk approve", page, re.MULTILINE)
+    known = ["-o", "UserKnownHostsFile=/dev/null", "-o", "StrictHostKeyChecking=no", "-q"]
+    words = ["ssh", "-F", "/dev/null", "-p", str(sshd.port), *known, *options.split()]
+    words += ["-i", str(site.folder / "bob"), f"{USER}@127.0.0.1", "help"]
+    place = str(site.folder / "agent.sock")
+    agent = subprocess.Popen(["ssh-agent", "-D", "-a", place], stdout=subprocess.DEVNULL)
+    try:
+        environment = os.environ | {"SSH_AUTH_SOCK": place}
+        until = time.monotonic() + PATIENCE
+        while not os.path.exists(place) and time.monotonic() < until:
+            time.sleep(0.05)
+        add = ["ssh-add", "-q", str(site.folder / "ann")]
+        subprocess.run(add, env=environment, check=True, stdin=subprocess.DEVNULL)
+        ran = subprocess.run(words, env=environment, capture_output=True, text=True, check=False)
+        assert ran.stdout.startswith("You are bob.\n"), ran
+    finally:
+        agent.terminate()
+        agent.wait()
+
+
+READS = ["history --all", "live", "mine", "waiting", "ceilings", "review", "help", "show ann 1"]
+
+
+@pytest.mark.parametrize("line", READS)
+def test_nobody_outside_the_roster_reads(both: tuple[Site, Sshd], line: str) -> None:
+    """As on the page: a key that somebody has still is no reason."""
+    site, sshd = both
+    asked(sshd)
+    ran = site.run("mallory", line)
+    assert not ran.stdout, ran
+    assert ran.returncode == 2 and "the roster has nobody whose name is mallory" in ran.stderr, ran
+
+
+def test_nobody_outside_the_roster_asks(both: tuple[Site, Sshd]) -> None:
     site, _ = both
+    before = messages(site)
     ran = site.run("mallory", "ask db-care --on db1 --as root --for 2h --yes /usr/bin/id")
-    assert ran.returncode == 2 and "A1 UnknownPerson" in ran.stdout, ran
+    assert ran.returncode == 2 and "the roster has nobody" in ran.stderr, ran
+    assert messages(site) == before
     for name in ("", "Ann", "ann,bob", "ann\nbob", "../ann"):
         ran = site.run(name, "mine")
         assert ran.returncode == 2 and not ran.stdout, ran

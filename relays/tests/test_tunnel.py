@@ -152,7 +152,7 @@ class Far:
         }
 
     def tried(self) -> dict[str, str]:
-        """What comes of each of them, and of a shell."""
+        """The answer to each try, and to a shell."""
         found = {what: self.status(*self.asked()[what]) for what in self.asked()}
         return found | {"a shell": "200" if self.has_shell() else "none"}
 

@@ -142,7 +142,7 @@ def test_what_cannot_be_reached(tmp_path: Path) -> None:
 
 
 def test_a_certificate_that_is_not_there(front: Front, tmp_path: Path) -> None:
-    """It is no missing socket, although the system says 'No such file' of both."""
+    """A missing certificate is no missing socket: the system says 'No such file' for both."""
     pair = (str(tmp_path / "relay.pem"), str(tmp_path / "relay.key"))
     desk = Desk(front.address.replace("http:", "https:"), "chat", pair)
     with pytest.raises(Silent, match=r"cannot be reached \(certificate\)"):

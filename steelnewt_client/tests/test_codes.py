@@ -9,9 +9,10 @@ import pytest
 from steelnewt_client.codes import FRONT_MEANS, SENTENCES, Fate, in_words, judge
 
 DOCS = Path(__file__).resolve().parents[2] / "docs"
-FINAL = ["M1", "M2", "M3", *(f"A{number}" for number in range(1, 9))]
-MEND = ["P1", "P2", "T1", "T2", "T3", "T4", "T5", "T6", "T8"]
-AGAIN = ["T7", "K4", "K5", "G1"]
+ADMISSION, DOOR = (range(1, 9), range(20, 26))
+FINAL = ["M1", "M2", "M3", *(f"A{number}" for number in (*ADMISSION, *DOOR))]
+MEND = ["P1", "P2", "P20", "T1", "T2", "T3", "T4", "T5", "T6", "T8"]
+AGAIN = ["T7", "K4", "K5", "G1", *(f"K{number}" for number in range(20, 27))]
 WANTED = {
     code: fate
     for codes, fate in ((FINAL, Fate.FINAL), (MEND, Fate.MEND), (AGAIN, Fate.AGAIN))
@@ -38,7 +39,7 @@ def served() -> list[tuple[int, str]]:
     return [
         (int(status), f"{code} {names[code]}")
         for status, codes in rows
-        for first, last in re.findall(r"`([A-Z][0-9])`(?: to `([A-Z][0-9])`)?", codes)
+        for first, last in re.findall(r"`([A-Z][0-9]{1,2})`(?: to `([A-Z][0-9]{1,2})`)?", codes)
         for code in between(first, last or first)
     ]
 
@@ -93,7 +94,8 @@ def test_a_front_that_answers_by_itself() -> None:
 def rows() -> dict[str, tuple[str, str]]:
     """The rows of docs/CODES.md that have what to do."""
     text = (DOCS / "CODES.md").read_text(encoding="utf-8")
-    found = re.findall(r"^\| `([AM][0-9] [A-Za-z]+)` \| ([^|]+) \| ([^|]+) \|$", text, re.MULTILINE)
+    row = r"^\| `([AM][0-9]{1,2} [A-Za-z]+)` \| ([^|]+) \| ([^|]+) \|$"
+    found = re.findall(row, text, re.MULTILINE)
     return {code: (when, then) for code, when, then in found}
 
 
@@ -102,7 +104,7 @@ def test_each_sentence_is_the_documents() -> None:
 
 
 def test_each_code_of_a_message_is_there() -> None:
-    assert [it[:2] for it in sorted(SENTENCES)] == sorted(FINAL)
+    assert [it.partition(" ")[0] for it in sorted(SENTENCES)] == sorted(FINAL)
 
 
 def test_a_person_reads_what_to_do() -> None:

@@ -180,7 +180,7 @@ def shown(figure: Figure) -> str:
 
 
 def judged(what: str, ratio: float, most: float) -> bool:
-    """Prints a figure beside what is promised of it; whether it is more."""
+    """Prints a figure beside the promised one; returns whether it is more."""
     print(f"{what}: {ratio:,.2f}, at most {most:,g}: {'holds' if ratio <= most else 'FAILS'}")
     return ratio > most
 

@@ -62,7 +62,7 @@ def roster() -> str:
 
 
 def granted(first: int, count: int, host: str | None, is_past: bool = False) -> Iterator[str]:
-    """So many messages, a request and its approval in turn; of one host, or of the others."""
+    """So many messages, a request and its approval in turn, for one host or for the others."""
     for number in range(first, first + count // 2):
         asker = ASKERS[number % len(ASKERS)]
         hosts = [host or HOSTS[1 + number % (len(HOSTS) - 1)]]

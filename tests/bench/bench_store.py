@@ -97,7 +97,7 @@ def best(measure: Callable[[], Cost]) -> Cost:
 
 
 def judged(what: str, ratio: float, most: float) -> bool:
-    """Prints a figure beside what is promised of it; whether it is more."""
+    """Prints a figure beside the promised one; returns whether it is more."""
     holds = ratio <= most
     print(f"{what}: {ratio:,.2f}, at most {most:,g}: {'holds' if holds else 'FAILS'}", flush=True)
     return not holds

@@ -1,5 +1,5 @@
 #!/usr/bin/env python3
-"""Counts what the calls that take no memory ask of it: nothing.
+"""Counts how often the calls that take no memory ask for some: never.
 
 The program crates/allocation_counts makes each of these calls in each of its rounds: over the
 example's roster and base, its messages, and an invocation. With one round and with a thousand it

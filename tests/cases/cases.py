@@ -28,7 +28,7 @@ Text = Any
 # What has to stand on a stream: a text, any text, or what a function says yes to.
 Expected = str | Callable[[str], bool] | None
 Wanted = tuple[Expected, Expected, int]
-# Its title, what is run, and what is wanted of it; visits say so themselves.
+# Its title, what is run, and the answer that is wanted; visits have their answers themselves.
 Case = tuple[str, "Run | Visits", "Wanted | None"]
 
 
@@ -49,8 +49,8 @@ Fault = Callable[[str], str | None]
 
 
 class Visits(NamedTuple):
-    """Runs in a row over one store, each with what is wanted of it: how its file is made before,
-    and what is wrong with it after, if something is.
+    """Runs in a row over one store, each with the answer that is wanted: how the store's file is
+    made before, and the fault of the file after, if there is one.
 
     The texts are those that the recipe's statements name. The file may be `taken` by another
     program meanwhile, or have to stay `untouched`, and `bounded` takes root's right to pass over a
@@ -192,7 +192,7 @@ def check_limits(table: Table) -> Iterator[Case]:
 
 
 def decide(text: str, line: Text, decision: str) -> tuple[Run, Wanted]:
-    """A run that decides, with what is wanted of it."""
+    """A run that decides, with the answer that is wanted."""
     return Run(text.encode(), ["decide", "BASE", *words_of(line)]), (
         decision + "\n",
         "",
@@ -260,7 +260,7 @@ def ask_for(table: Table, text: str) -> Run:
 
 
 def granted(text: str) -> Wanted:
-    """What is wanted of it where the text is a command's."""
+    """The answer that is wanted where the text is a command's."""
     return f"ann db1 = (root) {WINDOW} {text}\n", "", 0
 
 
@@ -462,8 +462,8 @@ def lines_of(table: Table, rows: Iterable[str | Table]) -> str:
 def answers_of(
     table: Table, roster: str, rows: list[Table], relay: str = "web"
 ) -> tuple[Run, Wanted]:
-    """A run that delivers the messages of rows, each with what is answered, and what is wanted of
-    it."""
+    """A run that delivers the messages of rows, each with its answer; and the answers that are
+    wanted."""
     answers = [row["answer"] for row in rows]
     given = "".join(
         (row["line"] if "line" in row else desk.canonical(message_of(table, row["message"]))) + "\n"

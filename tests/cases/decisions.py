@@ -31,8 +31,7 @@ ARGUMENTS = ("", "", " -l", " -a", " -l -a")
 
 
 class Asked(NamedTuple):
-    """A policy, the words of each invocation, and what has to be decided of it, where that is
-    known."""
+    """A policy, the words of each invocation, and the wanted decision, where that is known."""
 
     policy: str
     runs: list[tuple[str, str | None]]

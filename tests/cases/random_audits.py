@@ -156,7 +156,7 @@ def is_picked(said: Entry, pick: Pick) -> bool:
 
 
 def document(roster: Roster, texts: Iterable[str], pick: Pick) -> Entry:
-    """What is said of these texts."""
+    """The document that the desk has to print of these messages."""
     about: dict[tuple[str, int], tuple[list[Message], list[Message]]] = {}
     for each in map(json.loads, texts):
         is_request = each["kind"] == "request"

@@ -185,7 +185,7 @@ class Server:
 
     @property
     def error(self) -> IO[bytes]:
-        """Its standard error, which was asked for as a pipe."""
+        """The server's standard error, which was asked for as a pipe."""
         assert self.process.stderr is not None
         return self.process.stderr
 

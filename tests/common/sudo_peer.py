@@ -7,11 +7,9 @@ Debian's sudo asks for a host's canonical name, and no resolver is to be asked h
 are bound over the machine's in that namespace alone, so nothing of the machine changes.
 """
 
-import importlib.machinery
 import os
 import subprocess
 import sys
-import types
 from collections.abc import Iterable, Mapping, Sequence
 from typing import NoReturn
 
@@ -101,18 +99,11 @@ def accepts(visudo: str, what: str, text: str, folder: str) -> bool:
     return answer.returncode == 0
 
 
-def desk_host() -> types.ModuleType:
-    """packaging/desk-host as a module."""
-    loader = importlib.machinery.SourceFileLoader(
-        "desk_host", os.path.join(desk.ROOT, "packaging", "desk-host")
-    )
-    made = types.ModuleType("desk_host")
-    sys.modules["desk_host"] = made
-    is_written = sys.dont_write_bytecode
-    sys.dont_write_bytecode = True
-    loader.exec_module(made)
-    sys.dont_write_bytecode = is_written
-    return made
+def host_program(path: str, tree: str = desk.ROOT) -> str:
+    """Makes the program desk-host of a tree there: its path."""
+    script = os.path.join(tree, "scripts", "host_program.py")
+    subprocess.run([sys.executable, script, path], check=True)
+    return path
 
 
 def allows(programs: Mapping[str, str], words: Sequence[str]) -> bool:

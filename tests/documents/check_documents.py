@@ -150,7 +150,7 @@ def old_store(page: Page, block: str) -> None:
     ran = page.run("build/desk print examples/roster.toml examples/site.sudo old.db db1")
     page.holds("an older store", ran.stderr == "K2 NotADesk\n", ran)
     said = page.out(block)
-    page.holds("it comes over", said.split()[1:] == ["2", "ack", "ok"], said)
+    page.holds("it comes over", said.split() == ["2", "ack", "ok"], said)
 
 
 def log_alone(page: Page, block: str) -> None:

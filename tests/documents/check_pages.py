@@ -40,8 +40,9 @@ TYPED: list[tuple[list[str], set[str]]] = [
     (["desk-lint", "--r"], {"--roster"}),
     (["desk-lint", "--roster", "rost"], {"roster.toml"}),
     (["desk-lint", "--explain", ""], set()),
-    (["desk-import", "--re"], {"--report"}),
+    (["desk-import", "--rep"], {"--report"}),
     (["desk-import", "base."], {"base.sudo"}),
+    (["desk-import", "comp"], {"compare"}),
     (["desk-used", "--base"], {"--baseline"}),
     (["desk-used", "used."], {"used.log"}),
     (["desk-evidence", "--sec"], {"--second-reading"}),
@@ -50,9 +51,10 @@ TYPED: list[tuple[list[str], set[str]]] = [
     (["desk-change-roster", "--give"], {"--give-back"}),
     (["desk-roster", "--pe"], {"--people"}),
     (["desk-roster", "--on", ""], set()),
+    (["desk-demo", "--d"], {"--desk"}),
     (["desk-relay", "po"], {"post", "post-again"}),
     (["desk-relay", "--p"], {"--person"}),
-    (["desk-relay-person", "re"], {"remove"}),
+    (["desk-relay-person", "re"], {"remove", "renew"}),
     (["desk-relay-person", "--k"], {"--keys"}),
     (["desk-compare", "me"], {"messages"}),
     (["desk-publish", "--p"], {"--patience"}),
@@ -138,7 +140,8 @@ def check_tools(tools: list[dict]) -> tuple[int, list[str]]:
     """The table's options of each program that has a page of its entry, beside its own help."""
     wrong = []
     for tool in (each for each in tools if "says" in each):
-        path = os.path.join(desk.ROOT, "broker", tool["name"])
+        folders = (os.path.join(desk.ROOT, it) for it in ("broker", "relays"))
+        path = shutil.which(tool["name"], path=":".join(folders)) or tool["name"]
         words = [[path, *word, "--help"] for word in ([], *([it] for it in tool.get("words", [])))]
         texts = [subprocess.run(each, capture_output=True, text=True).stdout for each in words]
         found = set(re.findall(r"^  (?:-h, )?(--[a-z]+)", "\n".join(texts), re.MULTILINE))

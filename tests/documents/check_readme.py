@@ -1,66 +1,64 @@
 #!/usr/bin/env python3
-"""Runs the first grant and the worked example of README.md over build/desk, and compares what they
-print with what README.md says."""
+"""Runs desk-demo, as README.md has it, over build/desk or the program that DESK names, and compares
+its output with README.md: other moments, and `..` for lines left out. The commands of CONCEPTS.md
+are those of the demo, but for `--yes`, and each `make` of README.md is a target. (README's `apt
+install` is run by tests/packages/release.py.)"""
 
 import os
-import pathlib
-import shutil
+import re
 import subprocess
 import sys
-import tempfile
 
 from tests.common import desk
 
-ROOT = pathlib.Path(desk.ROOT)
-# what installs the package and copies its examples: here they are there
-INSTALLS = ("apt install ", "cp -r /usr/share/doc/steelnewt/examples ")
+PROGRAM = os.environ.get("DESK", os.path.join(desk.ROOT, "build", "desk"))
+# moments, as a person, the relay and sudoers write them
+MOMENTS = re.compile(r"\b[A-Z][a-z]{2} \d{4}-\d\d-\d\d \d\d:\d\d:\d\d UTC|\b\d{14}Z")
 
 
-def blocks(text: str, heading: str) -> list[str]:
-    """The blocks of code under a heading, each without its fences."""
-    section = text.split(f"\n## {heading}\n", 1)[1].split("\n## ", 1)[0]
-    return [part.split("\n", 1)[1] for part in section.split("```")[1::2]]
+def shown(text: str) -> list[str]:
+    """What the page shows, in the pieces between which lines are left out."""
+    section = text.split("\n## Two commands\n", 1)[1].split("\n## ", 1)[0]
+    block = section.split("```\n")[-2]
+    pieces = re.split(r"^\.\.\n|\n(?=\n)", MOMENTS.sub("MOMENT", block), flags=re.MULTILINE)
+    return [piece.strip("\n") + "\n" for piece in pieces]
 
 
-def printed(commands: str, folder: pathlib.Path) -> str:
-    """What the commands print in a folder, with the program on the path."""
-    (folder / "bin").mkdir()
-    (folder / "bin" / "desk").symlink_to(ROOT / "build" / "desk")
-    environment = {**os.environ, "PATH": f"{folder}/bin:{os.environ['PATH']}"}
-    ran = subprocess.run(
-        ["bash", "-c", commands],
-        cwd=folder,
-        env=environment,
-        stdout=subprocess.PIPE,
-        text=True,
-        check=False,
-    )
-    return ran.stdout
+def not_run(ran: str) -> list[str]:
+    """Commands of CONCEPTS.md that the demo does not run."""
+    done = {line.partition("$ ")[2].replace(" --yes", "") for line in ran.splitlines()}
+    words = re.findall(r"`(ssh desk [^`]+)`", " ".join(desk.read("docs", "CONCEPTS.md").split()))
+    assert len(words) >= 2, "CONCEPTS.md shows no commands"
+    return [it for it in words if it not in done]
 
 
-def first_grant(text: str) -> str:
-    """What the first grant prints, in a copy of the examples."""
-    (commands,) = blocks(text, "Install it, and a first grant")
-    lines = [line for line in commands.splitlines() if not line.startswith(INSTALLS)]
-    with tempfile.TemporaryDirectory() as folder:
-        room = pathlib.Path(folder, "desk")
-        shutil.copytree(ROOT / "examples", room)
-        return printed("\n".join(lines), room)
+def no_targets() -> list[str]:
+    """What README.md has made that no target of the Makefile makes."""
+    made = re.findall(r"^make (\w+) ", desk.read("README.md"), re.MULTILINE)
+    assert len(made) >= 4, "README.md makes nothing"
+    targets = {it[1] for it in re.finditer(r"^([\w-]+):", desk.read("Makefile"), re.MULTILINE)}
+    return [it for it in made if it not in targets]
 
 
 def main() -> None:
-    text = desk.read("README.md")
-    commands, expected = blocks(text, "A worked example")
-    with tempfile.TemporaryDirectory() as folder:
-        for name in ("build", "examples"):
-            (pathlib.Path(folder) / name).symlink_to(ROOT / name)
-        found = printed(commands, pathlib.Path(folder))
-    if found != expected:
-        sys.exit(f"README.md: the worked example prints\n{found}and not\n{expected}")
-    found, file = first_grant(text), expected.partition("allow\n")[0]
-    if found != file:
-        sys.exit(f"README.md: the first grant prints\n{found}and not\n{file}")
-    print("the first grant and the worked example of README.md print what it says")
+    ran = subprocess.run(
+        [os.path.join(desk.ROOT, "relays", "desk-demo"), "--desk", PROGRAM],
+        capture_output=True,
+        text=True,
+        check=False,
+    )
+    if ran.returncode:
+        sys.exit(f"desk-demo ended with {ran.returncode}: {ran.stdout}{ran.stderr}")
+    rest = MOMENTS.sub("MOMENT", ran.stdout)
+    for piece in shown(desk.read("README.md")):
+        _, found, rest = rest.partition(piece)
+        if not found:
+            sys.exit(f"README.md: desk-demo does not print, at its place:\n{piece}")
+    if wrong := not_run(ran.stdout):
+        sys.exit(f"CONCEPTS.md: desk-demo does not run {wrong}")
+    if wrong := no_targets():
+        sys.exit(f"README.md: no target of the Makefile is {wrong}")
+    print("desk-demo prints what README.md shows of it, and runs the commands of CONCEPTS.md")
 
 
 main()

@@ -1,6 +1,6 @@
 #!/usr/bin/env python3
 """Follows docs/RUNBOOKS.md over build/desk, or the program that DESK names: each block of commands
-is run as it stands there, and what the page says of it is compared.
+is run as it stands there, and its output is compared with the page.
 
 It is done in a root of its own, this machine's under an overlay that is thrown away, with
 namespaces for mounts, processes and network. The service is `desk-serve` as the unit's account;
@@ -22,6 +22,7 @@ import tempfile
 import time
 
 from tests.common import desk
+from tests.common.sudo_peer import host_program
 from tests.packages.package_test import furnish
 
 PAGE = desk.read("docs", "RUNBOOKS.md")
@@ -35,6 +36,7 @@ DOC = "/usr/share/doc/steelnewt/examples"
 PATIENCE = 600  # the seconds after which something hangs: the machine may be busy
 FILES = ("/etc/desk/roster.toml", "/etc/desk/base.sudo")
 SOCKET = "/run/desk/desk.sock"
+ROOTS = "/etc/desk/roots"  # a file that is root's alone, and that the account `desk` would like
 FRONT_CA = "sh /usr/local/bin/front-ca.sh /etc/desk/front"
 STAND_INS = {
     # the service, started as its unit starts it; INSTANCE, STORE and ADDR make a second one
@@ -91,7 +93,12 @@ esac
     # the host db1 is this machine; at desk, the relay is called as sshd does by the person's key
     "ssh": """#!/bin/bash
 key=/root/ann
-[ "$1" != -i ] || { key=$2; shift 2; }
+while [ "$1" = -o ]; do options+=" $2"; shift 2; done
+if [ "$1" = -i ]; then
+    # (an agent's keys are offered before a file's, but for these two)
+    [ "$options" = ' IdentitiesOnly=yes IdentityAgent=none' ] && key=$2
+    shift 2
+fi
 if [ "$1" = desk ]; then
     shift
     keys=/var/lib/desk-relay/.ssh/authorized_keys
@@ -192,7 +199,10 @@ class Room:
         """A desk of examples/ anew, with these messages."""
         self.run(
             f"systemctl stop desk; rm -rf {HERE} /root/* /etc/sudoers.d/desk /var/lib/desk-host;"
-            f" install -d -m 0700 -o desk -g desk {HERE}"
+            f" install -d -m 0700 -o desk -g desk {HERE};"
+            f" echo root > {ROOTS} && chmod 0600 {ROOTS}"
+            # (whoever has the account plants a link where a page's line may take hold of it)
+            f" && runuser -u desk -- ln -s {ROOTS} {HERE}/desk.db-x"
         )
         for name, source in zip(FILES, (desk.ROSTER, desk.BASE), strict=True):
             shutil.copy(source, self.path(name))
@@ -274,12 +284,8 @@ def roster_changed(room: Room) -> None:
     is_kept = re.fullmatch(r"\d{14}Z\.toml\n", kept.stdout) is not None
     room.holds("the roster is kept", is_kept and kept.returncode == 0, kept)
     room.holds("it is not granted", room.text(f"/v1/grants/{near(0)}") == "")
-    back = "desk rebuild /root/old.toml /etc/desk/base.sudo desk.db"
-    room.says("A roster is changed", "`desk rebuild /root/old.toml ..`: the desk answers as before")
-    done = room.run(
-        f"{PREAMBLE}systemctl stop desk; {back} && cp /root/old.toml /etc/desk/roster.toml;"
-        " chown desk:desk desk.db* && systemctl start desk"
-    )
+    room.says("A roster is changed", "same with `/root/old.toml`: the desk answers as before")
+    done = room.follow("A roster is changed", 2, "cp /root/old.toml /root/new.toml")
     room.holds("rebuilt with the old one", done.stdout == "ok\n", done)
     room.holds("as before", room.text(f"/v1/grants/{near(0)}") == before != "", before)
 
@@ -352,7 +358,7 @@ def revoked(room: Room) -> None:
     room.says(heading, "the last line says 1")
     room.holds("sudo on the host", lines[-1:] == ["1"], done)
     room.holds("ann may not after it", not room.may("/usr/bin/id"))
-    at = re.search(r'"at":"(\d+Z)"', room.read("/root/revoke.json"))
+    at = re.search(r'"at":"(\d+Z)"', room.read("/root/revoked.txt"))
     ends = re.search(r"NOTAFTER=(\d+Z)", room.text("/v1/hosts/db1/sudoers"))
     moments = [time.strptime(it[1], "%Y%m%d%H%M%SZ") for it in (at, ends) if it]
     apart = [time.mktime(it) for it in moments]
@@ -397,8 +403,10 @@ def no_approver(room: Room) -> None:
     done = room.follow(heading, 0)
     phrase = re.search(r"for the envelope: \S{24}\n", done.stdout)
     room.holds("the envelope", phrase is not None, done)
-    # (it tells what comes from its first round on)
-    told = "grep -q told_from <(sqlite3 /var/lib/desk-relay/outbox.db .dump)"
+    # (it tells what comes from its first round on; root's sqlite3 would make an outbox that is not
+    # there, and the relay could not open that)
+    box = "/var/lib/desk-relay/outbox.db"
+    told = f"[ -s {box} ] && grep -q told_from <(sqlite3 {box} .dump)"
     room.run(f"for _ in $(seq 600); do {told} && break; sleep 0.1; done")
     room.says(heading, "its use rings every bell", "An asker's own approval counts under no")
     done = room.follow(heading, 1)
@@ -415,7 +423,8 @@ def no_approver(room: Room) -> None:
     done = room.follow(heading, 3)
     reviewed = re.search(r"approve +\d+Z glass counts\n(?s:.*)nobody answers", done.stdout)
     room.holds("it is reviewed", reviewed is not None, done)
-    gone = room.run("ssh -i /root/glass desk approve ann 2 --yes")
+    alone = "-o IdentitiesOnly=yes -o IdentityAgent=none"
+    gone = room.run(f"ssh {alone} -i /root/glass desk approve ann 2 --yes")
     room.holds("the key is gone", gone.stdout == "denied\n", gone)
     room.run("kill $(cat /run/relay-*.pid); rm /var/lib/desk-relay/outbox.db*")
 
@@ -457,7 +466,7 @@ def disk_full(room: Room) -> None:
     # (once it has answered K4, a question may be K4 as well until there is room)
     done = room.follow(heading, 0, f"cd {small}\n")
     room.holds("what is seen", "100%" in done.stdout and "old-copy" in done.stdout, done)
-    room.says(heading, "Move copies away (`old-*`, `lost-*`)", "takes messages again as soon as")
+    room.says(heading, "Move copies away (`as_desk tar c lost-*", "takes messages again as soon as")
     room.run(f"rm {small}/old-copy")
     again = room.post(desk.approval(99))
     room.holds("as soon as there is room", again == ["ack\n"], again)
@@ -491,8 +500,10 @@ def restore(room: Room) -> None:
     room.write("/root/messages.txt", room.text("/v1/messages"))
     room.post(desk.approval(50))
     # a page of the store is damaged, and its log is there
-    room.run("p=$(cat /run/desk.pid); kill -KILL $(cat /proc/$p/task/$p/children) $p")
-    room.run("rm /run/desk.pid; sleep 0.5")
+    room.run(
+        "p=$(cat /run/desk.pid); all=\"$(cat /proc/$p/task/$p/children) $p\"; kill -KILL $all;"
+        " rm /run/desk.pid; while ps -o stat= -p \"$all\" | grep -qv Z; do sleep 0.05; done"
+    )
     room.write(f"{HERE}/desk.db", "no database at all" * 300)
     done = room.follow(heading, 0)
     room.says(heading, "**Where it prints nothing the copy is empty**")
@@ -500,26 +511,58 @@ def restore(room: Room) -> None:
     room.holds("what is there", room.text("/v1/messages") == listed(messages), done)
     lost = [name for name in os.listdir(room.path(HERE)) if name.startswith("lost-")]
     room.holds("the old file is kept", len(lost) == 1, os.listdir(room.path(HERE)))
-    for log in (True, False):
-        restore_file(room, log)
+    for kind in ("with its log", "without a log", "as 'A backup' says"):
+        restore_file(room, kind)
 
 
-def restore_file(room: Room, with_log: bool) -> None:
+def after_incident(room: Room) -> None:
+    """A copy from before an incident brings a forged grant back, and what was revoked by hand is
+    revoked again."""
+    heading, grants = "A restore", f"/v1/grants/{near(0)}"
+    forged = granted_now()
+    make_front(room)
+    room.begin(*forged)
+    room.write("/root/messages.txt", room.text("/v1/messages"))
+    done = room.follow("A right has to end now", 0)
+    room.holds("it is revoked", done.stdout.startswith("ack\n"), done)
+    done = room.follow(heading, 0)
+    room.holds("the copy is taken", done.stdout.split() == ["2", "ack"], done)
+    room.says(heading, "**A copy from before an incident brings back what was forged.**")
+    room.holds("it brings the grant back", "ann 7 " in room.text(grants), done)
+    differ = " | ssh db1 diff /etc/sudoers.d/desk -\n"
+    compare = next(it for it in blocks(section(heading), "sh") if differ in it).splitlines()[-1]
+    shown = room.run(f"{PREAMBLE}{compare}").stdout
+    room.holds("and the hosts' file shows it", "\n> ann db1 = " in f"\n{shown}", shown)
+    done = room.follow(heading, 2)
+    room.holds("what was revoked is posted again", done.stdout.startswith("ack\n"), done)
+    room.holds("and the grant is over", "ann 7 " not in room.text(f"/v1/grants/{near(0)}"), done)
+    room.holds("nothing is there that no host has", "\n>" not in done.stdout, done)
+
+
+def restore_file(room: Room, what: str) -> None:
     """From a copy of the file, with its log or in one file, beside a log of what came later."""
     room.run(f"rm -rf {HERE}/lost-* /root/desk.backup*")
     before = room.text("/v1/messages")
-    if with_log:
-        copy = f"for end in '' -wal; do cp {HERE}/desk.db$end /root/desk.backup$end; done"
+    if what == "with its log":
+        room.run(f"for end in '' -wal; do cp {HERE}/desk.db$end /root/desk.backup$end; done")
     else:
-        copy = f"systemctl stop desk; desk print {' '.join(FILES)} {HERE}/desk.db db1 > /dev/null;"
-        copy += f" cp {HERE}/desk.db /root/desk.backup; chown desk:desk {HERE}/*"
-        copy += " && systemctl start desk"
-    room.run(copy)
+        copy_stopped(room, what)
     room.post(*map(desk.approval, range(60, 70)))
     done = room.follow("A restore", 1)
     after = room.text("/v1/messages")
-    what = "with its log" if with_log else "without a log"
     room.holds(f"the copy {what}", after == before != "", f"{done} {after}")
+
+
+def copy_stopped(room: Room, what: str) -> None:
+    """A copy of the file of a desk that is stopped meanwhile."""
+    room.run("systemctl stop desk")
+    if what == "without a log":
+        merge = f"desk print {' '.join(FILES)} {HERE}/desk.db db1 > /dev/null"
+        room.run(f"runuser -u desk -- {merge}; cp {HERE}/desk.db /root/desk.backup")
+    else:
+        made = room.follow("A backup", 0)
+        room.holds("a copy of the file", made.returncode == 0, made)
+    room.run("systemctl start desk")
 
 
 def second_desk(room: Room) -> None:
@@ -626,6 +669,7 @@ def key_lost(room: Room) -> None:
     room.run("systemctl restart nginx")
     host_lost(room)
     relay_lost(room)
+    relay_account_lost(room)
     authority_lost(room)
     room.run("systemctl stop nginx; rm -rf /etc/desk/front /root/front.lost /root/stolen")
 
@@ -669,6 +713,32 @@ def relay_lost(room: Room) -> None:
     room.holds("the relay posts by its new one", again == "ack\n200", again)
 
 
+def relay_account_lost(room: Room) -> None:
+    """Whoever had the relay's account wrote the forged messages into its outbox, too: comparing
+    the two tells nothing of them, and the page says so. The page replaces what the account could
+    read."""
+    heading, forged = "A key is lost", desk.approval(62)
+    room.post(forged)
+    sql = f"INSERT INTO messages VALUES ('{forged}')"
+    room.run('sqlite3 /var/lib/desk-relay/outbox.db "$SQL"', SQL=sql)
+    done = room.follow(heading, 1)
+    room.holds("the forged line is held", forged in room.read("/root/held").splitlines(), done)
+    is_shown = forged in done.stdout.splitlines()
+    is_said = "its outbox proves nothing" in " ".join(section(heading).split())
+    room.holds("a forged line in the outbox is shown, or said not to be", is_shown or is_said, done)
+    room.says(heading, "A relay's account `desk-relay`, or its machine**: the same, off the")
+    room.says(heading, "ask people which lines of `/root/held` are theirs")
+    made = room.run(f"{FRONT_CA} auditor web && cp /etc/desk/front/auditor-web.* /root/stolen")
+    before = by_certificate(room, "/root/stolen/auditor-web", "/v1/messages")
+    room.holds("the thief reads all", before.endswith("200"), (made, before))
+    room.says(heading, "the reader's certificate (`$ca revoke auditor-web`)")
+    done = room.run(f"{PREAMBLE}$ca revoke auditor-web && nginx -t && systemctl restart nginx")
+    after = by_certificate(room, "/root/stolen/auditor-web", "/v1/messages")
+    room.holds("and then no more", after.endswith("403"), (done, after))
+    room.says(heading, "with `numbers` past those in `/root/held`")
+    room.says(heading, "the page's secret and key ([RELAYS.md](RELAYS.md)), the webhook, the")
+
+
 def authority_lost(room: Room) -> None:
     file = "/v1/hosts/db1/sudoers"
     names = ("host-db1", "relay-chat", "auditor-carol")
@@ -698,6 +768,7 @@ BOOKS = (
     disk_full,
     upgrade,
     restore,
+    after_incident,
     second_desk,
 )
 
@@ -740,11 +811,11 @@ def prepare(room: Room) -> None:
     for source, name in (
         (PROGRAM, "desk"),
         (os.path.join(desk.ROOT, "packaging", "desk-serve"), "desk-serve"),
-        (os.path.join(desk.ROOT, "packaging", "desk-host"), "desk-host"),
         (os.path.join(desk.EXAMPLES, "front-ca.sh"), "front-ca.sh"),
     ):
         shutil.copy(source, room.path(f"/usr/local/bin/{name}"))
         os.chmod(room.path(f"/usr/local/bin/{name}"), 0o755)
+    host_program(room.path("/usr/local/bin/desk-host"))
     for folder in (DOC, "/etc/desk", "/etc/cron.d", "/etc/nginx/conf.d"):
         os.makedirs(room.path(folder), exist_ok=True)
     for name in ("front-ca.sh", "feed-desk.sh"):
@@ -774,6 +845,8 @@ def inside() -> None:
             prepare(room)
             for book in BOOKS:
                 book(room)
+                whose = room.run(f"stat -c '%U %a' {ROOTS}; cat {ROOTS}").stdout
+                room.holds(f"{book.__name__}: root's file", whose == "root 600\nroot\n", whose)
             room.run("systemctl stop desk")
         finally:
             subprocess.run(["umount", "--lazy", folder], check=True)

@@ -1,6 +1,6 @@
 #!/usr/bin/env python3
 """Follows docs/TEAM.md line by line over build/desk, or the program that DESK names, and compares
-what the page says of it: from the packages to a grant on a host, its audit and a new roster. Then
+the output with the page: from the packages to a grant on a host, its audit and a new roster. Then
 people come from a table, by the lines of docs/PEOPLE.md; and what comes after that in a team's life
 is in check_team_rest.py.
 
@@ -23,7 +23,7 @@ import time
 
 from tests.common import desk
 from tests.documents import check_runbooks, check_team_rest
-from tests.documents.check_runbooks import BOOK, PROGRAM, STAND_INS, Room
+from tests.documents.check_runbooks import BOOK, PROGRAM, SOCKET, STAND_INS, Room
 from tests.packages.package_test import furnish
 
 TEXT = desk.read("docs", "TEAM.md")
@@ -31,14 +31,40 @@ MOST = 12 * 1024
 DEBIAN = os.path.join(desk.ROOT, "packaging", "debian")
 TREES = "/packages"
 PACKAGES = ("steelnewt", "steelnewt-host", "steelnewt-relay", "steelnewt-tools")
-PACKAGES += ("python3-steelnewt-client",)
+PACKAGES += ("steelnewt-host-plugin", "python3-steelnewt-client", "steelnewt-door")
 NEEDED = "adduser curl nginx-light openssl openssh-client openssh-server python3-flask"
+NEEDED += " python3-cryptography"
 NEEDED += " python3-itsdangerous python3-jsonschema python3-pip python3-setuptools python3-wheel"
 NEEDED += " python3-waitress sqlite3 sudo"
 PEOPLE = ("ann", "ben", "carol")
+AT_DOOR = "/run/desk-door/desk.sock"
+MINUTES = {"two": 2, "three": 3, "five": 5, "eight": 8, "ten": 10, "thirty": 30, "forty": 40}
 SSH = "Host desk\n    HostName desk.example\n    User desk-relay\n"
+# what systemd does of the door's unit, and of the desk's with the door's file beside it
+DOOR = """door() {
+    if [ -e /run/door.pid ]; then
+        kill "$(cat /run/door.pid)"
+        while runs "$(cat /run/door.pid)"; do sleep 0.1; done
+    fi
+    install -d -o desk-door -g desk-front -m 0750 /run/desk-door
+    install -d -o desk-door -g desk-door -m 0700 /run/desk-door/root
+    setsid setpriv --reuid desk-door --regid desk-front --groups desk-front,desk-door \\
+        env -i PATH=/usr/bin:/bin desk-door serve > /tmp/desk-door.log 2>&1 < /dev/null &
+    echo $! > /run/door.pid
+    for _ in $(seq 1200); do
+        grep -q listening /tmp/desk-door.log && return 0
+        runs "$(cat /run/door.pid)" || break
+        sleep 0.1
+    done
+    cat /tmp/desk-door.log >&2
+    return 1
+}
+group=$(sed -n s/^Group=//p /etc/systemd/system/desk.service.d/door.conf 2> /dev/null)
+"""
 UNITS = """case $* in
-    'enable --now desk') start ;;
+    daemon-reload) ;;
+    'enable --now desk desk-door') start && door ;;
+    'restart desk-door') door ;;
     'enable --now desk-relay-post') relay post ;;
     'enable --now desk-fetch@prod1.timer' | 'start desk-fetch@prod1') desk-host fetch prod1 ;;
 """
@@ -65,7 +91,7 @@ def built(room: Room) -> None:
     """The packages of build/deb, where their administrator has them."""
     folder = os.path.join(desk.BUILD, "deb")
     found = [it for it in os.listdir(folder) if it.endswith(".deb")]
-    room.holds("the packages are built: bash scripts/deb.sh", len(found) == 6, found)
+    room.holds("the packages are built: bash scripts/deb.sh", len(found) == 9, found)
     for name in found:
         shutil.copy(os.path.join(folder, name), room.path("/root"))
 
@@ -89,7 +115,8 @@ def packages(room: Room) -> None:
 def prepare(room: Room, is_built: bool) -> None:
     """A machine on which nothing of the desk is installed, and the accounts of its people."""
     os.mkdir(room.path(BOOK))
-    units = STAND_INS["systemctl"].replace("case $* in\n", UNITS)
+    units = STAND_INS["systemctl"].replace("desk-front", '"${group:-desk-front}"')
+    units = units.replace("case $* in\n", DOOR + UNITS)
     units = units.replace("/usr/local/bin/desk-serve", "/usr/libexec/steelnewt/desk-serve")
     stand_ins = {"systemctl": units, "ssh": STAND_INS["ssh"].replace("db1", "prod1")}
     if is_built:
@@ -110,6 +137,7 @@ def prepare(room: Room, is_built: bool) -> None:
         room.run(f"id {person} || useradd {person}; usermod --home /home/{person} {person}")
         home = f"/home/{person}/.ssh"
         room.run(f"install -d -m 0700 {home}; ssh-keygen -q -t ed25519 -N '' -f {home}/id_ed25519")
+        room.run(f"install -d /home/{person}/.config")
         room.write(f"{home}/config", config)
         room.run(f"chown -R {person} /home/{person}; cp {home}/id_ed25519.pub /root/{person}.pub")
 
@@ -133,18 +161,23 @@ class Page:
         before = "umask 022; cd /root; set -e\n"
         return self.room.run(before + lines, BLOCK=block)
 
-    def people(self) -> list[desk.Run]:
-        """The next block, each line of which a person types."""
+    def people(self, *words: str) -> list[desk.Run]:
+        """The next block, each line of which a person types; `words` are what each is told."""
         its_kind, block = self.blocks.pop(0)
         self.room.holds("the next block is typed by people", its_kind == "", block)
         ran = []
-        for line in block.splitlines():
-            person, _, words = line.partition("$ ")
-            account = f"setpriv --reuid {person} --regid {person} --init-groups"
-            # (the real ssh)
-            typed = f"env HOME=/home/{person} PATH=/usr/bin:/bin {words}"
-            ran.append(self.room.run(f"{account} {typed}"))
+        for at, line in enumerate(block.splitlines()):
+            person, _, typed = line.partition("$ ")
+            word = words[at] if words else "WORD"
+            ran.append(as_person(self.room, person, typed.replace("WORD", word)))
         return ran
+
+
+def as_person(room: Room, person: str, typed: str) -> desk.Run:
+    """What a person types at home, by the real ssh."""
+    account = f"setpriv --reuid {person} --regid {person} --init-groups"
+    home = f"cd /home/{person} && {account} env HOME=/home/{person} PATH=/usr/bin:/bin"
+    return room.run(f'{home} bash -c "$TYPED"', TYPED=typed)
 
 
 def install(page: Page, room: Room) -> None:
@@ -154,8 +187,25 @@ def install(page: Page, room: Room) -> None:
     done = page.next("sh")
     linted = "nobody can get 2 approvals: only ben and carol" in done.stdout
     linted = linted and len(done.stdout.splitlines()) == 2
-    room.holds("desk-lint, and the desk", done.returncode == 0 and linted, done)
+    room.holds("desk-lint", done.returncode == 0 and linted, done)
+    minutes = [MINUTES[it] for it in re.findall(r"^## .* \((\w+) minutes\)$", TEXT, re.MULTILINE)]
+    whole = re.search(r"^# A real team in (\w+) minutes$", TEXT, re.MULTILINE)
+    is_said = whole is not None and 0 <= MINUTES[whole[1]] - sum(minutes) <= 3
+    room.holds("how many minutes it takes", is_said, minutes)
+
+
+def door(page: Page, room: Room) -> None:
+    """The desk is served, and nobody but the door and root reaches it."""
+    done = page.next("sh")
+    room.holds("the desk and its door", done.returncode == 0, done)
     room.holds("it answers", len(room.text("/v1/count").split()) == 3)
+    for account in ("desk-relay", "www-data", "nobody"):
+        may = f"setpriv --reuid {account} --regid $(id -g {account}) --init-groups curl -sS -m 60"
+        past = room.run(f"{may} --unix-socket {SOCKET} http://desk/v1/count")
+        room.holds(f"{account} at the desk's own socket", past.returncode == 7, past)
+        through = room.run(f"{may} --unix-socket {AT_DOOR} http://desk/v1/count")
+        is_open = account != "nobody"
+        room.holds(f"{account} at the door", (through.returncode == 0) == is_open, through)
 
 
 def host(page: Page, room: Room) -> None:
@@ -171,10 +221,29 @@ def host(page: Page, room: Room) -> None:
     room.holds("its file", "dba ALL" in room.read("/etc/sudoers.d/desk"))
 
 
-def asked(page: Page, room: Room) -> None:
+def enrolled(page: Page, room: Room) -> None:
+    """Each person signs the word that was made for them; a word of another's is none."""
     done = page.next("sh")
     room.holds("people's keys", done.returncode == 0 and "ben may call" in done.stdout, done)
     room.holds("the lines of ~/.ssh/config", all(it.strip() in TEXT for it in SSH.splitlines()))
+    words = re.findall(r"^[0-9a-f]{16}$", done.stdout, re.MULTILINE)
+    room.holds("a word for each", len(words) == len(PEOPLE), done)
+    _, settings = page.blocks.pop(0)
+    for person in PEOPLE:
+        place = f"/home/{person}/.config/mydesk"
+        room.write(place, settings.replace("person = ann", f"person = {person}"))
+    room.run("install -m 0755 /tree/usr/bin/mydesk /usr/bin/mydesk || dpkg -i /root/mydesk_*.deb")
+    signs = page.people(*words)
+    room.holds("they sign it", all(it.returncode == 0 for it in signs), signs)
+    room.run("for it in ann ben carol; do cp /home/$it/$it.line /root; done; cp ben.line /root/odd")
+    odd = room.run("cd /root; yes | desk-signer add ann ben.line")
+    room.holds("ben's key is not ann's", "ann did not sign" in odd.stderr, odd)
+    done = page.next("sh", True)
+    room.holds("whose key is whose", done.stdout.count(" hold\n") == 3, done)
+
+
+def asked(page: Page, room: Room) -> None:
+    enrolled(page, room)
     ceilings, ask, waiting, approved = page.people()
     names = ("dev", "test", "prod", "emergency")
     may = [it for it in names if f"\n{it}\n" in f"\n{ceilings.stdout}"]
@@ -182,6 +251,7 @@ def asked(page: Page, room: Room) -> None:
     room.holds("ann asks", ask.returncode == 0 and "Kept as ann 1." in ask.stdout, ask)
     room.holds("why", "ticket OPS-7" in waiting.stdout, waiting)
     room.holds("ben approves", "It is in force from" in approved.stdout, approved)
+    unsigned(room)
     done = page.next("sh")
     if "start it again" in done.stdout:
         # (desk-host takes it for one from before the file, by a clock of whole seconds)
@@ -207,6 +277,78 @@ def audited(page: Page, room: Room) -> None:
     room.holds("no block is left", not page.blocks, page.blocks)
     size = len(TEXT.encode())
     room.holds(f"it has at most {MOST} bytes", size <= MOST, size)
+
+
+def unsigned(room: Room) -> None:
+    """Whoever has a person's way in, or the relay's account, and no key that signs."""
+    ask = "ask prod --on prod1 --as root --for 1h --yes /usr/bin/id"
+    said = as_person(room, "ann", f"ssh desk {ask}")
+    room.holds("ann without a signature", "write mydesk" in said.stdout + said.stderr, said)
+    before = room.text("/v1/count")
+    revoke = desk.approval(1, kind="revoke", by="ben", of="ann")
+    room.write(f"{BOOK}/message", revoke)
+    posts = f"curl -sS --data-binary @{BOOK}/message --unix-socket"
+    relay = "setpriv --reuid desk-relay --regid desk-relay --init-groups"
+    said = room.run(f"{relay} {posts} {AT_DOOR} http://desk/v1/relays/chat/messages")
+    room.holds("the relay's account in ben's name", said.stdout == "P20 NotSigned\n", said)
+    room.holds("the desk has nothing of it", room.text("/v1/count") == before, before)
+
+
+def key_lost(_: Page, room: Room) -> None:
+    """RUNBOOKS, 'A key is lost', of somebody who signs: what it signed is told, it signs no more,
+    and a new one does."""
+    says = "`desk-signer lost ann` ends it and prints what it signed, and when that came"
+    room.says("A key is lost", says)
+    done = room.run("yes | desk-signer lost ann")
+    told = r"^\d{14}Z by relay chat: ann: ask ann 1 \(ack\), with SHA256:"
+    is_told = re.search(told, done.stdout, re.MULTILINE) is not None
+    room.holds("what it signed, and when that came", is_told, done)
+    said = as_person(room, "ann", "mydesk refuse ann 1 --yes")
+    room.holds("it signs no more", "A20 BadSignature" in said.stdout, said)
+    word = room.run("desk-signer enrol ann").stdout.strip()
+    made = as_person(
+        room, "ann",
+        f"ssh-keygen -q -t ed25519 -N '' -f new && mydesk --key new enrol {word} > ann.line",
+    )  # fmt: skip
+    done = room.run("yes | desk-signer add ann /home/ann/ann.line")
+    room.holds("a new one", (made.returncode, done.returncode) == (0, 0), (made, done))
+    said = as_person(room, "ann", "mydesk --key new refuse ann 1 --yes")
+    room.holds("signs", "acknowledged that you refused it" in said.stdout, said)
+
+
+def signers_unread(_: Page, room: Room) -> None:
+    """RUNBOOKS, 'Signers cannot be read'."""
+    heading = "Signers cannot be read"
+    room.says(heading, "The door says `K25`, and takes nothing signed")
+    newest = "$(ls -d /etc/desk/signers/*Z | tail -n 1)"
+    room.run(f"cp -a {newest} /root/kept; basename {newest} > /root/name")
+    room.run(f"echo odd >> {newest}/allowed_signers")
+    said = as_person(room, "ben", "mydesk refuse ann 1 --yes")
+    room.holds("nothing signed is taken", "K25 NoSigners" in said.stdout, said)
+    room.says(heading, "root's socket still takes refusals and revocations")
+    # (of now: one from before the approval would count)
+    given = desk.approval(1, kind="refuse", by="carol", of="ann", at=desk.stamp(time.time()))
+    room.write(f"{BOOK}/message", given)
+    root = "curl -sS --unix-socket /run/desk-door/root/desk.sock"
+    posts = f"{root} --data-binary @{BOOK}/message http://desk/v1/relays/chat/messages"
+    done = room.run(posts)
+    room.holds("but at root's socket", done.stdout == "ack\n", done)
+    room.says(heading, "`desk-door check` says why")
+    check = "runuser -u desk-door -g desk-front -G desk-door -- desk-door check"
+    done = room.run(check)
+    is_told = "allowed_signers: line 5 is none of desk-signer's" in done.stdout
+    room.holds("it says why", done.returncode == 2 and is_told, done)
+    room.says(heading, "or move it away: then the one before it holds")
+    room.run(f"mv {newest} /root/away")
+    said = as_person(room, "ben", "mydesk refuse ann 1 --yes")
+    room.holds("the one before holds", "acknowledged that you refused it" in said.stdout, said)
+    room.says(heading, "Bring that folder back from the backup")
+    room.run("mv /root/kept /etc/desk/signers/$(cat /root/name)")
+    done = room.run(check)
+    said = as_person(room, "ann", "mydesk --key new refuse ann 1 --yes")
+    is_taken = "acknowledged that you refused it" in said.stdout
+    room.holds("and then the newest", is_taken, (said, done))
+    room.holds("nothing is wrong", done.stdout.startswith("nothing is wrong"), done)
 
 
 def from_a_table(room: Room) -> None:
@@ -237,7 +379,7 @@ def inside(is_built: bool) -> None:
         try:
             prepare(room, is_built)
             page = Page(room)
-            for part in (install, host, asked, audited):
+            for part in (install, door, host, asked, audited, key_lost, signers_unread):
                 began = time.monotonic()
                 part(page, room)
                 print(f"{part.__name__}: {time.monotonic() - began:.1f} s", flush=True)
@@ -255,12 +397,18 @@ def inside(is_built: bool) -> None:
     sys.exit(1 if room.wrong else 0)
 
 
+def needed() -> list[str]:
+    """The packages of Debian that the pages need on a machine."""
+    return [*NEEDED.split(), *check_team_rest.NEEDED.split()]
+
+
 def main() -> None:
+    if sys.argv[1:] == ["--needs"]:
+        sys.exit(print("\n".join(needed())))
     if os.geteuid() != 0:
         sys.exit("check_team.py needs root: it follows the page in a root of its own")
-    installs = ["bash", os.path.join(desk.ROOT, "relays", "install.sh"), *NEEDED.split()]
-    installs += check_team_rest.NEEDED.split()
-    subprocess.run(installs, check=True)
+    install = os.path.join(desk.ROOT, "relays", "install.sh")
+    subprocess.run(["bash", install, *needed()], check=True)
     sys.exit(check_runbooks.in_a_root(*sys.argv[1:]))
 
 

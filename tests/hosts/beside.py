@@ -30,7 +30,7 @@ Asked = tuple[str, list[str]]  # a text, and the words of an invocation
 
 
 class Gathered(peers_requests.Run):
-    """The hosts' files that the desk makes, and what sudo is to be asked of them."""
+    """The hosts' files that the desk makes, and the questions about them to sudo."""
 
     def __init__(self, folder: str) -> None:
         super().__init__(folder, {})
@@ -72,7 +72,7 @@ class Gathered(peers_requests.Run):
 
 
 class Questions(NamedTuple):
-    """All that a root is asked, and what the desk says to it."""
+    """All questions to a root's sudo, and the desk's answers."""
 
     users: list[str]
     commands: list[str]  # by their paths below /srv
@@ -189,7 +189,7 @@ def read_alike(host: Host, questions: Questions) -> None:
 
 
 def decided_alike(host: Host, questions: Questions) -> None:
-    """Its sudo allows what the desk allows."""
+    """The host's sudo allows what the desk allows."""
     shutil.copy(ANSWERS, host.path("/tmp/sudo_answers.py"))
     given = json.dumps([[text, *words] for text, words in questions.asked])
     said = host.run("python3", "/tmp/sudo_answers.py", given=given).stdout

@@ -10,10 +10,10 @@ import re
 import time
 from collections.abc import Callable
 
+from steelnewt_host.lawful import unlawful
 from tests.common import desk
 from tests.common.random_policies import alias_policy
 from tests.common.replies import NO_ROUTE, Replies, counted, of_a_host, reply
-from tests.common.sudo_peer import desk_host
 from tests.hosts.root import CHANGED, FILE, STATE, Host
 
 GOOD = b"ann ALL = (root) /usr/bin/id\n"
@@ -188,7 +188,7 @@ def none_of(host: Host, answers: dict[str, Callable[[str], bytes]], says: str) -
 def own_lines(host: Host) -> None:
     """Every canonical text of the desk's is taken: of the examples, and of random policies."""
     program = [os.environ.get("DESK", desk.PROGRAM[0])]
-    taken, rng = desk_host().unlawful, random.Random(3)
+    taken, rng = unlawful, random.Random(3)
     names = ("site.sudo", "base.sudo", "team.sudo")
     texts = [desk.read("examples", name) for name in names]
     texts += [alias_policy(rng) for _ in range(20)]
@@ -279,6 +279,98 @@ def aliases(host: Host) -> None:
     host.check("a fault of another file", status == 0 and is_told and host.held() == MORE, said)
 
 
+@contextlib.contextmanager
+def killing(host: Host):
+    """A visudo that kills the fetch as it asks of everything for the second time: it does before it
+    puts a file in place, and after it."""
+    stub = '#!/bin/sh\n[ "$*$(cat /tmp/asked)" = -cx ] && kill -KILL $PPID\n'
+    stub += '[ "$*" != -c ] || printf x >> /tmp/asked\nexec /usr/sbin/visudo "$@"\n'
+    host.write("/usr/local/sbin/visudo", stub)
+    host.write("/tmp/asked", "")
+    os.chmod(host.path("/usr/local/sbin/visudo"), 0o755)
+    try:
+        yield
+    finally:
+        host.drop("/usr/local/sbin/visudo")
+
+
+def killed_then_behind(host: Host) -> None:
+    """A fetch that is killed once its file stands: the next one takes none that is older."""
+    if not host.is_fit:
+        return
+    begin(host)
+    with serving(host, of_a_host(reply(MORE), counted(4))):
+        status, said = host.fetch()
+    host.check("a first file", (status, host.held()) == (0, MORE), said)
+    with serving(host, of_a_host(reply(GOOD), counted(5))), killing(host):
+        status, said = host.fetch()
+    host.check("the next is killed", (status, host.held()) == (-9, GOOD), f"{status}: {said}")
+    with serving(host, of_a_host(reply(MORE), counted(4))):
+        status, said = host.fetch()
+    is_told = "it holds 4 messages, and this host's file is made of 5" in said
+    host.check("it does not go back", is_told and (status, host.held()) == (1, GOOD), said)
+
+
+def taken_meanwhile(host: Host) -> None:
+    """A desk that takes a revocation after it has said how far it is, and before it gives its file:
+    the file counts as made of all that it held then."""
+    if not host.is_fit:
+        return
+    begin(host)
+    with serving(host, lambda target: b"") as server:
+
+        def answer(target: str) -> bytes:
+            is_late = len(server.asked) > 1
+            return of_a_host(reply(GOOD), counted(5 if is_late else 4))(target)
+
+        server.answer = answer
+        status, said = host.fetch()
+    host.check("a file", (status, host.held()) == (0, GOOD), f"{status}: {said}")
+    with serving(host, of_a_host(reply(MORE), counted(4))):
+        status, said = host.fetch()
+    is_told = "it holds 4 messages, and this host's file is made of 5" in said
+    host.check("a desk without it", is_told and (status, host.held()) == (1, GOOD), said)
+    for what, roster, messages, says in (
+        ("another roster", OTHER_ROSTER, 9, "its roster or base changed while it was asked"),
+        ("fewer messages", "a" * 64, 6, "it holds fewer messages than a moment ago"),
+    ):
+        with serving(host, lambda target: b"") as server:
+
+            def turns(target: str, late: bytes = counted(messages, roster)) -> bytes:
+                count = late if len(server.asked) > 1 else counted(7)
+                return of_a_host(reply(MORE), count)(target)
+
+            server.answer = turns
+            status, said = host.fetch()
+        host.check(f"{what} meanwhile", says in said and (status, host.held()) == (1, GOOD), said)
+
+
+def furthest_first(host: Host) -> None:
+    """The desk that holds the most messages gives the file, in whatever order several desks stand;
+    a desk that does not answer is told of, and holds nobody up."""
+    if not host.is_fit:
+        return
+    begin(host)
+    with contextlib.ExitStack() as stack:
+        desks = [
+            stack.enter_context(Replies(of_a_host(reply(text), counted(messages))))
+            for text, messages in ((MORE, 4), (GOOD, 5), (MORE, 3))
+        ]
+        away = "http://127.0.0.1:1"
+        odd = "https://desk.example:99999"
+        host.conf(away, odd, *(it.url for it in desks))
+        status, said = host.fetch()
+        host.check("the furthest is taken", (status, host.held()) == (0, GOOD), said)
+        asked = [len(it.asked) for it in desks]
+        host.check("it alone is asked for its file", asked == [1, 3, 1], str(asked))
+        is_told = all(f"desk-host: {it}" in said for it in (away, odd))
+        host.check("what is away is told of", is_told and len(said.splitlines()) == 2, said)
+        desks[1].answer = of_a_host(NO_ROUTE, counted(5))
+        status, said = host.fetch()
+        is_told = "it holds 4 messages, and this host's file is made of 5" in said
+        host.check("the others bring nothing back", status == 1 and is_told, said)
+
+
 def killed(host: Host) -> None:
     """A fetch that is killed before it has asked visudo of everything: the next one does, though
     no desk answers. Both note that the rights are others, for prompts that are open."""
@@ -287,16 +379,9 @@ def killed(host: Host) -> None:
     base = b"User_Alias OPS = bob\nOPS ALL = (root) /usr/bin/id\n"
     begin(host)
     host.put("aaa", "User_Alias OPS = carl\nOPS ALL = (root) /usr/bin/env\n")
-    # (it asks of everything before it puts the file in place, and after it)
-    stub = '#!/bin/sh\n[ "$*$(cat /tmp/asked)" = -cx ] && kill -KILL $PPID\n'
-    stub += '[ "$*" != -c ] || printf x >> /tmp/asked\nexec /usr/sbin/visudo "$@"\n'
-    host.write("/usr/local/sbin/visudo", stub)
-    host.write("/tmp/asked", "")
-    os.chmod(host.path("/usr/local/sbin/visudo"), 0o755)
     host.drop(CHANGED)
-    with serving(host, of_a_host(reply(base), counted(1))):
+    with serving(host, of_a_host(reply(base), counted(1))), killing(host):
         status, said = host.fetch()
-    host.drop("/usr/local/sbin/visudo")
     host.check("it is killed in time", status == -9 and host.held() == base, f"{status}: {said}")
     host.check("it noted the change", os.path.exists(host.path(CHANGED)), said)
     host.drop(CHANGED)
@@ -333,7 +418,8 @@ def second_desks(host: Host) -> None:
     with Replies(of_a_host(reply(MORE), counted(4))) as second:
         host.conf(first.url, second.url)
         status, said = host.fetch()
-        host.check("the first desk", status == 0 and not second.asked, f"{status}: {said}")
+        is_alone = second.asked == ["/v1/count"]
+        host.check("the first desk", status == 0 and is_alone, f"{status}: {said}")
         mode = os.stat(host.path(f"{STATE}/db1.json")).st_mode & 0o7777
         host.check("the record's mode", mode == 0o600, oct(mode))
         first.__exit__()
@@ -418,6 +504,9 @@ PARTS = (
     ways_round,
     aliases,
     killed,
+    killed_then_behind,
+    taken_meanwhile,
+    furthest_first,
     far_date,
     second_desks,
     uncounted,

@@ -7,14 +7,19 @@ import os
 import re
 import shutil
 import subprocess
-from collections.abc import Iterator
+import time
+from collections.abc import Callable, Iterator
 
 from tests.common import desk
+from tests.common.sudo_peer import host_program
 from tests.packages.package_test import Trial
 
-PROGRAM = os.path.abspath(
-    os.environ.get("DESK_HOST") or os.path.join(desk.ROOT, "packaging", "desk-host")
-)
+TREE = os.environ.get("TREE") or desk.ROOT  # whose desk-host is tried
+HAS_PLUGIN = os.path.exists(os.path.join(TREE, "packaging", "host", "desk_host.c"))
+PLUGIN = os.path.join(desk.ROOT, "build", "desk_host.so")
+PLUGIN_THERE = "/usr/libexec/steelnewt/desk_host.so"
+GROUPS = "/sys/fs/cgroup"
+STARTS = "/run/desk-host/starts"  # what sudo wrote down
 FILE = "/etc/sudoers.d/desk"
 STATE = "/var/lib/desk-host"
 CHANGED = "/run/desk-host/changed"  # when the rights last changed
@@ -29,6 +34,23 @@ root ALL=(ALL:ALL) ALL
 USERS = ("ann", "bob", "carl", "dba")
 
 
+def own_program(path: str) -> str:
+    """Puts the tree's desk-host there: its path. (To 0.19.0 it was one file, without a plugin.)"""
+    if HAS_PLUGIN:
+        return host_program(path, TREE)
+    shutil.copy(os.path.join(TREE, "packaging", "desk-host"), path)
+    os.chmod(path, 0o755)
+    return path
+
+
+def within(holds: Callable[[], bool], seconds: float = 180) -> bool:
+    """Whether something becomes so within some seconds."""
+    until = time.monotonic() + seconds
+    while not (is_so := holds()) and time.monotonic() < until:
+        time.sleep(0.1)
+    return is_so
+
+
 class Host(Trial):
     """The root of a host, db1."""
 
@@ -37,6 +59,8 @@ class Host(Trial):
         super().__init__(root)
         self.name = name
         self.folder = folder
+        self.has_groups = False
+        self.group = f"{GROUPS}/steelnewt-{os.path.basename(folder)}"
 
     def check(self, what: str, is_right: bool, said: str = "") -> None:
         super().check(f"{self.name}, {what}", is_right, said)
@@ -53,7 +77,7 @@ class Host(Trial):
         return self.version >= (1, 9, 9)
 
     def prepare(self) -> None:
-        """Its name, its users, whose passwords are their names, and its program."""
+        """Gives the host its name, its users, whose passwords are their names, and its program."""
         self.write("/etc/hosts", "127.0.0.1 localhost\n127.0.1.1 db1\n")
         self.write("/etc/hostname", "db1\n")
         kinds = ("passwd", "group", "shadow", "hosts")
@@ -61,12 +85,57 @@ class Host(Trial):
         for folder in ("/etc/sudoers.d", "/etc/desk", STATE):
             shutil.rmtree(self.path(folder), ignore_errors=True)
             os.makedirs(self.path(folder))
-        self.write("/etc/sudoers", SUDOERS)
-        os.chmod(self.path("/etc/sudoers"), 0o440)
+        self.put_sudoers(SUDOERS)
         for user in USERS:
             self.run("useradd", "--create-home", "--shell", "/bin/bash", user)
         self.run("chpasswd", given="".join(f"{user}:{user}\n" for user in USERS))
-        self.copy(PROGRAM, "/usr/sbin/desk-host")
+        own_program(self.path("/usr/sbin/desk-host"))
+        if self.is_fit:
+            self.plug()
+
+    def plug(self) -> None:
+        """Has its sudo load the plugin, with control groups where a root may have any."""
+        if HAS_PLUGIN:
+            os.makedirs(self.path(os.path.dirname(PLUGIN_THERE)), exist_ok=True)
+            self.copy(PLUGIN, PLUGIN_THERE)
+        try:
+            os.makedirs(self.path(GROUPS), exist_ok=True)
+            subprocess.run(["mount", "-t", "cgroup2", "none", self.path(GROUPS)], check=True)
+            os.mkdir(self.path(self.group))
+            self.enter(self.group)
+            self.has_groups = True
+        except (OSError, subprocess.CalledProcessError) as why:
+            print(f"{self.name}: LEFT OUT: what needs control groups: {why}", flush=True)
+        if HAS_PLUGIN:
+            self.switch("on")
+
+    def switch(self, how: str) -> None:
+        """Has its sudo load the plugin, or not load it."""
+        self.does(f"desk-host plugin {how}", "desk-host", "plugin", how, says="^$")
+
+    @contextlib.contextmanager
+    def unplugged(self) -> Iterator[None]:
+        """As long as the block lasts, its sudo does not load the plugin."""
+        if not HAS_PLUGIN:
+            yield
+            return
+        self.switch("off")
+        try:
+            yield
+        finally:
+            self.switch("on")
+
+    def enter(self, group: str) -> None:
+        """Goes into a control group, and so does all that is started from now on."""
+        with open(self.path(f"{group}/cgroup.procs"), "w", encoding="ascii") as file:
+            file.write("0")
+
+    def unplug(self) -> None:
+        """Leaves its control group."""
+        if self.has_groups:
+            self.enter(GROUPS)
+            with contextlib.suppress(OSError):
+                os.rmdir(self.path(self.group))
 
     def copy(self, source: str, target: str) -> None:
         shutil.copy(source, self.path(target))
@@ -90,6 +159,12 @@ class Host(Trial):
         with open(path, "wb") as file:
             file.write(text.encode() if isinstance(text, str) else text)
         os.chmod(path, 0o440)
+
+    def put_sudoers(self, text: str) -> None:
+        """Puts that in the place of /etc/sudoers."""
+        self.write("/etc/sudoers.new", text)
+        os.chmod(self.path("/etc/sudoers.new"), 0o440)
+        os.rename(self.path("/etc/sudoers.new"), self.path("/etc/sudoers"))
 
     def drop(self, *names: str) -> None:
         """Takes away files of sudo's, or what desk-host keeps."""

@@ -7,12 +7,12 @@ import contextlib
 import os
 import signal
 import time
-from collections.abc import Sequence
+from collections.abc import Iterator, Sequence
 
 from pexpect import TIMEOUT
 
 from tests.hosts.prompt import Terminal, line
-from tests.hosts.root import Host
+from tests.hosts.root import Host, within
 
 GRACE = 2
 
@@ -20,12 +20,13 @@ GRACE = 2
 def ended(host: Host, *more: str) -> str:
     """What `desk-host end-sessions` says, with that grace."""
     host.conf("http://127.0.0.1:1", GRACE=str(GRACE), PROMPT="60", *more)
-    return host.does("end-sessions", "desk-host", "end-sessions")
+    said = host.does("end-sessions", "desk-host", "end-sessions").splitlines(keepends=True)
+    # (where this machine gives none, that is told of each)
+    return "".join(it for it in said if host.has_groups or "has no control group" not in it)
 
 
-def processes(host: Host, mark: str, but: bytes = b"") -> list[int]:
-    """The processes whose words have the mark, but those of that program."""
-    found = []
+def words_of_all(host: Host) -> Iterator[tuple[int, list[bytes]]]:
+    """Every process, with its words."""
     for name in os.listdir(host.path("/proc")):
         if not name.isdigit():
             continue
@@ -34,19 +35,25 @@ def processes(host: Host, mark: str, but: bytes = b"") -> list[int]:
                 words = file.read().split(b"\0")
         except OSError:
             continue
-        if mark.encode() in words and words[0] != but:
-            found.append(int(name))
-    return found
+        yield int(name), words
+
+
+def processes(host: Host, mark: str, but: bytes = b"") -> list[int]:
+    """The processes whose words have the mark, but those of that program."""
+    found = ((pid, it) for pid, it in words_of_all(host) if mark.encode() in it)
+    return [pid for pid, words in found if words[0] != but]
+
+
+def sleeping(host: Host, mark: str) -> list[int]:
+    """The processes that are a sleep of that many seconds, and nothing else."""
+    return [pid for pid, words in words_of_all(host) if words == [b"sleep", mark.encode(), b""]]
 
 
 def there(host: Host, mark: str, is_there: bool = True, seconds: float = 180) -> bool:
     """Whether such a process is there, or gone, within some seconds. (It is there once sudo has
     started it, and gone once its sudo is.)"""
-    until = time.monotonic() + seconds
     but = b"sudo" if is_there else b""
-    while bool(processes(host, mark, but)) != is_there and time.monotonic() < until:
-        time.sleep(0.1)
-    return bool(processes(host, mark, but)) == is_there
+    return within(lambda: bool(processes(host, mark, but)) == is_there, seconds)
 
 
 def stop(host: Host, mark: str) -> None:
@@ -186,7 +193,8 @@ def unjudged(host: Host) -> None:
             host.drop("/usr/local/sbin/gone")
             host.conf("http://127.0.0.1:1", GRACE=str(GRACE), UNJUDGED=setting)
             said = host.does("end-sessions", "desk-host", "end-sessions")
-            is_right = there(host, "7206", is_there) and ("cannot be judged" in said) == is_there
+            told = "cannot be judged, and is left alone" if is_there else "was ended"
+            is_right = there(host, "7206", is_there) and told in said
             host.check(f"what cannot be judged, UNJUDGED={setting}", is_right, said)
             terminal.send("\x03")
 

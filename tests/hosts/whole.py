@@ -80,8 +80,10 @@ def revocation(host: Host) -> None:
     with contextlib.ExitStack() as stack:
         program = [os.environ.get("DESK", desk.PROGRAM[0])]
         roster, base = texts(host.folder)
-        serve = lambda: desk.Server(program=program, roster=roster, base=base)
-        first, second = stack.enter_context(serve()), stack.enter_context(serve())
+        first, second = (
+            stack.enter_context(desk.Server(program=program, roster=roster, base=base))
+            for _ in range(2)
+        )
         for server in (first, second):
             answers = post(server, asked, approved)
             host.check("the desks take it", answers == [b"ack\n"] * 2, str(answers))

@@ -24,13 +24,18 @@ for deb in build/deb/*.deb; do
     dpkg-deb -x "$deb" "$room"
 done
 cd "$room/lib/systemd/system"
-# (the programs that the units start are those of the packages)
-sed -i "s,=/usr/\(bin\|libexec\|sbin\),=$room/usr/\1,; /^Documentation=/d" ./*.service
+# (the programs that the units start are those of the packages, but for the machine's `install`)
+sed -i "s,=/usr/\(bin\|libexec\|sbin\),=$room/usr/\1," ./*.service
+sed -i "s,=$room\(/usr/bin/install \),=\1," ./*.service
+sed -i "/^Documentation=/d" ./*.service
 cp desk-fetch@.service desk-fetch@db1.service
 cp desk-fetch@.timer desk-fetch@db1.timer
 cp desk-consume@.service desk-consume@a.service
-for unit in desk.service desk-fetch@db1.service desk-fetch@db1.timer desk-sessions.service \
-    desk-relay-{post,page,notify}.service desk-consume@a.service; do
+cp desk-end@.service desk-end@1.service
+cp desk-failed@.service desk-failed@a.service
+for unit in desk.service desk-fetch@db1.service desk-fetch@db1.timer desk-sessions.{service,timer} \
+    desk-check.{service,timer} desk-starts.{service,path} desk-{end@1,failed@a}.service \
+    desk-relay-{post,page,notify}.service desk-door.service desk-consume@a.service; do
     status=0
     said=$(SYSTEMD_LOG_LEVEL=warning systemd-analyze verify --man=no "./$unit" 2>&1) || status=1
     # what the machine's own units say is not ours
@@ -39,7 +44,7 @@ for unit in desk.service desk-fetch@db1.service desk-fetch@db1.timer desk-sessio
     verdict "systemd-analyze verify $unit" $status
 done
 for unit in desk.service desk-fetch@db1.service desk-relay-{post,page,notify}.service \
-    desk-consume@a.service; do
+    desk-door.service desk-consume@a.service; do
     line=$(systemd-analyze security --offline=yes --no-pager "./$unit" | grep 'Overall exposure')
     echo "$line" | sed 's/[^ -~]//g; s/^ *//'
     figure=$(printf '%s\n' "$line" | sed 's/.*: \([0-9.]*\) .*/\1/')

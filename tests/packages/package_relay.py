@@ -35,7 +35,7 @@ def modes(trial: "Trial", *names: str) -> str:
 def call(trial: "Trial", person: str, line: str) -> tuple[int, str]:
     """A call as sshd makes it: the command of the person's key, by the account's shell."""
     for row in trial.read(KEYS).splitlines():
-        if found := re.search(rf'command="([^"]* --person {person})"', row):
+        if found := re.search(rf'command="([^"]* --person {person} [^"]*)"', row):
             shell = ["env", f"SSH_ORIGINAL_COMMAND={line}", "sh", "-c", found[1]]
             ran = trial.run(*AS_RELAY, *shell)
             return ran.returncode, ran.stdout
@@ -61,7 +61,11 @@ def installed(trial: "Trial") -> None:
         trial.does(f"{name} may call", *add, says="may call with SHA256")
     early = ["/usr/share/steelnewt-relay/relays/desk-relay", "--help"]
     trial.does("a key's line of an earlier version", *early, says="^usage: desk-relay ")
-    for page in ("man1/desk-relay.1", "man5/desk-relay.toml.5", "man8/desk-relay-person.8"):
+    held = "ls -A /tmp /run"
+    demo = ["sh", "-c", f"{held} > /root/held; desk-demo && {held} | diff /root/held -"]
+    trial.does("the demo, without a service", *demo, says="\nann 1  granted ")
+    pages = ("man1/desk-demo.1", "man1/desk-relay.1", "man5/desk-relay.toml.5")
+    for page in (*pages, "man8/desk-relay-person.8"):
         trial.does(page, "test", "-s", f"/usr/share/man/{page}.gz")
     mime = trial.run("sh", "-c", "ls /usr/share/doc/steelnewt-relay/examples").stdout
     for name in (*FRONTS, "front-ca.sh"):
@@ -80,7 +84,7 @@ def keys_stay(trial: "Trial", name: str) -> None:
 
 
 def used(trial: "Trial") -> None:
-    """Its units beside a desk that serves: asked, told, approved, seen on the page."""
+    """The relay's units beside a desk that serves: asked, told, approved, seen on the page."""
     units = [f"desk-relay-{it}.service" for it in ("post", "notify", "page")]
     for each in units:
         keys_stay(trial, each)
@@ -129,6 +133,8 @@ def later_on(trial: "Trial", deb: str, later: str) -> None:
     """Upgraded, removed, installed again and purged: what people confirmed stays."""
     keys = [trial.read(f"/etc/desk/{it}") for it in PAGE_KEYS]
     dpkg = ["dpkg", "--force-unsafe-io", "--no-triggers"]
+    # (as an earlier version wrote them: the upgrade names each line's key)
+    trial.write(KEYS, re.sub(' --key [^"]*', "", trial.read(KEYS)))
     for what, words, is_there in (
         ("upgrade", ["--force-confdef", "--force-confold", "-i", later], True),
         ("remove", ["-r", "steelnewt-relay"], False),

@@ -22,6 +22,7 @@ import tempfile
 import threading
 import time
 
+from steelnewt_host.canaries import Lines
 from tests.common import desk, outsider, store_files
 from tests.packages import package_broker, package_relay, service, syscalls
 
@@ -31,12 +32,15 @@ NEEDED += ",python3-jsonschema,sqlite3,openssh-client,tzdata,python3-flask,pytho
 NEEDED += ",python3-pika,strace,sudo,systemd"
 DOC = "/usr/share/doc/steelnewt"
 TOOLS = ("desk-lint", "desk-import", "desk-used", "desk-change-roster", "desk-roster")
-NAMES = ("steelnewt", "steelnewt-host", "steelnewt-tools", "python3-steelnewt-client")
+NAMES = ("steelnewt", "steelnewt-host", "steelnewt-host-plugin", "steelnewt-tools")
+NAMES += ("python3-steelnewt-client",)
 RELAY, BROKER = "steelnewt-relay", "steelnewt-broker"
+DOOR = ("steelnewt-door", "mydesk")
 PATIENCE = 120  # the seconds after which something hangs
 STORE = "/var/lib/desk/desk.db"
 SOCKET = "unix:/run/desk/desk.sock"
 SECOND = "unix:/run/desk/second.sock"
+AT_DOOR, AT_DOORS_ROOT = (f"/run/desk-door/{it}desk.sock" for it in ("", "root/"))
 STEP = "\n(account|session)\trequired\t+pam_exec.so .*/usr/sbin/desk-host prompt"
 DPKG = ["dpkg", "--force-unsafe-io", "--no-triggers"]  # quick: the root is thrown away
 DESK = ["setpriv", "--reuid", "desk", "--regid", "desk", "--clear-groups", "desk"]
@@ -130,8 +134,13 @@ def install(trial: Trial) -> None:
         *NAMES,
         RELAY,
         BROKER,
+        *DOOR,
         says="^$",
     )
+    words = ["stat", "-c", "%U:%G %a", "/var/lib/desk-door"]
+    trial.does("the door's folder", *words, says="^desk-door:desk-door 700$")
+    for name in ("desk-door", "desk-signer", "desk-verify", "mydesk"):
+        trial.does(f"{name} --help", name, "--help", says=f"^usage: {name} ")
     trial.does(
         "the account's folder", "stat", "-c", "%U:%G %a", "/var/lib/desk", says="^desk:desk 700$"
     )
@@ -172,11 +181,12 @@ def tools(trial: Trial) -> None:
     base = trial.does(
         "desk-import",
         "desk-import",
-        "/tmp/sudoers",
+        "--host",
+        "db1=/tmp/sudoers",
         status=1,
-        says="sudoers:2: left out: /usr/bin/less: NOEXEC ",
+        says="    lost: /usr/bin/less: NOEXEC: ",
     )
-    trial.check("the base", base.endswith("\nann ALL = (root) /bin/ls\n"), base)
+    trial.check("the base", base.endswith("\nann db1 = (root) /bin/ls\n"), base)
     said = "\ndb1 eve as root  once"
     told = trial.does("desk-used", "sh", "-c", AUDITED, status=1, says=said)
     trial.check("a grant that was used", "  used twice\n" in told, told)
@@ -525,17 +535,29 @@ def through_the_front(trial: Trial) -> None:
         "the file's owner", "stat", "-c", "%U:%G %a", "/etc/sudoers.d/desk", says="^root:root 440$"
     )
     trial.does("visudo", "visudo", "-c", says="/etc/sudoers.d/desk: parsed OK")
+    says = "desk-host's plugin, records of form 1\n"
+    trial.does("sudo loads the plugin", "sudo", "-V", says=says)
+    trial.does("the sessions of nobody", "desk-host", "end-sessions", says="^$")
+    # (a host has the name of its file, accounts for the people in it, and control groups)
+    lines = Lines(trial.read("/etc/sudoers.d/desk"))
+    for person in {each for it in lines.rules for each in lines.plain("User", it["who"])}:
+        trial.run("useradd", person)
+    name = socket.gethostname()
+    subprocess.run(["hostname", "db1"], check=True)
+    os.makedirs(trial.path("/sys/fs/cgroup"), exist_ok=True)
+    trial.does("control groups", "mount", "-t", "cgroup2", "none", "/sys/fs/cgroup")
     trial.does(
         "desk-host check",
         "desk-host",
         "check",
         status=1,
-        says="^desk-host: sudo compares names without case.*\nsudo 1.9.*: 1 to mend\n$",
+        says="^desk-host: sudo compares names without case.*\nDESK HOST WARNING - .*: 1 to mend: ",
     )
     trial.run("cp", "/usr/share/doc/steelnewt-host/desk-defaults", "/etc/sudoers.d/desk-defaults")
     trial.run("chmod", "0440", "/etc/sudoers.d/desk-defaults")
-    trial.does("and with sudo's settings", "desk-host", "check", says=": 0 to mend\n$")
-    trial.does("the sessions of nobody", "desk-host", "end-sessions", says="^$")
+    says = "^DESK HOST OK - .*: 0 to mend [|]"
+    trial.does("and with sudo's settings", "desk-host", "check", says=says)
+    subprocess.run(["hostname", name], check=True)
     said = by_curl(trial, "auditor-carol", f"/v1/grants/{DAY}093000Z")
     trial.check("an auditor reads", said == f"ann 7 db-care {DAY}091500Z {DAY}110000Z\n 200", said)
     monitored(trial)
@@ -706,6 +728,54 @@ def relay(trial: Trial) -> None:
     empty(trial)
 
 
+def behind_a_door(trial: Trial) -> None:
+    """By SIGNING's line the desk's own socket opens to the door and root alone, as the units start
+    both; the door's opens to the front and the relay, who get nothing that is not signed."""
+    page = desk.read("docs", "SIGNING.md").splitlines()
+    (line,) = [it for it in page if it.startswith("install -D ") and it.endswith("/door.conf")]
+    trial.does("the desk's socket is the door's", "sh", "-c", line)
+    running = Service(trial)
+    running.wait_ready()
+    made = service.make_runtime(trial.root, "desk-door.service")
+    (before,) = service.settings_of(trial.root, "desk-door.service")["ExecStartPre"]
+    as_door = ["setpriv", "--reuid", "desk-door", "--regid", "desk-front", "--clear-groups"]
+    trial.does("root's folder", *as_door, *before.split())
+    door = service.start(trial.root, "desk-door.service")
+    until = time.monotonic() + PATIENCE
+    while trial.run(*asking(AT_DOOR)).returncode and time.monotonic() < until:
+        time.sleep(0.2)
+    for account, is_open in (("www-data", True), ("desk-relay", True), ("nobody", False)):
+        group = trial.run("id", "-gn", account).stdout.strip()
+        becomes = ["setpriv", "--reuid", account, "--regid", group, "--init-groups"]
+        trial.does(f"{account} at the desk", *becomes, *asking(SOCKET[5:]), status=7)
+        trial.does(f"{account} at the door", *becomes, *asking(AT_DOOR), status=0 if is_open else 7)
+        trial.does(f"{account} at root's", *becomes, *asking(AT_DOORS_ROOT), status=7)
+    relay = ["setpriv", "--reuid", "desk-relay", "--regid", "desk-relay", "--init-groups"]
+    revoke = desk.approval(kind="revoke")
+    for what, by, place, message, says in (
+        ("an approval that nobody signed", relay, AT_DOOR, desk.approval(), "^P20 NotSigned$"),
+        ("a revocation that nobody signed", relay, AT_DOOR, revoke, "^P20 NotSigned$"),
+        ("root's approval", [], AT_DOORS_ROOT, desk.approval(), "^P20 NotSigned$"),
+        ("root's revocation", [], AT_DOORS_ROOT, revoke, "^ack$"),
+    ):
+        words = [*asking(place, "/v1/relays/chat/messages"), "--data-binary", "@-"]
+        trial.does(what, *by, *words, given=message, says=says)
+    held = trial.run(*asking(AT_DOOR, "/v1/messages")).stdout
+    trial.check("the desk has root's alone", held == f"{revoke}\n", held)
+    door.terminate()
+    said, _ = door.communicate(timeout=PATIENCE)
+    trial.check("the door ends", door.returncode == 0 and "ended, as it was" in said, said)
+    service.remove(made)
+    running.stop()
+    os.unlink(trial.path("/etc/systemd/system/desk.service.d/door.conf"))
+    empty(trial)
+
+
+def asking(place: str, route: str = "/v1/count") -> list[str]:
+    """What asks, or posts, at a socket."""
+    return ["curl", "-sS", "-m", "60", "--unix-socket", place, f"http://desk{route}"]
+
+
 def broker(trial: Trial) -> None:
     """A relay's messages through a broker to a desk that serves, and the package's life."""
     package_broker.installed(trial)
@@ -807,7 +877,7 @@ def purged(trial: Trial) -> None:
     trial.write("/etc/desk/fetch.conf", re.sub("(?m)^FILE=.*", f"FILE={other}", conf))
     trial.write(f"/etc/sudoers.d/desk.new.{'a' * 16}", "killed")
     trial.write("/etc/sudoers.d/desk.new.ours", "an administrator's")
-    said = trial.does("purge of a desk without messages", *DPKG, "-P", *NAMES)
+    said = trial.does("purge of a desk without messages", *DPKG, "-P", *NAMES, *DOOR)
     rules = [it for it in trial.read("/etc/sudoers.d/desk").splitlines() if it[:1] not in ("", "#")]
     ends = sum("NOTAFTER=" in it for it in rules)
     is_told = "/etc/sudoers.d/desk stays" in said and f" {ends} of its {len(rules)} rules" in said
@@ -819,11 +889,14 @@ def purged(trial: Trial) -> None:
     trial.check("what is left", left == {"desk", "desk-defaults", "desk.new.ours"}, str(left))
     pam = [trial.read(f"/etc/pam.d/common-{it}") for it in ("account", "session-noninteractive")]
     trial.check("the step of PAM is gone", not any("desk-host" in text for text in pam), str(pam))
+    settings = trial.read("/etc/sudo.conf")
+    trial.check("the plugin's line is gone", "desk_host" not in settings, settings)
+    trial.does("sudo works", "sudo", "-n", "true")
     trial.check("its folder is gone", not os.path.exists(trial.path("/var/lib/desk")))
 
 
 def served(trial: Trial) -> None:
-    """A start, what is asked meanwhile, and the end, with what the log says of them."""
+    """A start, questions meanwhile, and the end, with the lines of the log."""
     running = Service(trial)
     ready = running.wait_ready()
     trial.check(
@@ -893,7 +966,10 @@ def inside(fresh: str) -> None:
     with tempfile.TemporaryDirectory() as folder:
         trial = Trial(furnish(folder, fresh))
         try:
-            for part in (install, tools, tour, bad_starts, relay, broker, traced, served, later_on):
+            for part in (
+                install, tools, tour, bad_starts, relay, behind_a_door, broker, traced, served,
+                later_on,
+            ):  # fmt: skip
                 began = time.monotonic()
                 part(trial)
                 print(f"{part.__name__}: {time.monotonic() - began:.1f} s", flush=True)
@@ -915,12 +991,10 @@ def fresh_root() -> str:
 def main() -> None:
     if os.geteuid() != 0:
         sys.exit("package-test needs root: it installs packages in a root of its own")
-    words = ["unshare", "--mount", "--net", "--pid", "--ipc", "--fork", "--kill-child"]
+    words = ["unshare", "--mount", "--net", "--pid", "--ipc", "--uts", "--fork", "--kill-child"]
     # (the broker finds its own process below /proc)
     words += ["--mount-proc", "--propagation", "private", *desk.again()]
-    status = subprocess.run([*words, "--inside", fresh_root()], check=False).returncode
-    team = [sys.executable, "-m", "tests.documents.check_team", "--packages"]
-    sys.exit(subprocess.run(team, check=False).returncode or status)
+    sys.exit(subprocess.run([*words, "--inside", fresh_root()], check=False).returncode)
 
 
 if __name__ == "__main__":

@@ -1,6 +1,7 @@
 """Runs a unit's program where systemd is not: as its user and groups, without capabilities, over
 files that are read only but for its folders."""
 
+import glob
 import os
 import shlex
 import shutil
@@ -65,8 +66,13 @@ def ids(root: str, table: str, name: str) -> tuple[int, int]:
 
 
 def settings_of(root: str, name: str) -> dict[str, list[str]]:
-    with open(os.path.join(root, "lib/systemd/system", name), encoding="utf-8") as file:
-        return unit(file.read())
+    """The settings of the unit, and of the administrator's files beside it."""
+    beside = glob.glob(os.path.join(root, "etc/systemd/system", f"{name}.d", "*.conf"))
+    text = ""
+    for path in (os.path.join(root, "lib/systemd/system", name), *sorted(beside)):
+        with open(path, encoding="utf-8") as file:
+            text += file.read()
+    return unit(text)
 
 
 def user_of(settings: dict[str, list[str]]) -> str:
@@ -75,7 +81,7 @@ def user_of(settings: dict[str, list[str]]) -> str:
 
 
 def group_of(settings: dict[str, list[str]]) -> str:
-    return settings.get("Group", [user_of(settings)])[0]
+    return settings.get("Group", [user_of(settings)])[-1]
 
 
 def load_credentials(root: str, settings: dict[str, list[str]], instance: str) -> None:

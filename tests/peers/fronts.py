@@ -431,10 +431,10 @@ def rows() -> list[tuple[str, bytes, set[str]]]:
         ),
         (
             "a chunk past the limit",
-            POST + b"Transfer-Encoding: chunked\r\n\r\n" + chunked(b"x" * 16385),
+            POST + b"Transfer-Encoding: chunked\r\n\r\n" + chunked(b"x" * 24708),
             {"413"},
         ),
-        ("a body past the limit", POST + length(b"x" * 16385) + b"\r\n" + b"x" * 16385, {"413"}),
+        ("a body past the limit", POST + length(b"x" * 24708) + b"\r\n" + b"x" * 24708, {"413"}),
         (
             "a second request behind the body",
             POST + length(texts[30]) + b"\r\n" + texts[30] + SMUGGLED,
@@ -609,7 +609,7 @@ def under_nginx(folder: str) -> list[tuple[int, int]]:
 
 
 def passed_on(folder: str, port: int, recorder: front.Recorder) -> tuple[int, int]:
-    """Of a request's fields the desk hears Host, and those alone that say where it ends."""
+    """The desk hears only the fields of a request that say where it ends, and Host."""
     extra = b"X-Desk-Person: bob\r\nCookie: a=b\r\nHost2: x\r\nExpect: 100-continue\r\n"
     extra += b"X-Content-Length: 7\r\nContent-Length-X: 7\r\nAuthorization: Basic YQ==\r\n"
     route = "/v1/relays/chat/messages"

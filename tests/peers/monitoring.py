@@ -7,8 +7,10 @@ not well.
 
 import contextlib
 import http.server
+import json
 import os
 import re
+import runpy
 import signal
 import sqlite3
 import subprocess
@@ -80,7 +82,7 @@ def desk_rows() -> list[tuple[str, str, str, list[str], int, str]]:
             base,
             granted,
             0,
-            "DESK OK | desk_up=1 desk_grants=1 desk_grants_needless=0 desk_conflicts=0 ",
+            "DESK OK | desk_up=1 desk_messages=2 desk_grants=1 desk_grants_needless=0 ",
         ),
         (
             "conflicting duties",
@@ -119,8 +121,8 @@ def desk_rows() -> list[tuple[str, str, str, list[str], int, str]]:
             calm,
             base,
             [request("/usr/local/sbin/"), approval(NOW - HOUR)],
-            1,
-            "DESK WARNING - 1 broad commands in force |",
+            0,
+            "broad: ann 7 /usr/local/sbin/",
         ),
     ]
 
@@ -198,6 +200,66 @@ def late(folder: str) -> Iterator[Row]:
     with serving(folder, calm, "", messages) as address:
         found = check("--desk", address, "--roster", "/nowhere")
         yield "no roster", *is_said(found, 2, "/nowhere")
+
+
+def as_in_team(folder: str) -> Iterator[Row]:
+    """The site of docs/TEAM.md, whose roster gives all of a development host: what it is meant to
+    give is no alarm."""
+    text = desk.read("docs", "TEAM.md")
+    (roster,) = re.findall(r"^```toml\n(.*?)^```$", text, re.MULTILINE | re.DOTALL)
+    first = desk.stamp(NOW - HOUR)
+    asked = {"ceiling": "dev", "hosts": ["dev1"], "runas": "root", "cmnds": ["ALL"], "at": first}
+    asked |= {"from": first, "until": desk.stamp(NOW + HOUR)}
+    messages = [desk.request(**asked), desk.approval(by="ben", at=first)]
+    with serving(folder, roster, desk.read("examples", "site.sudo"), messages) as address:
+        status, said = check("--desk", address)
+        told = said.startswith("DESK OK | ") and " desk_grants=1 " in said
+        told = told and said.splitlines()[1:] == ["broad: ann 7 ALL"]
+        yield "TEAM's site after a grant of ALL", status == 0 and told, f"{status}: {said}"
+        found = check("--desk", address, "--broad-warning")
+        yield "a site that wants it", *is_said(found, 1, "WARNING - 1 broad commands in force |")
+
+
+def telling(folder: str, text: str) -> tuple[str, ...]:
+    """What goes before a command for which systemd says this of a unit."""
+    path = desk.write(folder, "systemctl", f"#!/bin/sh\nprintf '{text}'\n")
+    os.chmod(path, 0o755)
+    return ("env", f"PATH={folder}:{os.environ['PATH']}")
+
+
+def long_lived(folder: str) -> Iterator[Row]:
+    """What grows for years: the messages beside the memory of the unit, and the roster."""
+    calm = desk.read(desk.ROSTER).replace('eve = ["approve-db", "audit"]', 'eve = ["audit"]')
+    messages = [request("/usr/bin/id"), approval(NOW - HOUR)]
+    machine = os.sysconf("SC_PHYS_PAGES") * os.sysconf("SC_PAGE_SIZE")
+    with serving(folder, calm, "", messages) as address:
+        words = ("--desk", address, "--unit", "desk")
+        for limit, status, says in (
+            (8192 + 1, 0, "desk_memory_percent=49"),
+            (8192, 1, "WARNING - 2 messages may need 50 % of the memory of desk: restart it, or"),
+            (4096, 1, "desk_memory_percent=100"),
+            ("infinity", 0, "desk_memory_percent=0"),
+            (machine * 2, 0, "desk_memory_percent=0"),
+        ):
+            before = telling(folder, f"LoadState=loaded\nMemoryMax={limit}\n")
+            found = check(*words, before=before)
+            yield f"a unit of {limit} bytes", *is_said(found, status, says)
+        before = telling(folder, "LoadState=not-found\nMemoryMax=infinity\n")
+        yield "no unit", *is_said(check(*words, before=before), 2, "systemd has no such unit")
+    limits = json.loads(desk.read("tools", "schemas", "roster.schema.json"))["properties"]
+    there = {name: it.get("maxItems", it.get("maxProperties")) for name, it in limits.items()}
+    known = runpy.run_path(CHECK)["ROSTER_MOST"]
+    yield "the limits of a roster", known == there, f"{known} and {there}"
+    for count, status, says in (
+        (921, 0, "desk_roster_percent=89"),
+        (922, 1, "WARNING - the roster has 90 % of its hosts |"),
+    ):
+        more = "".join(f', "h{number}"' for number in range(count - 3))
+        grown = calm.replace('"web1"]', f'"web1"{more}]', 1)
+        with serving(folder, grown, "", []) as address:
+            path = os.path.join(folder, "roster.toml")
+            found = check("--desk", address, "--roster", path)
+        yield f"{count} hosts", *is_said(found, status, says)
 
 
 def at_its_socket(folder: str) -> Iterator[tuple[str, bool, str]]:
@@ -388,6 +450,8 @@ def unreadable(folder: str) -> Iterator[Row]:
         (("--file", empty, "--fil", "x"), "unrecognized"),
         (("--file", empty, "--front-pid", "/run/nginx.pid"), "needs a --certificate"),
         (("--file", empty, "--roster", empty), "--roster needs a --desk"),
+        (("--file", empty, "--unit", "desk"), "--unit needs a --desk"),
+        (("--file", empty, "--broad-warning"), "--broad-warning needs a --desk"),
         (("--crl", empty, "--days-warning", "soon"), "invalid int"),
         (("--crl", empty, "--days-warning", "3", "--days-critical", "5"), "comes after"),
         (("--crl", empty, "--days-warning", "3", "--days-critical", "-5"), "are 0 or more"),
@@ -428,10 +492,25 @@ def pages(_: str) -> Iterator[Row]:
     server.shutdown()
 
 
+PARTS = (
+    desks,
+    as_in_team,
+    long_lived,
+    late,
+    files,
+    ends,
+    fronts,
+    outboxes,
+    disks,
+    unreadable,
+    pages,
+)
+
+
 def main() -> None:
     checks, wrong = 0, 0
     with tempfile.TemporaryDirectory() as folder:
-        for part in (desks, late, files, ends, fronts, outboxes, disks, unreadable, pages):
+        for part in PARTS:
             for what, is_right, said in part(folder):
                 checks += 1
                 if not is_right:

@@ -484,8 +484,8 @@ def of_one(whole: bytes, name: tuple[str, int]) -> tuple[list[dict[str, object]]
 
 def ask_audits(address: str, roster: str, base: str) -> Counts:
     """What became of the requests is what desk-audit prints of the same messages: byte for byte
-    where all of them are asked about, or those after a moment, and of each name what the whole
-    document has of it."""
+    for all requests and for those after a moment, and for each name its part of the whole
+    document."""
     listed = reply_of(by_curl(address, ["/v1/messages"]))[2]
     whole = told(roster, base, listed)
     wrong = not check("the requests", by_curl(address, ["/v1/requests"]), ("200 OK", whole))
@@ -810,7 +810,7 @@ FETCHES: list[tuple[str, str, int, str | None]] = [
     ("no server", "NOBODY db1", 1, "NOBODY: [Errno 111] Connection refused"),
     ("no server, then a desk", "NOBODY DESK db1", 0, "NOBODY: [Errno 111] Connection refused"),
     ("what is no sudoers file, then a desk", "odd DESK db1", 0, "none that a desk writes"),
-    ("a desk, then none", "DESK NOBODY db1", 0, None),
+    ("a desk, then none", "DESK NOBODY db1", 0, "NOBODY: [Errno 111] Connection refused"),
     ("none twice", "NOBODY NOBODY db1", 1, "no desk gave a file for db1 that can be taken"),
     ("a desk that is too old", "uncounted db1", 1, "how many messages it holds: the desk is too"),
     ("where that is allowed", "--without-count uncounted db1", 0, "as WITHOUT_COUNT says"),

@@ -4,11 +4,10 @@
 The desk is told requests and approvals of people, hosts, targets, commands and arguments that mean
 something to sudo, or use every lawful byte at either end, and has to acknowledge each. Each host's
 file has to pass `visudo -c` and what `desk-host` takes, and `cvtsudoers -f json` has to read of it,
-line by line, the user, host, target, command, arguments and dates that were asked for. Of some of
-them `sudo -l` is asked too (tests/common/sudo_peer.py): at a moment of the window, which it has to
-allow, and a second before and after it, and with one argument more. `desk decide` has to answer
-each as sudo does. It prints
-what is otherwise, and ends with the counts; the seed is fixed.
+line by line, the user, host, target, command, arguments and dates that were asked for. `sudo -l` is
+asked about some requests too (tests/common/sudo_peer.py): at a moment of the window, which it has
+to allow, and a second before and after it, and with one argument more. `desk decide` has to answer
+each as sudo does. It prints what is otherwise, and ends with the counts; the seed is fixed.
 """
 
 import gzip
@@ -22,8 +21,9 @@ import tempfile
 from collections.abc import Iterator, Mapping
 from typing import NamedTuple, NoReturn
 
+from steelnewt_host.lawful import unlawful
 from tests.common import desk
-from tests.common.sudo_peer import accepts, allows, clear, desk_host, enter_namespace, furnish
+from tests.common.sudo_peer import accepts, allows, clear, enter_namespace, furnish
 
 MANUAL = "/usr/share/man/man5/sudoers.5.gz"
 DESKS, REQUESTS, HOSTS, ASKED = 40, 50, 10, 500
@@ -305,7 +305,6 @@ class Run:
 
     def __init__(self, folder: str, programs: Mapping[str, str]) -> None:
         self.folder, self.programs = folder, programs
-        self.host_program = desk_host()
         self.accepted = self.files = self.read = self.asked = self.wrong = 0
         self.asks: Asks = []
 
@@ -337,7 +336,7 @@ class Run:
         if not accepts(self.programs["visudo"], f"the file of {host}", text, self.folder):
             self.fault(f"visudo refuses {text!r}")
             return
-        strange = self.host_program.unlawful(text.encode())
+        strange = unlawful(text.encode())
         if strange:
             self.fault(f"a host takes no such file: {strange}")
         wanted, found = site.lines(host), lines_of(text, self.programs["cvtsudoers"])

@@ -533,6 +533,30 @@ def refused_roster(count: Count, served: Served, old: bytes) -> None:
     count.same("another roster: the old desk is served", served.file(), old)
 
 
+ELSEWHERE = """
+import socket, sys
+peer = socket.socket(socket.AF_UNIX)
+peer.bind(sys.argv[1])
+peer.listen()
+print("listening", flush=True)
+sys.stdin.read()
+"""
+
+
+@contextlib.contextmanager
+def elsewhere(place: str) -> Iterator[None]:
+    """Somebody listens at a path of a mount namespace of their own, as any account may make one."""
+    room = os.path.dirname(place)
+    os.mkdir(room)
+    bound = f'mount -t tmpfs none {room} && exec "$@"'
+    words = ["unshare", "--mount", "sh", "-c", bound, "sh", sys.executable, "-c", ELSEWHERE, place]
+    pipe = subprocess.PIPE
+    with subprocess.Popen(words, stdin=pipe, stdout=pipe, text=True) as listening:
+        assert listening.stdout and listening.stdout.readline() == "listening\n"
+        yield
+        listening.kill()
+
+
 def checks(count: Count, words: list[str], folder: str) -> None:
     """--check names each fault of a site, and more than one at once."""
     roster, base = (desk.read("examples", name) for name in ("roster.toml", "site.sudo"))
@@ -583,6 +607,15 @@ def checks(count: Count, words: list[str], folder: str) -> None:
     with contextlib.closing(socket.create_server(("127.0.0.1", free_port()))) as other:
         address = f"127.0.0.1:{other.getsockname()[1]}"
         site("an address that is taken", f"F1 FileFailed: the address {address}", ADDR=address)
+    place = os.path.join(folder, "run", "desk.sock")
+    with elsewhere(place):
+        site("a socket of that path that is elsewhere", ADDR=f"unix:{place}")
+    with contextlib.closing(socket.socket(socket.AF_UNIX)) as other:
+        other.bind(place)
+        other.listen()
+        told = f"F1 FileFailed: the address unix:{place}"
+        site("a socket that is taken", told, ADDR=f"unix:{place}")
+    site("a socket that nobody has", ADDR=f"unix:{place}")
     store = made_store(words, os.path.join(folder, "locked.db"), desk.request().encode())
     with store_files.taken(store):
         site("a store that is taken", f"F1 FileFailed: another program has {store}", STORE=store)

@@ -2,8 +2,8 @@
 """Asks sudo what random policies decide: aliases nested in aliases, with signs at every depth, and
 times with offsets from UTC.
 
-Each policy has to pass `visudo -c`. Of each, sudo is asked once by `sudo -l`
-(tests/common/sudo_peer.py), and of each time at the second before its bound, at the bound and a
+Each policy has to pass `visudo -c`. `sudo -l` is asked once about each policy
+(tests/common/sudo_peer.py), and for each bound of time at the second before it, at the bound and a
 second after it; `desk decide` has to answer as sudo does. It prints what is otherwise, and ends
 with the counts; the seed is fixed.
 """

@@ -57,7 +57,7 @@ class Queue:
 
 
 class Cluster:
-    """The nodes, and what `rabbitmqctl` tells of them."""
+    """The nodes, and the answers of their `rabbitmqctl`."""
 
     def __init__(self, folder: pathlib.Path, started: Programs, count: int = COUNT) -> None:
         self._folder, self._started, self._scripts = folder, started, scripts()

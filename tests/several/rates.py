@@ -136,7 +136,7 @@ def tell_rates(bench: Bench, posts: list[Post], what: str) -> float:
 
 
 def judged(rate: float) -> bool:
-    """Prints the rate to three desks beside what is promised of it; whether it holds."""
+    """Prints the rate to three desks beside the promised one; returns whether it holds."""
     holds = rate >= LEAST
     print(
         f"through the broker to each of 3 desks, messages a second: {rate:,.0f}, at least"

@@ -46,11 +46,18 @@ static long fail(void)
     return plan->error ? -1 : 0;
 }
 
+/* Whether a plan is of this kind, and of this peer. (While a plan is armed its peer has not come:
+   the server may still look at the peer before, whose end it has not seen.) */
+static int is_of(int what, int number)
+{
+    return plan && plan->what == what && !plan->armed && number == peer;
+}
+
 /* How many of `most` bytes may go: 0 where the call has to fail. */
 static size_t room(int what, int number, size_t most)
 {
     size_t left;
-    if (!plan || plan->what != what || number != peer || plan->failures)
+    if (!is_of(what, number) || plan->failures)
         return most;
     left = plan->place - plan->gone;
     return most < left ? most : left;
@@ -58,7 +65,7 @@ static size_t room(int what, int number, size_t most)
 
 static long went(int what, int number, long count)
 {
-    if (plan && plan->what == what && number == peer && count > 0)
+    if (is_of(what, number) && count > 0)
         plan->gone += count;
     return count;
 }

@@ -111,7 +111,7 @@ def comes(
 
 
 class Load:
-    """Peers that post and ask all the time; `acked` is what was acknowledged to them."""
+    """Peers that post and ask all the time; `acked` are the posts that were acknowledged."""
 
     def __init__(self, service: Service) -> None:
         self.service, self.acked = service, list[str]()
@@ -145,7 +145,7 @@ class Load:
 
 
 def heals(count: Count, title: str, service: Service, acked: list[str], number: int) -> None:
-    """It answers again in time, without a person, and what was acknowledged is there."""
+    """The desk answers again in time, without a person, and has all that it acknowledged."""
     body = desk.approval(number)
     with Machine(service.process.pid, *children(service.process.pid)) as machine:
         took = comes(lambda: service.post(body), MOST, machine)

@@ -10,8 +10,8 @@ once a commit.
 
 `rebuild` is killed 200 times while it gives the desk another roster: after each, the file is the
 desk of the old roster or of the new one, whole, and the same command ends well when it is given
-again. Of each eighth desk the other roster is refused, and its questions are answered as by a desk
-that was made so: they depend on its rows alone, and these are compared each time.
+again. Each eighth desk refuses the other roster, and answers questions as a desk does that was made
+so: its answers depend on its rows alone, and these are compared each time.
 
 The file is made once, by `sqlite3`, and each run has a copy of it; some run side by side. `python3
 -m tests.soak.kills WORDS..` runs another program than build/desk; `--only PART..` before them tries
@@ -122,8 +122,8 @@ def is_written(log: str) -> bool:
 
 class Kind(Protocol):
     """What is killed: how long its runs take until they write, and write; and a run that is killed
-    at a moment, behind which the desk is asked, with what is counted of it: whether it was killed
-    in time, and the name of the state found."""
+    at a moment, after which the desk is asked. The run's count says whether it was killed in time,
+    and names the state that was found."""
 
     whole: Killed
 

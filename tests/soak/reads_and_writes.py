@@ -271,7 +271,7 @@ def cut_replies(trial: Trial, store: str, longest: int) -> None:
 
 
 def places(whole: bytes, is_whole: bool) -> list[int]:
-    """Each byte of a short reply; of a long one its ends, those at each 4,096th, some by chance."""
+    """Each byte of a short reply; a long one's ends, each 4,096th byte, and some by chance."""
     if len(whole) < 1_000:
         return [*range(0, len(whole), 1 if is_whole else 7)]
     chance, most = random.Random(len(whole)), 1_000 if is_whole else 8

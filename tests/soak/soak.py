@@ -84,7 +84,7 @@ class Batch(NamedTuple):
 
 
 def soak(batch: Batch) -> tuple[Batch, Tally]:
-    """What is found of a batch; of none that would begin too late."""
+    """The findings of a batch; none if it would begin too late."""
     if time.monotonic() > batch.until:
         return batch, Tally()
     with tempfile.TemporaryDirectory(dir=desk.MEMORY) as folder:
@@ -117,7 +117,8 @@ def main() -> int:
     parser.add_argument("--short", action="store_true")
     parser.add_argument("--only", action="append", choices=[*READERS], default=None)
     parser.add_argument("--batch", type=int)
-    parser.add_argument("--jobs", type=int, default=os.cpu_count())
+    cores = int(os.environ.get("CORES") or os.cpu_count() or 1)
+    parser.add_argument("--jobs", type=int, default=cores)
     parser.add_argument("--minutes", type=float, default=float("inf"))
     given, words = parser.parse_known_args()
     given.only = given.only or [*READERS]

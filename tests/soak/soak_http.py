@@ -2,8 +2,8 @@
 
 What a request asks is read a second time (tests/common/http_oracle.py), and so is a message that it
 brings (soak_texts.py). The messages that were acknowledged so far say what the desk answers about
-messages, parked verdicts and grants, byte for byte. Of a report and of a host's file only the
-beginning is compared.
+messages, parked verdicts and grants, byte for byte. Only the beginning of a report and of a host's
+file is compared.
 """
 
 from __future__ import annotations
@@ -41,7 +41,7 @@ REPLY = re.compile(
 
 
 class Reply(NamedTuple):
-    """A reply; of one that is not known to its end, the beginning of its body."""
+    """A reply; if its end is not known, `body` is the beginning of its body."""
 
     status: str
     body: bytes

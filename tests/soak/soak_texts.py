@@ -1,9 +1,10 @@
 """Texts that are changed at random: messages, rosters and policies, and what must be answered.
 
 Messages and rosters are read a second time by the rules of `desk-lint` (tools/), from which the
-desk's answer to each follows. No second reader says which policies are of the desk's subset: of one
-that it reads, `visudo -c` must accept the text, the canonical text must be read back to itself, and
-both must decide alike; of one that it refuses, the code of its length and of its bytes is known.
+desk's answer to each follows. No second reader says which policies are of the desk's subset. If the
+desk reads a policy, `visudo -c` must accept the text, the canonical text must be read back to
+itself, and both must decide alike; if it refuses one, the code for its length and its bytes is
+known.
 """
 
 from __future__ import annotations

@@ -9,6 +9,7 @@ import tempfile
 from dataclasses import dataclass, field
 
 from desk_tools import explain
+from desk_tools.base_risks import risks
 from desk_tools.found import Fault, Warning, coded
 from desk_tools.judge import NoDesk
 from desk_tools.warnings import real_path
@@ -160,6 +161,11 @@ def logical(lines: list[bytes], line: int) -> str:
     return b" ".join(held).decode("utf-8", "surrogateescape")
 
 
+def joined(lines: list[str], line: int) -> str:
+    """A line of a base that the desk reads, with those that continue it."""
+    return logical([it.encode() for it in lines[line - 1 :]], 1)
+
+
 def likeliest(code: str, text: str) -> tuple[str, str]:
     """The word of a line for which the desk likely refuses it, and what to do; nothing where none
     is likely."""
@@ -188,6 +194,8 @@ def warnings_of(data: bytes) -> list[Warning]:
             for path in PATH.findall(line)
             if (why := real_path(path))
         ]
+        if not is_continued:
+            found += risks(number, COMMENT.sub("", joined(lines, number)))
         kind = DEFINES.match(line.lstrip())
         if kind or is_continued:
             rest = line.lstrip()[kind.end() :] if kind else line

@@ -28,7 +28,7 @@ class Ended(Exception):
 
 
 class Halfway(Exception):
-    """It failed, and the old state is not back: a person has to do something."""
+    """The change failed, and the old state is not back: a person has to do something."""
 
 
 class Compared(NamedTuple):

@@ -8,7 +8,7 @@ from typing import Any, NamedTuple
 Audit = dict[str, Any]
 Entry = dict[str, Any]
 
-# each kind of change, in the order in which they are shown, and what is said of it
+# each kind of change, in the order in which they are shown, and its sentence
 KINDS = {
     "given back": "GIVEN BACK: what was revoked, refused or no longer admitted is in force again",
     "begins": "BEGINS",

@@ -127,7 +127,7 @@ def set_apart(line: str) -> str:
 
 
 def commands(specs: list[dict[str, Any]]) -> list[Any]:
-    """Each command of these rules with what else the rule says of it, but for its options."""
+    """Each command of these rules with the rule's other words, but for its options."""
     return [
         [
             spec["User_List"],
@@ -146,13 +146,20 @@ def is_joined(specs: list[dict[str, Any]]) -> bool:
     return any(len(part["Commands"]) > 1 for spec in specs for part in spec["Cmnd_Specs"])
 
 
-def rules(line: str, read: Read, name: str) -> list[dict[str, Any]]:
-    """The rules of a line that was read, each command with the options of its own."""
+def may_set_environment(specs: list[dict[str, Any]]) -> bool:
+    """Whether commands have SETENV, which ALL has by itself, and is joined with others then."""
+    parts = [part for spec in specs for part in spec["Cmnd_Specs"]]
+    return any({"setenv": True} in part.get("Options", []) for part in parts)
+
+
+def rules(line: str, read: Read, name: str, before: str) -> list[dict[str, Any]]:
+    """The rules of a line that was read behind `before`, each command with the options of its
+    own."""
     specs: list[dict[str, Any]] = read.get("User_Specs", [])
-    if not is_joined(specs) or not re.search(OPTION, line):
+    if not is_joined(specs) or not (re.search(OPTION, line) or may_set_environment(specs)):
         return specs
     try:
-        read_apart = text_read(f"{set_apart(line)}\n", name)
+        read_apart = text_read(f"{before}{set_apart(line)}\n", name)
         apart: list[dict[str, Any]] = read_apart.get("User_Specs", [])
     except BadSudoers:
         apart = []
@@ -161,7 +168,14 @@ def rules(line: str, read: Read, name: str) -> list[dict[str, Any]]:
             f"{name}: write each command with its options as a rule of its own: "
             "cvtsudoers mixes up such a line"
         )
-    return apart
+    return [{**spec, "Cmnd_Specs": [without_mail(it) for it in spec["Cmnd_Specs"]]} for spec in apart]
+
+
+def without_mail(part: dict[str, Any]) -> dict[str, Any]:
+    """A command without the tag that set it apart."""
+    options = [it for it in part["Options"] if "send_mail" not in it]
+    rest = {key: value for key, value in part.items() if key != "Options"}
+    return {**rest, "Options": options} if options else rest
 
 
 def has_local_time(line: str, name: str) -> bool:

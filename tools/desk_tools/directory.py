@@ -1,4 +1,4 @@
-"""Who is in a group, and who is on call: from LDAP, the machine's groups, a CSV and a calendar.
+"""Who is in a group: from LDAP, the machine's groups and a CSV.
 
 What is empty, partial or fails is refused: no answer of a directory takes a right by mistake.
 """
@@ -9,38 +9,21 @@ import base64
 import csv
 import re
 import subprocess
-from collections.abc import Iterator
-from datetime import date, datetime, timedelta, timezone
+from collections.abc import Callable, Collection, Iterator
 from typing import Any
 
-from desk_tools import turns
 from desk_tools.cvtsudoers import BadSudoers
-from desk_tools.machine import getent
-from desk_tools.roster_text import Days, merged
+from desk_tools.machine import NSSWITCH, getent, is_files_alone
 
 PATIENCE = 60.0  # seconds for one question to the directory
+COLUMNS = ("person", "duty")
 MEMBERS = ("member", "uniquemember", "memberuid")
 LOOPBACK = re.compile(r"ldap://(localhost|127\.0\.0\.1|\[::1\])(:\d+)?/?")
-# what the two libraries raise at a calendar that is none, or that they do not know
-UNREAD = (
-    OSError,
-    ValueError,
-    LookupError,
-    TypeError,
-    AttributeError,
-    ArithmeticError,
-    AssertionError,
-    RecursionError,
-)
 LDIF = re.compile(r"([A-Za-z0-9.-]+(?:;[A-Za-z0-9.=;-]+)?):(:?) ?(.*)")
 
 
 class Unsure(Exception):
     """Why the answer of a source is not taken."""
-
-
-def as_days(it: date) -> str:
-    return it.strftime("%Y%m%d")
 
 
 # ---- LDAP, by ldapsearch
@@ -121,74 +104,53 @@ def machine_members(group: str) -> set[str]:
     return named | {row[0] for row in accounts if row[3] == rows[0][2]}
 
 
-def table_members(path: str, duty: str) -> set[str]:
-    """Who has a duty in a CSV with the columns person and duty."""
+def unseen(group: str, switch: str = NSSWITCH) -> str | None:
+    """Whom getent may not see in a group: a directory may know people whom it does not list."""
+    if is_files_alone(switch):
+        return None
+    return (
+        f"(getent {group}: nsswitch.conf has more than files, so whoever has {group} as their "
+        "first group, and is not listed by `getent passwd`, is not seen)"
+    )
+
+
+def table_members(
+    path: str,
+    duty: str,
+    duties: Collection[str],
+    read: Collection[str],
+    remark: Callable[[str], None],
+) -> set[str]:
+    """Who has a duty in a CSV with the columns person and duty: a roster has the duties, and some
+    of them are read there.
+
+    A row whose duty the roster does not have may be a slip, by which somebody would lose a right:
+    it is refused. One of a duty that the settings do not read there is remarked."""
     found = set()
-    try:
-        with open(path, encoding="utf-8", newline="") as file:
-            rows = csv.DictReader(file, strict=True)
-            if not {"person", "duty"} <= set(rows.fieldnames or []):
-                raise Unsure(f"{path}: its first line names the columns person and duty")
-            for row in rows:
-                if not row["person"] or not row["duty"]:
-                    raise Unsure(f"{path}:{rows.line_num}: a line without person or duty")
-                if row["duty"] == duty:
-                    found.add(row["person"])
-    except (OSError, UnicodeDecodeError, csv.Error) as fault:
-        raise Unsure(f"{path}: {fault}") from None
+    for place, person, its_duty in rows_of(path):
+        if its_duty not in duties:
+            raise Unsure(f"{place}: the roster has no duty {its_duty!r}")
+        if its_duty not in read:
+            remark(f"{place}: not read: no [duties.{its_duty}] of the settings names this file")
+        if its_duty == duty:
+            found.add(person)
     return found
 
 
-# ---- a calendar
-
-
-def on_call(path: str, person: str, today: str, weeks: int) -> dict[str, list[Days]]:
-    """Who is on call on which days from today on, by the events of an iCalendar file."""
+def rows_of(path: str) -> Iterator[tuple[str, str, str]]:
+    """Each row of a CSV: its place, its person and its duty."""
     try:
-        import icalendar  # type: ignore[import]
-        import recurring_ical_events  # type: ignore[import]
-    except ImportError:
-        said = "python3-icalendar and python3-recurring-ical-events"
-        raise Unsure(f"it needs Debian's packages {said}") from None
-    first = datetime.strptime(today, "%Y%m%d").replace(tzinfo=timezone.utc)
-    until = first + timedelta(weeks=weeks)
-    found: dict[str, list[Days]] = {}
-    try:
-        with open(path, "rb") as file:
-            data = file.read()
-        calendar = icalendar.Calendar.from_ical(data)
-        why = turns.unsure(calendar.walk("VEVENT"))
-        why = why or turns.unread(icalendar.parser.Contentlines.from_ical(data))
-        if why is not None:
-            raise Unsure(f"{path}: {why}")
-        for event in recurring_ical_events.of(calendar).between(first, until):
-            if str(event.get("STATUS", "")).upper() != "CANCELLED":
-                found.setdefault(who(event, person, path), []).append(days_of(event, path))
-    except UNREAD as fault:
-        said = str(fault) or f"it is no calendar that is read ({type(fault).__name__})"
-        raise Unsure(f"{path}: {said}") from None
-    return {name: merged(spans) for name, spans in found.items()}
-
-
-def who(event: Any, person: str, path: str) -> str:
-    """Whom an event is about: its summary, or its one attendee."""
-    if person == "summary":
-        return str(event.get("SUMMARY", "")).strip()
-    found = event.get("ATTENDEE")
-    if found is None or isinstance(found, list):
-        summary = str(event.get("SUMMARY", ""))
-        raise Unsure(f"{path}: the event {summary!r} has not one attendee")
-    return str(found).removeprefix("mailto:").removeprefix("MAILTO:").partition("@")[0]
-
-
-def days_of(event: Any, path: str) -> Days:
-    """The days of an event in UTC: each on which it is at least a moment."""
-    ends = [event["DTSTART"].dt, event["DTEND"].dt]
-    days = []
-    for it, less in zip(ends, (timedelta(0), timedelta(seconds=1)), strict=True):
-        if not isinstance(it, datetime):
-            it = datetime(it.year, it.month, it.day, tzinfo=timezone.utc)
-        if it.tzinfo is None:
-            raise Unsure(f"{path}: a time of {turns.title(event)} has no zone")
-        days.append(as_days((it - less).astimezone(timezone.utc).date()))
-    return Days(*days)
+        with open(path, encoding="utf-8", newline="") as file:
+            rows = csv.DictReader(file, strict=True)
+            columns = list(rows.fieldnames or [])
+            if [columns.count(it) for it in COLUMNS] != [1, 1]:
+                raise Unsure(f"{path}: its first line names the columns person and duty, each once")
+            for row in rows:
+                place, (person, duty) = f"{path}:{rows.line_num}", (row[it] for it in COLUMNS)
+                if not person or not duty:
+                    raise Unsure(f"{place}: a line without person or duty")
+                if [person, duty] != [person.strip(), duty.strip()]:
+                    raise Unsure(f"{place}: a blank before or behind {person!r} or {duty!r}")
+                yield place, person, duty
+    except (OSError, UnicodeDecodeError, csv.Error) as fault:
+        raise Unsure(f"{path}: {fault}") from None

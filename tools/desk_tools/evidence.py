@@ -1,5 +1,5 @@
-"""What an audit of a time rests on: the inputs, what the desk and a second reading make of them,
-and a manifest. The same inputs give the same bytes: nothing in it is of the day of its making."""
+"""What an audit of a time rests on: the inputs, the reports of the desk and of a second reading,
+and a manifest. The same inputs give the same bytes, on whatever day."""
 
 import csv
 import hashlib
@@ -192,8 +192,8 @@ class Evidence:
     # ---- the logs
 
     def with_revoked(self, audit: dict[str, Any]) -> dict[str, Any]:
-        """The audit, with what was granted under an earlier roster, as that one has it, where this
-        one does not grant it: a host may have run it after a revocation all the same."""
+        """The audit by this roster, and beside it the grants that only an earlier roster had: a
+        host that had not fetched yet may have run their commands after they were revoked."""
         names = {(it["by"], it["no"]): it for it in audit["names"]}
         self.given |= {key: it for key, it in names.items() if it["status"] in GIVEN}
         return audit | {"names": list((names | self.given).values())}

@@ -39,7 +39,7 @@ def parser() -> argparse.ArgumentParser:
     rosters.add_argument("--roster", metavar="ROSTER", help="the roster of the whole time")
     said = "a log of sudo's, or a folder of logs (may be given again)"
     found.add_argument("--log", action="append", default=[], metavar="[HOST=]LOG", help=said)
-    for name in ("--skew", "--zone", "--year"):
+    for name in ("--skew", "--zone", "--year", "--peers"):
         found.add_argument(name, metavar=name[2:].upper(), help="of the logs, as for desk-used")
     found.add_argument("--key", metavar="KEY", help="sign the manifest with this key of ssh's")
     found.add_argument("--desk", metavar="PROGRAM", help="the program desk (the one on the path)")
@@ -64,7 +64,7 @@ def rosters(said: argparse.Namespace) -> list[Period]:
 
 def options(said: argparse.Namespace) -> list[str]:
     """The words that are for desk-used."""
-    given = {name: getattr(said, name) for name in ("skew", "zone", "year")}
+    given = {name: getattr(said, name) for name in ("skew", "zone", "year", "peers")}
     return [word for name, value in given.items() if value for word in (f"--{name}", value)]
 
 

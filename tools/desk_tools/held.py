@@ -99,7 +99,7 @@ class Held:
         self.found: dict[tuple[str, str], list[Span]] = {}
 
     def of(self, person: str) -> dict[str, list[Days]]:
-        """The days of each duty of a person; of one that has ended, none."""
+        """The days of each duty of a person; a duty that has ended has none."""
         always, found = self.always, {}
         for entry in self.site.people[person]:
             if isinstance(entry, str):
@@ -155,7 +155,7 @@ class Held:
 
 
 class Now:
-    """Those who have something on a day, which only goes on."""
+    """The people who have something on a day, which only goes on."""
 
     def __init__(self, changes: Changes) -> None:
         self.changes, self.sometimes = changes, set[str]()

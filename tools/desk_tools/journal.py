@@ -1,4 +1,4 @@
-"""The change of a roster on the disk: what is kept of it, and how far it has come."""
+"""The change of a roster, kept on the disk: both rosters, and how far the change has come."""
 
 from __future__ import annotations
 
@@ -106,7 +106,7 @@ class Journal:
         return pending
 
     def end(self) -> None:
-        """Nothing is pending any more; of older changes the last few stay."""
+        """Nothing is pending any more; the last few of the older changes stay."""
         os.unlink(self.path)
         synced(self.folder)
         names = sorted(it for it in os.listdir(self.folder) if it[:1].isdigit())

@@ -29,7 +29,7 @@ def narrowed(command: str, ran: Iterable[str]) -> list[str]:
 
 
 def kept(grants: list[Grant]) -> dict[str, list[str]]:
-    """The hosts, targets and commands that were used; of a grant without a log, all of its own."""
+    """The hosts, targets and commands that were used; all of a grant's where there is no log."""
     hosts, targets, commands = set(), set(), set()
     for it in grants:
         if not it.is_logged:

@@ -45,7 +45,7 @@ class Grants:
             self.disputed.add(name)
 
     def warnings(self, file: str) -> list[Warning]:
-        """Of the requests that stand in a file, by the verdicts of all."""
+        """Warnings about the requests that stand in a file, by the verdicts of all files."""
         found = []
         for name, (where, line, value) in self.requests.items():
             said = None if name in self.disputed or where != file else self.outlasts(value)

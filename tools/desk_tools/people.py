@@ -2,11 +2,11 @@
 
 from __future__ import annotations
 
-from collections.abc import Callable
 from typing import Any, NamedTuple
 
 from desk_tools import roster_faults
-from desk_tools.directory import Ldap, Unsure, machine_members, on_call, table_members
+from desk_tools.calendars import Named, on_call
+from desk_tools.directory import Ldap, Unsure, machine_members, table_members
 from desk_tools.people_settings import is_name
 from desk_tools.roster_text import (
     CannotEdit,
@@ -47,14 +47,6 @@ def named(found: set[str], names: dict[str, str]) -> dict[str, str]:
     return known
 
 
-def members(source: dict[str, Any], duty: str, ldap: Callable[[], Ldap]) -> set[str]:
-    if "ldap" in source:
-        return ldap().members(source["ldap"])
-    if "getent" in source:
-        return machine_members(source["getent"])
-    return table_members(source["csv"], duty)
-
-
 class People:
     """A roster whose people are brought up to date."""
 
@@ -65,6 +57,8 @@ class People:
         self.before = read_toml(data).value
         self.text = RosterText(data.decode("utf-8"))
         self.moved: list[Moved] = []
+        # what a source has and nobody gets, once each
+        self.remarks: dict[str, None] = {}
         self.wanted: dict[str, Wanted] = {}
 
     def ldap(self) -> Ldap:
@@ -81,17 +75,29 @@ class People:
     def asked(self, duty: str, source: dict[str, Any]) -> Wanted:
         """On which days from now on who holds a duty, as its source has it."""
         if "calendar" in source:
-            weeks, by = source.get("weeks", WEEKS), source.get("person", "summary")
-            calendar = on_call(source["calendar"], by, self.today, weeks)
+            by = Named(source.get("person", "summary"), source.get("domain", ""))
+            weeks = source.get("weeks", WEEKS)
+            calendar = on_call(source["calendar"], by, self.today, weeks, self.remark)
             known = named(set(calendar), self.said.get("names", {}))
             wanted = {known[it]: cut(days, self.today, LAST) for it, days in calendar.items()}
         else:
-            found = members(source, duty, self.ldap)
-            known = named(found, self.said.get("names", {}))
+            known = named(self.members(source, duty), self.said.get("names", {}))
             wanted = {it: self.member(it, duty) for it in known.values()}
         if not wanted and not source.get("may_be_empty", False):
             raise Unsure(f"duties.{duty}: its source names nobody; may_be_empty allows that")
         return {it: self.ended(it, days) for it, days in wanted.items()}
+
+    def members(self, source: dict[str, Any], duty: str) -> set[str]:
+        if "ldap" in source:
+            return self.ldap().members(source["ldap"])
+        if "getent" in source:
+            return machine_members(source["getent"])
+        table, sources = source["csv"], self.said["duties"]
+        read = {it for it in sources if sources[it].get("csv") == table}
+        return table_members(table, duty, self.before["duties"], read, self.remark)
+
+    def remark(self, said: str) -> None:
+        self.remarks[said] = None
 
     def member(self, person: str, duty: str) -> list[Days]:
         """A member who holds the duty today goes on as the roster says; else from today."""

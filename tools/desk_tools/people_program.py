@@ -11,7 +11,7 @@ import time
 
 from desk_tools import change, change_program, evidence, people, people_settings, served
 from desk_tools.change_program import visible_lines
-from desk_tools.directory import Unsure
+from desk_tools.directory import Unsure, unseen
 from desk_tools.found import Parser, visible
 from desk_tools.journal import write
 from desk_tools.judge import NoDesk
@@ -80,14 +80,19 @@ def followed(said: argparse.Namespace) -> int:
     if said.write and is_served(said):
         raise Failed("the desk is served with this file: write a copy, and desk-change-roster it")
     settings = people_settings.settings(said.people)
+    groups = {it["getent"] for it in settings.get("duties", {}).values() if "getent" in it}
+    for told in filter(None, map(unseen, sorted(groups))):
+        print(visible(told), file=sys.stderr)
     found = people.People(data, today, settings, said.many)
     new = found.look()
+    for remark in found.remarks:
+        print(f"desk-roster: {visible(remark)}", file=sys.stderr)
     if new.encode() == data:
         print("The roster has these people already.")
         return DONE
     sys.stdout.write(differing(said.roster, data.decode(), new))
-    told = "".join(f"{it.person} has {it.duty} {it.said}\n" for it in found.moved)
-    sys.stdout.write(visible_lines(told))
+    moved = "".join(f"{it.person} has {it.duty} {it.said}\n" for it in found.moved)
+    sys.stdout.write(visible_lines(moved))
     grants(said, new.encode())
     if not said.write:
         print("Nothing is written without --write.")

@@ -15,8 +15,9 @@ KEYWORDS = {"sudoedit", "sha224", "sha256", "sha384", "sha512"}
 KEYS = {"ldap", "names", "ends", "duties"}
 LDAP = {"url", "words", "name"}
 SOURCES = ("ldap", "getent", "csv", "calendar")
-MORE = {"may_be_empty", "person", "weeks"}
-OF_CALENDARS = ("person", "weeks")
+MORE = {"may_be_empty", "person", "domain", "weeks"}
+OF_CALENDARS = ("person", "domain", "weeks")
+DOMAIN = re.compile(r"[A-Za-z0-9-]+(?:\.[A-Za-z0-9-]+)*")
 BY = ("summary", "attendee")
 MOST_WEEKS = 520
 
@@ -98,6 +99,11 @@ def wrong_duty(where: str, source: object) -> Iterator[str]:
             yield f"{where}.{key}: only a calendar has it: leave it out"
     if source.get("person", BY[0]) not in BY:
         yield f'{where}.person: "{BY[0]}" or "{BY[1]}" is expected'
+    if "domain" in source and source.get("person") != "attendee":
+        yield f'{where}.domain: only person = "attendee" has it: leave it out'
+    domain = source.get("domain", "a")
+    if not isinstance(domain, str) or not DOMAIN.fullmatch(domain):
+        yield f"{where}.domain: what stands behind the @ is expected, as \"example.com\""
     weeks = source.get("weeks", 1)
     if type(weeks) is not int or not 1 <= weeks <= MOST_WEEKS:
         yield f"{where}.weeks: a whole number from 1 to {MOST_WEEKS} is expected, without quotes"

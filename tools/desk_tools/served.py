@@ -185,8 +185,8 @@ def audit(
 ) -> dict[str, Any]:
     """What desk-audit tells of a store with these messages.
 
-    It is asked about the messages alone, which is quick; what the roster does not admit of them
-    is left out there, so then it is asked about the store."""
+    It is asked about the messages alone, which is quick. It leaves out those that the roster does
+    not admit, so then it is asked about the store."""
     words = [program, roster, base, "-", "--json", *more]
     ran = subprocess.run(words, input=told, capture_output=True, check=False)
     if ran.returncode == 0 and not ran.stderr:

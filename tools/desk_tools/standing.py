@@ -42,7 +42,8 @@ class Standing:
         self.rules = [Rule(it, []) for it in rules]
 
     def decided(self) -> None:
-        """The last rule that speaks decides: it is the last one from which on the text allows."""
+        """Counts each run by the base for the rule that decided it, the last one that fits: the
+        text from that rule on allows the run, and the text behind it does not."""
         for row in self.use.rows:
             if row.ground == "base":
                 for question, found in self.use.of_base(row.done, row.moments):

@@ -43,8 +43,8 @@ class Include(NamedTuple):
 
 
 class Line(NamedTuple):
-    """A line, the number of its first, and the directive that it is; and why what cvtsudoers prints
-    of it may be something else than what sudo means by it."""
+    """A line, the number of its first, and the directive that it is; and why cvtsudoers may print
+    something else than sudo means by the line."""
 
     number: int
     text: str

@@ -21,10 +21,12 @@ from dataclasses import dataclass, field
 from datetime import datetime, timezone, tzinfo
 from typing import Any, BinaryIO, NamedTuple, TypeAlias, cast
 
+from desk_tools.lost_lines import LOSSES, why_lost, why_lost_by
+from desk_tools.peers import Peers
 from steelnewt_client.moments import seconds
 
 MOST_SHOWN = 20
-# lines of a log are no longer; of what is, the rest is another line that cannot be read
+# lines of a log are no longer; the rest of a longer one is another line, which cannot be read
 LONGEST = 1 << 20
 # the last moment that the desk knows; the first one is 0
 LAST = seconds("20991231235959Z")
@@ -62,6 +64,9 @@ ACCEPTED = re.compile(
 # the same of a file
 USUAL = re.compile(r"(?:TTY=[^ ;]+ ; )?PWD=[^;=]* ; USER=([^ ;]+) ; COMMAND=([^;]*)")
 BEGINS = re.compile(r"(?:HOST|TTY|CHROOT|PWD|USER)=")
+# (each stands once before the command: a folder may have the same words, and so has a line whose
+# end could not be written, where the next one begins in its middle)
+TWICE = re.compile(r" ; (HOST|TTY|CHROOT|PWD|USER|GROUP|TSID)=.* ; \1=", re.DOTALL)
 HOST = re.compile(r"HOST=([^ ;]+) ; ")
 ENDS = re.compile(r"(.*?)(?: ; SIGNAL=\S+)?(?: ; EXIT=\d+)", re.DOTALL)
 KINDS = ("accept", "reject", "alert", "exit")
@@ -112,6 +117,7 @@ class Logs:
     """What was read: the moments of each run, and of each refusal by host and user."""
 
     zone: tzinfo = timezone.utc
+    peers: Peers = field(default_factory=Peers)
     # (keyed by Run's members)
     runs: dict[tuple[Any, ...], Moments] = field(default_factory=dict)
     refused: dict[tuple[str, str], Moments] = field(default_factory=dict)
@@ -146,7 +152,7 @@ class Logs:
 
 
 def append(found: dict[Any, Moments], key: tuple[Any, ...], at: int) -> None:
-    """Nothing is left at the key where the moment is none."""
+    """Adds a moment to those of the key: no key has an empty list."""
     if key in found:
         found[key].append(at)
     else:
@@ -154,8 +160,8 @@ def append(found: dict[Any, Moments], key: tuple[Any, ...], at: int) -> None:
 
 
 def known(at: Any, a_second: int = 1) -> int:
-    """The moment of a line, in seconds since 1970, whatever the line says it with: each comes
-    through here, for any account may write one that no clock ever showed."""
+    """The moment of a line, in seconds since 1970. Every moment is checked here, in whatever form
+    the line has it: any account may write a line with a moment that no clock ever showed."""
     try:
         found = int(at) // a_second
     except OverflowError:
@@ -274,7 +280,7 @@ class Reader:
             return
         # sudo_logsrvd may get an event late; the host's own clock is in submit_time
         clock = told["submit_time"] if "peeraddr" in told else told["server_time"]
-        at, host = known(clock["seconds"]), self.host or short(text_of(told["submithost"]))
+        at, host = known(clock["seconds"]), self.host or self.sender(told)
         user = text_of(told["submituser"])
         if kind != "accept":
             self.logs.refuse(host, user, at)
@@ -284,6 +290,15 @@ class Reader:
         beside = [f"{it}={told[name]}" for it, name in BESIDE if told.get(name)]
         if not NO_RUN.match(path):
             self.ran(at, host, user, target, " ".join(beside), (path, *words))
+
+    def sender(self, told: dict[str, Any]) -> str:
+        """The host that an event names, if the event came from there."""
+        host = short(text_of(told["submithost"]))
+        if "peeraddr" in told:
+            peer = text_of(told["peeraddr"])
+            if not self.logs.peers.are(host, peer):
+                raise Cut(f"{peer} sent it, which is no known address of {host}: see --peers")
+        return host
 
     # ---- a line each
 
@@ -330,7 +345,8 @@ class Reader:
         self.latest[key] = at, line, found[0], run
 
     def taken_back(self, key: tuple[str, str]) -> Open | None:
-        """The common line that goes on in this one, which is no run yet."""
+        """Takes the latest run of the key back: its line goes on in the present one, so that it is
+        no whole run yet."""
         if key not in self.latest:
             return None
         at, line, text, run = self.latest.pop(key)
@@ -354,32 +370,49 @@ class Reader:
             self.classic(self.moment(found[1]), self.host, user, rest)
         elif not (found := OTHER.match(text)):
             raise Cut("it is no line of sudo's")
-        elif may_be_sudos(text[found.end() :]):
+        else:
+            self.other(text[found.end() :])
+
+    def other(self, said: str) -> None:
+        """What stands behind the moment of a line that has not the form of sudo's."""
+        if why := why_lost_by(said, self.host):
+            raise Cut(why)
+        if may_be_sudos(said):
             raise Cut(UNKNOWN)
 
     def object(self, told: dict[str, Any], line: int) -> None:
         """A line of JSON: an event, or an entry of the journal."""
-        if "MESSAGE" not in told:
-            inner = told.get("sudo", told)
-            for kind in KINDS:
-                if kind in inner:
-                    self.event(kind, inner[kind])
-                    return
-            raise Cut("it is no event of sudo's")
-        name = told.get("SYSLOG_IDENTIFIER", told.get("_COMM"))
-        if name not in PROGRAMS:
+        if "MESSAGE" in told:
+            self.entry(told, line)
             return
-        if told.get("_EXE", SUDOS[0]) not in SUDOS:
-            raise Cut(f"{told['_EXE']} wrote it, and not sudo")
+        inner = told.get("sudo", told)
+        for kind in KINDS:
+            if kind in inner:
+                self.event(kind, inner[kind])
+                return
+        raise Cut("it is no event of sudo's")
+
+    def entry(self, told: dict[str, Any], line: int) -> None:
+        """An entry of the journal. Whoever writes to it chooses the name of the program, and
+        journald adds which one it was, if it could still see that."""
+        name = told.get("SYSLOG_IDENTIFIER", told.get("_COMM"))
+        if name not in PROGRAMS and name not in LOSSES:
+            return
         said = told["MESSAGE"]
         if not isinstance(said, str):
             said = bytes(list(said)).decode("utf-8", "surrogateescape")
+        host = self.host or short(text_of(told.get("_HOSTNAME", "")))
+        if why := why_lost(name, said, host):
+            raise Cut(why)
+        if name in LOSSES or PAM.match(said):
+            return
+        if told.get("_EXE") not in SUDOS:
+            raise Cut(f"{told.get('_EXE', 'an unknown program')} wrote it on {host}, and not sudo")
         if name != "sudo":
             if SAID.search(said):
                 raise Cut(UNKNOWN)
             return
         at = told.get("_SOURCE_REALTIME_TIMESTAMP") or told["__REALTIME_TIMESTAMP"]
-        host = self.host or short(text_of(told.get("_HOSTNAME", "")))
         self.message(known(at, 1_000_000), host, said, line)
 
     def message(self, at: int, host: str, said: str, line: int) -> None:
@@ -423,6 +456,8 @@ class Reader:
                 self.ran(at, host, user, found[1], "", found[2])
             return
         if not BEGINS.match(text):
+            if " : " in text.partition(" ; ")[0]:
+                raise Cut("another line begins in its middle")
             named = HOST.search(text)
             self.logs.refuse(host or short(named[1] if named else ""), user, at)
             return
@@ -430,8 +465,7 @@ class Reader:
         if found is None:
             raise Cut("it has no command" if " ; COMMAND=" not in text else "its words are unclear")
         head, _, _ = text.partition(" ; COMMAND=")
-        # a folder or a variable may have the same words
-        if text.count(" ; COMMAND=") > 1 or f" ; {head}".count(" ; USER=") > 1:
+        if text.count(" ; COMMAND=") > 1 or TWICE.search(f" ; {head}"):
             raise Cut("it can be read in two ways: a user's words look like sudo's")
         name, chroot, target, group, command = found.groups()
         host = host or short(name or "")

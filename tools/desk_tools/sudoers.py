@@ -8,7 +8,7 @@ a host would pass over a file, there is no reading at all: whatever is not read 
 import os
 import re
 import stat
-from collections.abc import Iterator
+from collections.abc import Collection, Iterator, Mapping
 from dataclasses import dataclass, field
 from typing import Any, NamedTuple
 
@@ -17,6 +17,14 @@ from desk_tools.sudo_lines import Include, Line, NoInclude, lines_of
 
 ALIASES = ("User_Aliases", "Runas_Aliases", "Host_Aliases", "Command_Aliases")
 ALIAS_KEYS = dict(zip(ALIASES, ("useralias", "runasalias", "hostalias", "cmndalias")))
+# an alias of each kind that says nothing, but that there is one of its name
+STAND_INS = dict(
+    zip(
+        ALIASES,
+        ("User_Alias {} = a", "Runas_Alias {} = a", "Host_Alias {} = a", "Cmnd_Alias {} = /a"),
+    )
+)
+ALIAS = re.compile(r"\b[A-Z][A-Z0-9_]*\b")
 MOST_FILES = 1024
 MOST_DEEP = 128
 # a backslash stands before the mark in an argument
@@ -42,8 +50,8 @@ class Alias(NamedTuple):
 
 
 class Default(NamedTuple):
-    """A Defaults line: its text, and each of its settings with its value. A list's value is what is
-    done with it, and its words."""
+    """A Defaults line: its text, and each of its settings with its value. The value of a list
+    setting is its operator (=, += or -=) and its words."""
 
     place: Place
     text: str
@@ -61,14 +69,21 @@ class Sudoers:
     )
     specs: list[tuple[Place, dict[str, Any]]] = field(default_factory=list)
     missing: list[tuple[Place, str]] = field(default_factory=list)
+    texts: dict[Place, str] = field(default_factory=dict)
+    folders: list[str] = field(default_factory=list)
+    included: list[str] = field(default_factory=list)
 
 
 class Gatherer:
     """The lines of a file and of those that it includes, in sudo's order."""
 
-    def __init__(self) -> None:
+    def __init__(self, root: str | None) -> None:
+        self.root = root
         self.files = 0
         self.missing: list[tuple[Place, str]] = []
+        self.folders: list[str] = []
+        # the lines of all as one text, each with its place
+        self.flat: list[tuple[Place, str]] = []
 
     def file(
         self, path: str, shown: str, above: tuple[tuple[int, int], ...] = ()
@@ -83,12 +98,16 @@ class Gatherer:
             lines = lines_of(text)
         except NoInclude as fault:
             raise BadSudoers(f"{Place(shown, fault.number)}: an include of no file") from None
+        raw, behind = [(Place(shown, it), line) for it, line in enumerate(text.split("\n"), 1)], 0
         for line in lines:
             place = Place(shown, line.number)
             if line.include is None:
                 yield place, line
             else:
+                self.flat += raw[behind : line.number - 1]
+                behind = line.number
                 yield from self.include(place, path, line.include, (*above, identity))
+        self.flat += raw[behind:]
 
     def include(
         self, place: Place, path: str, found: Include, above: tuple[tuple[int, int], ...]
@@ -98,8 +117,10 @@ class Gatherer:
                 f"{place}: the name of the file has the host in it (%h): "
                 "import what that host's file says"
             )
-        target = os.path.join(os.path.dirname(path), found.name)
+        if found.is_directory:
+            self.folders.append(found.name)
         try:
+            target = os.path.join(os.path.dirname(path), self.in_copy(found.name))
             for name in self.named(place, target) if found.is_directory else [target]:
                 yield from self.file(name, name, above)
         except OSError as fault:
@@ -107,6 +128,16 @@ class Gatherer:
             raise BadSudoers(f"{place}: {what} cannot be read: {fault.strerror}") from None
         except BadSudoers as fault:
             raise BadSudoers(f"{place}: {fault}") from None
+
+    def in_copy(self, name: str) -> str:
+        """Where a copy of another machine's /etc has what a file there includes."""
+        if self.root is None or not name.startswith("/"):
+            return name
+        held = os.path.join(self.root, name.removeprefix("/etc/"))
+        # (the host may have a directory that the copy lacks: sudo would read it)
+        if not name.startswith("/etc/") or not os.path.exists(held):
+            raise BadSudoers(f"{name} is not in the copy of the host's /etc")
+        return held
 
     def named(self, place: Place, folder: str) -> list[str]:
         """The files of a directory that sudo reads, in its order."""
@@ -179,8 +210,9 @@ class Reader:
         self.specs: list[tuple[Place, Any]] = []
 
     def line(self, place: Place, line: Line) -> None:
+        self.found.texts[place] = line.text.strip()
         try:
-            read = text_read(f"{line.text}\n", str(place))
+            read, before = line_read(line.text, str(place), self.whole)
             is_local = has_local_time(line.text, str(place))
         except BadSudoers:
             raise BadSudoers(differs(place)) from None
@@ -202,7 +234,8 @@ class Reader:
             for name, items in read.get(kind, {}).items():
                 self.found.aliases[kind][name] = Alias(place, items)
         self.specs += [(place, spec) for spec in read.get("User_Specs", [])]
-        self.found.specs += [(place, spec) for spec in rules(line.text, read, str(place))]
+        specs = rules(line.text, read, str(place), before)
+        self.found.specs += [(place, spec) for spec in specs]
 
     def compare(self) -> None:
         """Refuses what sudo reads otherwise as a whole."""
@@ -252,6 +285,23 @@ class Reader:
         return depths[name]
 
 
+def line_read(text: str, name: str, aliases: Mapping[str, Collection[str]]) -> tuple[Read, str]:
+    """What sudo reads of a line of a file that has these aliases, by their kinds; and what stood
+    before the line then. (From sudo 1.9.14 on, a word for which no alias is defined is told as a
+    name, so the aliases of other lines are defined before it.)"""
+    alone = text_read(f"{text}\n", name)
+    words = {*ALIAS.findall(text)}
+    others = {
+        kind: [it for it in aliases.get(kind, ()) if it in words and it not in alone.get(kind, {})]
+        for kind in ALIASES
+    }
+    lines = [STAND_INS[kind].format(it) for kind, names in others.items() for it in names]
+    before = "".join(f"{line}\n" for line in lines)
+    read = text_read(f"{before}{text}\n", name) if before else alone
+    own = {kind: {it: read[kind][it] for it in alone[kind]} for kind in ALIASES if kind in alone}
+    return {**{key: it for key, it in read.items() if key not in ALIASES}, **own}, before
+
+
 def has_half_context(text: str, read: Read) -> bool:
     """Whether a rule may have a role or a type alone, of which cvtsudoers says nothing."""
     parts = [part for spec in read.get("User_Specs", []) for part in spec["Cmnd_Specs"]]
@@ -265,18 +315,36 @@ def differs(place: Place) -> str:
     )
 
 
-def read(path: str) -> Sudoers:
-    """Everything in a sudoers file and in what it includes."""
-    absolute, gatherer = os.path.abspath(path), Gatherer()
+def flat_read(lines: list[tuple[Place, str]], path: str) -> Read:
+    """What sudo reads of the lines of several files as one text; a fault has its own place."""
+    try:
+        return text_read("".join(f"{line}\n" for _, line in lines), path)
+    except BadSudoers as fault:
+        numbered = re.compile(rf"{re.escape(path)}:([0-9]+)")
+        said = numbered.sub(lambda it: str(lines[min(int(it[1]), len(lines)) - 1][0]), str(fault))
+        raise BadSudoers(said) from None
+
+
+def read(path: str, root: str | None = None) -> Sudoers:
+    """Everything in a sudoers file and in what it includes; a root is a copy of another machine's
+    /etc. (There sudo reads the files as one text: it would include this machine's.)"""
+    root = None if root is None else os.path.abspath(root)
+    absolute, gatherer = os.path.abspath(path), Gatherer(root)
     try:
         lines = list(gatherer.file(absolute, path))
     except OSError as fault:
         raise BadSudoers(f"{path}: {fault.strerror}") from None
-    reader = Reader(file_read(absolute, path), path)
+    whole = file_read(absolute, path) if root is None else flat_read(gatherer.flat, path)
+    reader = Reader(whole, path)
     for place, line in lines:
         if line.text:
             reader.line(place, line)
     reader.compare()
     reader.circles()
-    reader.found.missing = gatherer.missing
-    return reader.found
+    found = reader.found
+    found.missing, found.folders = gatherer.missing, gatherer.folders
+    included = dict.fromkeys(place.file for place in found.texts if place.file != path)
+    found.included = [
+        it if root is None else os.path.join("/etc", os.path.relpath(it, root)) for it in included
+    ]
+    return found

@@ -105,7 +105,7 @@ def of_times(event: Any) -> Iterator[str]:
 
 
 def of_one_turn(event: Any) -> Iterator[str]:
-    """Of an event that stands in place of one turn of a series."""
+    """What makes an event unsure that stands in place of one turn of a series."""
     if "RANGE" in event["RECURRENCE-ID"].params:
         yield "has a RECURRENCE-ID with a RANGE, which is not read"
     if kind(event["RECURRENCE-ID"].dt) == FLOATING:

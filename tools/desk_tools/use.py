@@ -72,14 +72,14 @@ def grants_of(audit: dict[str, Any]) -> list[Grant]:
 
 
 def counted(name: dict[str, Any], kind: str) -> int | None:
-    """The first moment of such a verdict on a name that counts."""
+    """The first moment of a verdict of this kind that counts; None where none does."""
     verdicts = [it["verdict"] for it in name["verdicts"] if it["counts"]]
     return min((seconds(it["at"]) for it in verdicts if it["kind"] == kind), default=None)
 
 
 class Revoked(NamedTuple):
-    """What was asked for on one host, approved and revoked, whether it had begun by then or not: a
-    host that has not heard of it lets it run up to the end that was asked for."""
+    """A window on one host that was approved and then revoked, also one revoked before it began: a
+    host that has not fetched since still allows it until `until`."""
 
     by: str
     no: int
@@ -93,7 +93,8 @@ class Revoked(NamedTuple):
 
 
 def revoked_of(audit: dict[str, Any]) -> list[Revoked]:
-    """By the names, for one that was revoked before it began has no window."""
+    """The windows that were approved and then revoked. They are made from the requests, since a
+    grant that was revoked before it began has no window in the audit."""
     found = []
     for name in audit["names"]:
         if name["status"] not in GIVEN or (at := counted(name, "revoke")) is None:
@@ -225,7 +226,8 @@ class Use:
         return Question(self.desk.policy(text), ANY_TIME, asked)
 
     def cover(self) -> None:
-        """Which commands of which grants cover what ran: first of each grant whole."""
+        """Which commands of which grants cover what ran. Each grant is asked about as a whole
+        first, and its single commands only where the whole covers the run."""
         for place, grant in enumerate(self.grants):
             self.places.setdefault((grant.by, grant.host, grant.runas), []).append(place)
         pairs = [
@@ -256,7 +258,7 @@ class Use:
         ]
 
     def by_grants(self, done: Done, moments: Moments) -> list[int]:
-        """Counts what ran by grants; what is left of the moments."""
+        """Counts the runs at moments that a grant covers; the answer is the other moments."""
         covering = self.covering(done)
         if not covering:
             return list(moments)
@@ -279,7 +281,8 @@ class Use:
         return by.get((), [])
 
     def after_revocations(self) -> None:
-        """By what was revoked, whatever its window and the time that is asked about."""
+        """Finds the runs after a revocation that the revoked grant would have covered, also outside
+        of the time that is asked about."""
         by: dict[tuple[str, str, str], list[Revoked]] = {}
         for it in self.revoked:
             by.setdefault((it.by, it.host, it.runas), []).append(it)
@@ -294,14 +297,15 @@ class Use:
         self.late += [it for it, is_covered in zip(found, answers, strict=True) if is_covered]
 
     def since(self, grant: Revoked, moments: Moments) -> list[int]:
-        """What ran from its revocation on, and from the moment from which it was asked for."""
+        """The moments from the revocation, or from the window's beginning if that is later, to the
+        window's end."""
         first = max(grant.at + self.skew, grant.first)
         return list(moments[bisect_left(moments, first) : bisect_right(moments, grant.until)])
 
     # ---- the base
 
     def of_base(self, done: Done, moments: list[int]) -> Iterator[tuple[Question, list[int]]]:
-        """A question for each period of the base, and the moments of it."""
+        """A question for each period in which the base decides alike, and the moments in it."""
         if done.beside:
             return
         if not self.base.bounds:
@@ -340,7 +344,8 @@ class Use:
             self.rows.append(Row(done, "neither", (), why, found))
 
     def why(self, done: Done, at: int) -> str:
-        """What a run by neither comes next to."""
+        """Why no grant covers a run: the grant that was over, or that had not begun; nothing where
+        there is none."""
         if done.beside:
             return f"no grant and no base gives {escaped(done.beside)}"
         covering = [grant for grant, _ in self.covering(done)]

@@ -13,7 +13,10 @@ from desk_tools.decisions import Desk
 from desk_tools.found import Parser, visible
 from desk_tools.judge import NoDesk, program
 from desk_tools.narrower import proposals
+from desk_tools.peers import BadPeers, Peers
 from desk_tools.standing import Standing, beyond
+from desk_tools.starts import read_starts, unlogged
+from desk_tools.starts import told_of as starts_told
 from desk_tools.sudo_logs import Logs, files_of, read_log
 from desk_tools.toml_text import read as read_toml
 from desk_tools.use import Span, Use, grants_of, revoked_of
@@ -43,9 +46,11 @@ OPTIONS: tuple[tuple[str, Callable[[str], Any], str, str], ...] = (
     ("--skew", int, "SECONDS", "how far a host's clock may be off (0)"),
     ("--zone", str, "ZONE", "the zone of moments that name none (UTC)"),
     ("--year", int, "YEAR", "the year of moments that name none (by the file's time)"),
+    ("--peers", str, "FILE", "the addresses of hosts, for a log server's events (name service)"),
     ("--unused-for", int, "DAYS", "the base's rules that nobody used in so many days"),
     ("--baseline", str, "FILE", "one case of what each user of the base has beyond this policy"),
     ("--roster", str, "ROSTER", "propose narrower ceilings of this roster"),
+    ("--starts", str, "[HOST=]FILE", "what desk-host starts printed: each has to be in a log"),
     ("--desk", str, "PROGRAM", "the program desk (the one on the path)"),
 )
 
@@ -55,10 +60,11 @@ def parser() -> argparse.ArgumentParser:
         "desk-used",
         description="Says which grants of a desk were used, by what sudo logged on the hosts.",
         epilog="Exit status: 0 all is by a right, 1 something ran by no right or after a "
-        "revocation, or a line cannot be read, 2 nothing is told.",
+        "revocation, a start has no line, or a line cannot be read, 2 nothing is told.",
     )
     for name, kind, metavar, said in OPTIONS:
-        found.add_argument(name, type=kind, metavar=metavar, help=said)
+        action = "append" if name == "--starts" else "store"
+        found.add_argument(name, type=kind, metavar=metavar, help=said, action=action)
     found.add_argument("--json", action="store_true", help="print JSON")
     found.add_argument("audit", metavar="AUDIT", help="what desk-audit --json says; - is the input")
     found.add_argument("base", metavar="BASE", help="the base policy")
@@ -90,6 +96,7 @@ def logs_of(said: argparse.Namespace) -> Logs:
         logs = Logs(zoneinfo.ZoneInfo(said.zone)) if said.zone else Logs()
     except (zoneinfo.ZoneInfoNotFoundError, ValueError):
         raise Failed(f"there is no zone {said.zone}") from None
+    logs.peers = Peers(said.peers or "")
     for word in said.logs:
         for host, path in files_named(word):
             read_log(logs, path, host, said.year or 0)
@@ -133,6 +140,16 @@ def more_of(said: argparse.Namespace, use: Use, until: int) -> Told:
     return told
 
 
+def starts_of(said: argparse.Namespace, logs: Logs, use: Use, span: Span) -> Told:
+    """The starts that no log has."""
+    if not said.starts:
+        return {}
+    kept = read_starts(said.starts)
+    firsts = {host: max(span.first, first) for host, (first, _) in logs.logged().items()}
+    firsts[""] = max(span.first, min(firsts.values(), default=0))
+    return starts_told(kept, unlogged(kept, use, firsts, span.last))
+
+
 def used(said: argparse.Namespace) -> int:
     audit, logs = audit_of(said.audit), logs_of(said)
     until = last_of(logs) if said.until is None else said.until
@@ -145,9 +162,10 @@ def used(said: argparse.Namespace) -> int:
         use = Use(desk, base, grants, revoked_of(audit), said.skew or 0)
         use.take(logs, span)
         use.judge()
-        told = told_of(logs, use) | more_of(said, use, until)
+        told = told_of(logs, use) | more_of(said, use, until) | starts_of(said, logs, use, span)
     sys.stdout.write(json_of(told) if said.json else text_of(told))
     is_clean = not told["after_revocation"] and not logs.count_unread
+    is_clean = is_clean and not told.get("unlogged") and not told.get("starts_lost")
     return CLEAN if is_clean and all(it.ground != "neither" for it in use.rows) else FOUND
 
 
@@ -155,7 +173,7 @@ def main(words: list[str] | None = None) -> int:
     said = parser().parse_args(words)
     try:
         return used(said)
-    except (Failed, NoDesk) as fault:
+    except (Failed, BadPeers, NoDesk) as fault:
         why = str(fault)
     except OSError as fault:
         why = f"{fault.filename}: {fault.strerror}"

@@ -163,6 +163,12 @@ def lines_of(told: Told) -> Iterator[str]:
         grant = f"{it['by']} {it['no']} on {it['host']}, {was}"
         yield f"{grant}: {times_said(it['runs'])}, {span(it)}"
         yield f"  {it['command']}"
+    if "unlogged" in told:
+        yield "NO LINE"
+        for it in told["unlogged"]:
+            yield f"{it['host'] or 'a host'} {it['by']} as {it['runas']}  started at {it['at']}"
+            yield f"  {it['command']}"
+        yield from told["starts_lost"]
     if "unused_rules" in told:
         yield f"UNUSED RULES since {told['unused_since']}"
         for it in told["unused_rules"]:

@@ -1,9 +1,10 @@
 #!/usr/bin/env python3
 """Asks sudo itself about what desk-import made (tests/common/sudo_peer.py says how sudo is asked).
 
-Of each sudoers file a base is made, and random invocations of its words are asked: of sudo by the base, which has to answer as the desk does; and of sudo
-by the file itself, which has to allow all that the desk allows, and nothing else where nothing was left out. The files are those that are named,
-and so many random ones. beside_sudo.py RANDOM FILE..
+A base is made of each sudoers file, and sudo is asked about random invocations of its words: by the
+base, where sudo has to answer as the desk does; and by the base behind what stays on the host,
+where sudo has to answer as it does by the file itself. The files are the named ones, and so many
+random ones. beside_sudo.py RANDOM FILE..
 """
 
 from __future__ import annotations
@@ -35,9 +36,7 @@ GROUPS = {"wheel": ("ann", "bob"), "ops": ("kim",), "empty": ()}
 FILES = ("/srv/bin/ls", "/srv/bin/lsof", "/srv/bin/kill", "/srv/sbin/tool")
 AT = "20260105093000Z"
 # why there may be no base of a file that sudo reads
-REFUSED = re.compile(r":[0-9]+: (\w+: .*, which a base cannot say|a time without Z)")
-# nothing of these stands against the answers' being the same
-ALIKE = ("Defaults", "(.. :", "#", "%")
+REFUSED = re.compile(r":[0-9]+: a time without Z")
 
 
 def digest(path: str) -> str:
@@ -64,7 +63,7 @@ def random_command(rng: random.Random, targets: list[str], commands: list[str]) 
 
 
 def random_sudoers(rng: random.Random) -> str:
-    """Aliases and rules; of two thirds of the files some words are ones that the desk cannot say."""
+    """Aliases and rules; two thirds of the files have some words that the desk cannot say."""
     users = [*USERS, "ALL", "ALL", "%wheel", "%ops", "%empty", "#2002", "%nobody-knows"]
     hosts, targets = [*HOSTS, "ALL", "ALL", "ALL", "DB1"], ["root", "root", "op", "ALL", "ALL", "%ops"]
     commands = [*FILES, "ALL", "ALL", "/srv/bin/", "/srv/bin/ls -l", '/srv/bin/ls ""']
@@ -125,11 +124,14 @@ class Run:
     def __init__(self, folder: str, sudoers: str) -> None:
         self.folder, self.sudoers = folder, sudoers
         self.programs = {name: desk.tool(name) for name in ("sudo", "visudo", "faketime")}
-        self.count = {"bases": 0, "refused": 0, "kept whole": 0, "asked": 0, "allowed": 0, "denied, though the file allows": 0, "wrong": 0}
+        self.count = {"bases": 0, "refused": 0, "rules kept": 0, "asked": 0, "allowed": 0, "wrong": 0}
 
     def wrong(self, file: File, said: str) -> None:
         self.count["wrong"] += 1
         print(f"{file.name}: {said}\n{file.text}")
+
+    def is_accepted(self, name: str, text: str) -> bool:
+        return sudo_peer.accepts(self.programs["visudo"], name, text, self.folder)
 
     def by_sudo(self, text: str, words: list[str]) -> bool:
         with open(self.sudoers, "w", encoding="utf-8", errors="surrogateescape") as target:
@@ -140,40 +142,44 @@ class Run:
         source = os.path.join(self.folder, "source")
         with open(source, "w", encoding="utf-8", errors="surrogateescape") as target:
             target.write(file.text)
-        ran = subprocess.run([os.path.join(ROOT, "tools", "desk-import"), "--desk", DESK, source], capture_output=True, text=True, check=False)
+        rest = os.path.join(self.folder, "rest")
+        words = [os.path.join(ROOT, "tools", "desk-import"), "--desk", DESK, "--all-hosts"]
+        words += ["--rest", rest, source]
+        ran = subprocess.run(words, capture_output=True, text=True, check=False)
         if ran.returncode == 2 and REFUSED.search(ran.stderr):
             self.count["refused"] += 1
             return
-        if ran.returncode == 2:
+        if ran.returncode != 0:
             self.wrong(file, ran.stderr)
             return
         self.count["bases"] += 1
-        left_out = re.findall(r": left out: (.*)", ran.stderr)
-        is_whole = all(it.startswith(ALIKE) for it in left_out)
-        self.count["kept whole"] += is_whole
+        self.count["rules kept"] += ran.stderr.count(": kept: ")
+        with open(rest, encoding="utf-8", errors="surrogateescape") as kept:
+            both = kept.read() + ran.stdout
         base = os.path.join(self.folder, "base")
         with open(base, "w", encoding="ascii") as target:
             target.write(ran.stdout)
-        if not sudo_peer.accepts(self.programs["visudo"], file.name, ran.stdout, self.folder):
-            self.wrong(file, "visudo refuses the base")
+        if not self.is_accepted(file.name, both):
+            # (what stays has the file's own lines, so a fault of the file is one of both)
+            if self.is_accepted(file.name, file.text):
+                self.wrong(file, f"visudo refuses it\n{both}--")
             return
         for _ in range(ASKED):
-            self.ask(file, base, ran.stdout, is_whole, file.invocation(rng))
+            self.ask(file, base, ran.stdout, both, file.invocation(rng))
 
-    def ask(self, file: File, base: str, text: str, is_whole: bool, words: list[str]) -> None:
+    def ask(self, file: File, base: str, text: str, both: str, words: list[str]) -> None:
         answer = desk.run([DESK, "decide", base, *words[:5], "--", *words[5:]])
         ours = answer.returncode == 0
         theirs, before = self.by_sudo(text, words), self.by_sudo(file.text, words)
+        after = self.by_sudo(both, words)
         self.count["asked"] += 1
         self.count["allowed"] += ours
-        self.count["denied, though the file allows"] += before and not ours
         shown = " ".join(words)
         if answer.returncode not in (0, 1) or ours != theirs:
             self.wrong(file, f"{shown}: by the base sudo says {theirs}, the desk {answer.stdout}{answer.stderr}\n{text}--")
-        elif ours and not before:
-            self.wrong(file, f"{shown}: the base allows what the file does not\n{text}--")
-        elif is_whole and before != ours:
-            self.wrong(file, f"{shown}: nothing was left out, and the base denies what the file allows\n{text}--")
+        elif before != after:
+            what = "the file" if before else "the base, behind what stays,"
+            self.wrong(file, f"{shown}: {what} alone allows it\n{both}--")
 
 
 def inside(count: int, named: list[str]) -> None:
@@ -197,7 +203,7 @@ def inside(count: int, named: list[str]) -> None:
         sudo_peer.clear()
     print(f"of {len(files) + unread} sudoers files sudo reads {len(files)}: {ran.count}")
     found = ran.count
-    is_idle = not found["allowed"] or not found["kept whole"] or found["refused"] * 8 > found["bases"]
+    is_idle = not found["allowed"] or not found["rules kept"] or found["refused"] * 8 > found["bases"]
     sys.exit(1 if found["wrong"] or is_idle else 0)
 
 

@@ -205,12 +205,27 @@ def told(folder: str, rows: Rows, printed: dict[str, str], way: str) -> Told:
     logs = sorted(os.listdir("/mnt/log"))
     named = [it if it == "server" else f"{it}=/mnt/log/{it}" for it in logs]
     words = [it if "=" in it else f"/mnt/log/{it}" for it in named]
+    return used(folder, "127.0.0.1 db1 db2\n", *words)
+
+
+def used(folder: str, hosts: str, *logs: str) -> Told:
+    """What desk-used tells of logs, where hosts have these addresses."""
     given = [os.path.join(folder, "audit.json"), os.path.join(folder, "base.sudo")]
-    ran = desk.run([USED, "--json", "--desk", DESK, *given, *words])
+    peers = desk.write(folder, "peers", hosts)
+    ran = desk.run([USED, "--json", "--desk", DESK, "--peers", peers, *given, *logs])
     if ran.returncode not in (0, 1):
-        sys.exit(f"{way}: {ran}")
+        sys.exit(f"{logs}: {ran}")
     found: Told = json.loads(ran.stdout)
     return found
+
+
+def of_another_host(folder: str) -> Iterator[str]:
+    """What the log server was told of db2 from an address that db2 has not."""
+    found = used(folder, "127.0.0.1 db1\n127.0.0.2 db2\n", "/mnt/log/server")
+    hosts = {it["host"] for it in found["runs"]}
+    of_db2 = sum(it[0] == "db2" for it in RAN)
+    if hosts != {"db1"} or found["logs"]["unread"] != of_db2:
+        yield f"server, from another address: {hosts}, {found['logs']}"
 
 
 def wrong(way: str, found: Told) -> Iterator[str]:
@@ -278,6 +293,8 @@ def inside() -> int:
         for way in WAYS:
             by_way[way] = told(folder, RAN, printed, way)
             faults += wrong(way, by_way[way])
+        # (the last one's log is the server's)
+        faults += of_another_host(folder)
         for way in ("json-file", "file", "syslog"):
             faults += unclear(way, told(folder, UNCLEAR, printed, way))
         faults += alike(by_way)
@@ -289,9 +306,12 @@ def inside() -> int:
     return 1 if faults else 0
 
 
+def in_namespaces(script: str, *more: str) -> int:
+    """The status of a script inside, with mounts, a host's name and a network of its own."""
+    spaces = ["--mount", "--uts", "--net", "--propagation", "private", *more]
+    words = [desk.tool("unshare"), *spaces, sys.executable, script, "--inside"]
+    return subprocess.run(words, check=False).returncode
+
+
 if __name__ == "__main__":
-    if sys.argv[1:] == ["--inside"]:
-        sys.exit(inside())
-    spaces = ["--mount", "--uts", "--net", "--propagation", "private"]
-    words = [desk.tool("unshare"), *spaces, sys.executable, os.path.abspath(__file__), "--inside"]
-    sys.exit(subprocess.run(words, check=False).returncode)
+    sys.exit(inside() if sys.argv[1:] == ["--inside"] else in_namespaces(os.path.abspath(__file__)))

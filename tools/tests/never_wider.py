@@ -1,11 +1,11 @@
 #!/usr/bin/env python3
-"""Asks sudo itself whether a base that desk-import made gives more than the file it was made of
-(tests/common/sudo_peer.py says how sudo is asked).
+"""Asks sudo itself whether a base that desk-import made gives, behind what stays on the host, just
+what the old file gives (tests/common/sudo_peer.py says how sudo is asked).
 
-The files are those of wideners.py, of each of which a base was made once that gave more, and random
-ones: with comments, continuations, included files of all modes and owners, Defaults of every scope,
-netgroups, digests and negations. A file of which no base is made has to be refused by name, with
-its line. never_wider.py RANDOM [SEED]; DESK_IMPORT names another desk-import.
+The files are wideners.py's, each of which once had a base that gave more, and random ones: with
+comments, continuations, included files of all modes and owners, Defaults of every scope, netgroups,
+digests and negations. Where desk-import makes no base, it has to refuse the file by name, with its
+line. never_wider.py RANDOM [SEED]; DESK_IMPORT names another desk-import.
 """
 
 import collections
@@ -26,6 +26,8 @@ sys.dont_write_bytecode = True
 from tests.common import desk  # noqa: E402
 from tests.common import sudo_peer  # noqa: E402
 
+from desk_tools.sudoers import read  # noqa: E402
+
 import odd_sudoers  # noqa: E402
 from wideners import MORE, WIDENERS, File, Widener  # noqa: E402
 
@@ -39,6 +41,8 @@ ZONE = "EAST-13:30"
 AT = "2026-01-05 09:30:00"
 # what sudo asks of PAM is no matter here
 NO_PAM = "Defaults !pam_acct_mgmt, !pam_session, !pam_setcred\n"
+VERDICT = re.compile(r"^(/.*?:[0-9]+): (?:kept|in part|gone|not for this host): ", re.MULTILINE)
+END = (" entry\n", " entries\n")  # of the report
 REFUSAL = re.compile(r"desk-import: (sudo cannot read it: )?/[\w./*-]+:[0-9]+(:[0-9]+)?: \S.*\n")
 
 
@@ -51,6 +55,7 @@ class Machine:
         subprocess.run(["cp", "-a", "/etc", os.path.join(folder, "etc")], check=True)
         sudo_peer.bind(os.path.join(folder, "etc"), "/etc")
         self.sudoers = sudo_peer.furnish(folder, odd_sudoers.USERS, odd_sudoers.FILES)
+        self.rest = os.path.join(folder, "rest")
         self.more = os.path.join(folder, "srv", os.path.basename(MORE))
         self.append("passwd", odd_sudoers.PASSWD)
         self.append("nsswitch.conf", "netgroup: files\n")
@@ -84,16 +89,41 @@ class Machine:
 
     def imported(self, hosts: str, is_nobody: bool) -> "subprocess.CompletedProcess[str]":
         """What desk-import makes of the sudoers file."""
-        words = [IMPORT, "--desk", DESK]
+        words = [IMPORT, "--desk", DESK, "--all-hosts", "--rest", self.rest]
         if hosts:
             self.write(os.path.join(self.folder, "list"), hosts)
             words += ["--host-list", os.path.join(self.folder, "list")]
         if is_nobody:
             words = [*self.as_nobody(), *words[3:]]
+        self.clear_rest()
         environment = {**os.environ, "TZ": ZONE}
         return subprocess.run(
             [*words, SUDOERS], capture_output=True, text=True, check=False, env=environment
         )
+
+    def clear_rest(self) -> None:
+        if os.path.isdir(self.rest):
+            shutil.rmtree(self.rest)
+        elif os.path.exists(self.rest):
+            os.remove(self.rest)
+
+    def imported_hosts(self, hosts: list[str]) -> "subprocess.CompletedProcess[str]":
+        """What desk-import makes of some hosts' own files."""
+        self.clear_rest()
+        words = [it for host in hosts for it in ("--host", f"{host}={SUDOERS}-{host}")]
+        words = [IMPORT, "--desk", DESK, "--rest", self.rest, *words]
+        return subprocess.run(words, capture_output=True, text=True, check=False)
+
+    def stays(self, path: str) -> str:
+        """What stays on a host, without the folders whose files are in it."""
+        with open(path, encoding="utf-8", errors="surrogateescape") as file:
+            return "".join(line for line in file if not line.startswith("@includedir "))
+
+    def accepts(self) -> bool:
+        """Whether sudo reads the file that is there."""
+        words = [desk.tool("visudo"), "-c", "-f", SUDOERS]
+        ran = subprocess.run(words, capture_output=True, check=False)
+        return ran.returncode == 0
 
     def as_nobody(self) -> list[str]:
         """desk-import for somebody who may read the sudoers file, and not what it includes."""
@@ -101,6 +131,8 @@ class Machine:
         tools = os.path.join(self.folder, "tools")
         if not os.path.exists(tools):
             shutil.copytree(os.path.dirname(os.path.realpath(IMPORT)), tools)
+            client = os.path.join(os.path.dirname(os.path.dirname(os.path.realpath(IMPORT))), "steelnewt_client")
+            shutil.copytree(client, os.path.join(self.folder, "steelnewt_client"))
             shutil.copy(DESK, os.path.join(self.folder, "desk"))
         who = [self.programs["setpriv"], f"--reuid={NOBODY}", f"--regid={NOBODY}", "--clear-groups"]
         return [*who, f"{tools}/desk-import", "--desk", f"{self.folder}/desk"]
@@ -132,32 +164,74 @@ class Run:
         self.wrong: list[str] = []
 
     def case(self, it: Widener, questions: Callable[[str], list[tuple[str, ...]]]) -> bool:
-        """Whether the base of a case gives no more than its file, by some questions about it."""
+        """Whether the base of a case, with what stays on the host before it, gives just what its
+        file gives, by some questions about it."""
         self.machine.furnish(it.text, it.files)
         ran = self.machine.imported(it.hosts, it.is_nobody)
-        self.count[f"status {ran.returncode}"] += 1
-        if ran.returncode == 2 and REFUSAL.fullmatch(ran.stderr):
-            return True
-        if ran.returncode not in (0, 1):
-            self.wrong.append(f"{it.name}: status {ran.returncode}: {ran.stderr}\n{it.text}")
-            return False
-        return not any(self.is_wider(it, ran.stdout, words) for words in questions(ran.stdout))
+        if not self.is_made(it.name, it.text, ran):
+            return ran.returncode == 2
+        unnamed = self.unnamed(SUDOERS, ran.stderr)
+        new = self.machine.stays(self.machine.rest) + ran.stdout
+        is_same = self.is_same(it, new, questions(ran.stdout))
+        self.wrong += [f"UNNAMED: {it.name}: {place}: {ran.stderr}\n{new}" for place in unnamed]
+        return is_same and not unnamed
 
-    def is_wider(self, it: Widener, base: str, words: tuple[str, ...]) -> bool:
-        self.count["asked"] += 1
-        more = NO_PAM if it.is_run else ""
-        self.machine.furnish(more + base, {})
-        if not self.machine.allows(it, words):
+    def is_made(self, name: str, text: str, ran: "subprocess.CompletedProcess[str]") -> bool:
+        """Whether there is a base; what is refused has to be refused by its line."""
+        self.count[f"status {ran.returncode}"] += 1
+        self.count["by the base"] += bool(ran.stdout)
+        if ran.returncode == 2 and REFUSAL.fullmatch(ran.stderr):
             return False
-        self.count["allowed"] += 1
-        self.machine.furnish(more + it.text, it.files)
-        if self.machine.allows(it, words):
+        if ran.returncode != 0 or not ran.stderr.endswith(END):
+            self.wrong.append(f"{name}: status {ran.returncode}: {ran.stderr}\n{text}")
+            ran.returncode = 1
             return False
-        self.wrong.append(
-            f"WIDENED: {it.name}: {' '.join(words)}: the base allows what the file does not\n"
-            f"{it.text}{it.files or ''}\n--\n{base}--"
-        )
         return True
+
+    def is_same(self, it: Widener, new: str, asked: list[tuple[str, ...]]) -> bool:
+        more = NO_PAM if it.is_run else ""
+        self.machine.furnish(more + new, {})
+        if not self.machine.accepts():
+            self.wrong.append(f"{it.name}: visudo refuses it\n{it.text}--\n{new}--")
+            return False
+        after = [self.machine.allows(it, words) for words in asked]
+        self.machine.furnish(more + it.text, it.files)
+        before = [self.machine.allows(it, words) for words in asked]
+        self.count["asked"] += len(asked)
+        self.count["allowed"] += sum(after)
+        shown = f"{it.name}\n{it.text}{it.files or ''}\n--\n{new}--"
+        rows = list(zip(asked, before, after))
+        self.wrong += [f"WIDENED: {words}: {shown}" for words, old, is_new in rows if is_new > old]
+        self.wrong += [f"LOST: {words}: {shown}" for words, old, is_new in rows if is_new < old]
+        return before == after
+
+    def unnamed(self, path: str, report: str) -> list[str]:
+        """The rules of a file that have no verdict, or two."""
+        places = {str(place) for place, _ in read(path).specs}
+        named = collections.Counter(VERDICT.findall(report))
+        self.count["kept"] += report.count(": kept: ")
+        return [place for place in places if named[place] != 1]
+
+    def hosts(self, cases: dict[str, Widener], rng: random.Random) -> None:
+        """The same of one base of several hosts' own files: each host, by its own."""
+        for host, it in cases.items():
+            self.machine.write(f"{SUDOERS}-{host}", it.text)
+        ran = self.machine.imported_hosts(list(cases))
+        text = "".join(it.text for it in cases.values())
+        if not self.is_made("several hosts", text, ran):
+            return
+        for host, it in cases.items():
+            rest = self.machine.stays(os.path.join(self.machine.rest, host))
+            asked = [(user, host, *more) for user, _, *more in questions(rng, ran.stdout, it.text)]
+            self.is_same(it, rest + ran.stdout, asked)
+            for place in self.unnamed(f"{SUDOERS}-{host}", ran.stderr):
+                self.wrong.append(f"UNNAMED: {place}: {ran.stderr}")
+
+
+def questions(rng: random.Random, base: str, text: str) -> list[tuple[str, ...]]:
+    """Some of the words of the base's rules, and some of the file's."""
+    found = [odd_sudoers.question(rng, base) for _ in range(ASKED)] if base else []
+    return found + [odd_sudoers.question(rng, text) for _ in range(ASKED // 2)]
 
 
 def inside(count: int, seed: int = 53) -> int:
@@ -172,13 +246,18 @@ def inside(count: int, seed: int = 53) -> int:
             print(f"{'ok' if is_right else 'WIDENED'}: {it.name}")
         named, run.count = run.count, collections.Counter()
         for number in range(count):
+            if number % 3 == 2:
+                names = ("db1", "web1")
+                run.hosts({it: odd_sudoers.random_text(rng, f"{it}-{number}") for it in names}, rng)
+                continue
             it = odd_sudoers.random_case(rng, f"random-{number}")
-            run.case(it, lambda base: [odd_sudoers.question(rng, base) for _ in range(ASKED)])
+            texts = it.text + "".join(file.text for file in it.files.values())
+            run.case(it, lambda base: questions(rng, base, texts))  # noqa: B023
         machine.clear()
     print("\n".join(run.wrong))
     print(f"{len(WIDENERS)} named files: {dict(named)}; {failed} failed")
     print(f"{count} random files: {dict(run.count)}; {len(run.wrong)} wrong in all")
-    is_idle = count > 0 and not (run.count["allowed"] and run.count["status 1"])
+    is_idle = count > 0 and not (run.count["allowed"] and run.count["by the base"])
     return 1 if run.wrong or failed or is_idle else 0
 
 

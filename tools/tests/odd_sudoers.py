@@ -51,7 +51,12 @@ ODD_COMMANDS = (
     "/srv/bin/l*", "/srv/*/kill", "/srv/bin/ls -*", '/srv/bin/ls " # "', "sha224:0GomF8mNN3wlDt1HD9XldjJ3SNgpFdbjO1+NsQ== /srv/bin/kill",
 )  # fmt: skip
 ODD_TARGETS = ("%ops", "#2002", "+net", "Op", "UNKNOWN", '"ALL"')
-TAGS = ("NOPASSWD: ", "NOEXEC: ", "SETENV: ", "CWD=/ ", "NOTAFTER=2026010509Z ", "NOTBEFORE=2026010510 ", "TIMEOUT=60 ")
+FLAGS = ("authenticate", "noexec", "intercept", "setenv", "sudoedit_follow", "log_input", "log_output")
+TAGS = (
+    *(f"{tag}: " for tag in "NOPASSWD PASSWD NOEXEC EXEC SETENV NOSETENV INTERCEPT NOINTERCEPT".split()),
+    *(f"{tag}: " for tag in "FOLLOW NOFOLLOW LOG_INPUT NOLOG_OUTPUT MAIL NOMAIL".split()),
+    "CWD=/ ", "NOTAFTER=2026010509Z ", "NOTBEFORE=2026010510Z ", "NOTBEFORE=2026010510 ", "TIMEOUT=60 ",
+)  # fmt: skip
 MODES = ((0o666, 0, 0), (0o664, 0, 2001), (0o440, 2001, 0), (0o464, 0, 0), (0o777, 0, 0))
 
 
@@ -74,7 +79,7 @@ def rule(rng: random.Random) -> str:
         groups = rng.choice(("", "", "", " : op", " : !op"))
         # (no `()`: it means whoever asks, and for `sudo -l -U` that is root)
         target = rng.choice(("", "", f"({targets}{groups}) ", f"({targets}) ", "(: op) "))
-        tag = rng.choice(TAGS) if rng.random() < 0.2 else ""
+        tag = rng.choice(TAGS) if rng.random() < 0.3 else ""
         words = (*COMMANDS, "ALL", "ALL", "/srv/bin/", "/srv/bin/ls -l", '/srv/bin/ls ""', "C0", "C1")
         parts.append(f"{target}{tag}{chosen(rng, words, ODD_COMMANDS, 2)}")
     return f"{users} {hosts} = {', '.join(parts)}"
@@ -115,13 +120,29 @@ def included(rng: random.Random, lines: list[str], files: dict[str, File], numbe
     return f"{directive} {path}{rng.choice(('', '', ' # a comment', ' '))}"
 
 
-def random_case(rng: random.Random, name: str) -> Widener:
+def random_lines(rng: random.Random) -> list[str]:
     lines = [*aliases(rng), *(rule(rng) for _ in range(rng.randint(2, 5)))]
     lines = [broken(rng, line) for line in lines]
     for _ in range(rng.choice((0, 1, 2))):
         lines.insert(rng.randrange(len(lines) + 1), rng.choice(COMMENTS))
     for _ in range(rng.choice((0, 0, 0, 1, 1, 2))):
-        lines.insert(rng.randrange(len(lines) + 1), rng.choice(DEFAULTS))
+        lines.insert(rng.randrange(len(lines) + 1), rng.choice((*DEFAULTS, scoped_flag(rng))))
+    return lines
+
+
+def scoped_flag(rng: random.Random) -> str:
+    """A Defaults line of a tag's flag, of any scope and sign."""
+    scope = rng.choice(("", ":ann", ":%wheel", "@db1", ">root", ">op", "!/srv/bin/ls", "!C0", ":U0", "@H0", ">R0"))
+    return f"Defaults{scope} {rng.choice(('', '!'))}{rng.choice(FLAGS)}"
+
+
+def random_text(rng: random.Random, name: str) -> Widener:
+    """A file that includes none."""
+    return Widener(name, "".join(f"{line}\n" for line in random_lines(rng)))
+
+
+def random_case(rng: random.Random, name: str) -> Widener:
+    lines = random_lines(rng)
     files: dict[str, File] = {}
     for number in range(rng.choice((0, 0, 1, 1, 2))):
         first = rng.randrange(len(lines))

@@ -17,6 +17,7 @@ from conftest import ROOT
 from desk_tools import served
 from desk_tools.evidence import program_beside
 from steelnewt_client.messages import canonical
+from tests.common.calling import call_words
 
 PROGRAM = os.path.join(ROOT, "tools", "desk-change-roster")
 RELAY = os.path.join(ROOT, "relays", "desk-relay")
@@ -27,6 +28,8 @@ relay = "chat"
 roster = "{folder}/etc/roster.toml"
 outbox = "{folder}/outbox.db"
 zone = "UTC"
+[ssh]
+keys = "{folder}/keys"
 """
 # the program desk, before or behind whose rebuild of the store the one that asks is killed
 WRAPPER = """\
@@ -56,7 +59,7 @@ def until(what: Callable[[], bool], why: str) -> None:
 
 
 class Running:
-    """The desk of examples/, and what is asked of it."""
+    """The desk of examples/, while it serves, and questions to it."""
 
     def __init__(self, folder: Path, desk: str) -> None:
         self.folder, self.real = folder, desk
@@ -168,9 +171,8 @@ class Running:
 
     def says(self, person: str, line: str) -> subprocess.CompletedProcess[str]:
         """A call as sshd would start it."""
-        words = [RELAY, "--config", str(self.folder / "relay.toml"), "--person", person]
         return subprocess.run(
-            words,
+            call_words(RELAY, self.folder / "relay.toml", self.folder / "keys", person),
             env=os.environ | {"SSH_ORIGINAL_COMMAND": line},
             stdin=subprocess.DEVNULL,
             capture_output=True,

@@ -1,5 +1,5 @@
 #!/bin/bash
-# What systemd would do of desk.service, in a test: stops and starts packaging/desk-serve of the
+# What systemd would do with desk.service, in a test: stops and starts packaging/desk-serve of the
 # folder that ROOM names. A file `kill` there says before or behind which verb the program that
 # asks is killed (as `before stop`), by the signal of a file `signal`; and a file `fail` which verb
 # fails.

@@ -1,4 +1,4 @@
-"""desk-evidence: the same bytes each time, and what sha256sum and ssh-keygen say of them."""
+"""desk-evidence: the same bytes each time, which sha256sum and ssh-keygen accept."""
 
 from __future__ import annotations
 
@@ -137,7 +137,7 @@ def test_without_logs_and_of_one_roster(evidence: Make, desk: str) -> None:
 
 
 def test_a_second_reading_that_differs(evidence: Make, tmp_path: Path) -> None:
-    """It is said so: here it takes no refusal of a second approval by one person."""
+    """The difference is named: this reading does not refuse a second approval by one person."""
     with open(os.path.join(EXAMPLES, "second-reading.jq"), encoding="utf-8") as file:
         text = file.read()
     wrong = tmp_path / "wrong.jq"
@@ -212,7 +212,7 @@ def test_a_roster_hides_no_run_after_a_revocation(evidence: Make, tmp_path: Path
 
 
 def test_a_roster_of_toml_1_1(evidence: Make, tmp_path: Path) -> None:
-    """It may have a table over several lines: a desk takes it, and so does the second reading."""
+    """A table may stand over several lines: a desk takes it, and so does the second reading."""
     path = tmp_path / "rosters" / "20250101000000Z.toml"
     path.write_text(newer(path.read_text()))
     folder, ran = evidence("made", "--log", f"db1={EXAMPLES}/used.log")

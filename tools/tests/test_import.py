@@ -1,8 +1,9 @@
-"""desk-import: the base of a sudoers file, and what is said of the rest; and what sudo says of both."""
+"""desk-import: the base of sudoers files, what stays on the host, and what is said of each rule."""
 
 from __future__ import annotations
 
 import os
+import platform
 import re
 import shutil
 import subprocess
@@ -13,42 +14,39 @@ from pathlib import Path
 
 import pytest
 
-from desk_tools import machine
-import fetch
+from desk_tools import comparing, machine, sudo_settings
+from tests.common import others_sudoers
 from conftest import ROOT, Run
 
 BESIDE = os.path.join(ROOT, "tools", "tests", "beside_sudo.py")
 NEVER_WIDER = os.path.join(ROOT, "tools", "tests", "never_wider.py")
-GROUP = "wheel:x:3001:ann,bob\nops:x:3002:\nodd:x:3003:Ann\ntwin:x:3004:ann\nother:x:3004:\n"
+GROUP = "wheel:x:3001:ann,bob\nops:x:3002:\nodd:x:3003:Ann\ntwin:x:3004:ann\nother:x:3004:\nnone:x:3005:\n"
 PASSWD = "root:x:0:0::/:/bin/sh\nann:x:2001:2001::/:/bin/sh\nkim:x:2002:3002::/:/bin/sh\n"
+FILES, MORE = "passwd: files\ngroup: files\n", "passwd: files sss\ngroup: files sss\n"
 NINE = "NOTBEFORE=20260105090000Z NOTAFTER=20260105090000Z"
-GETENT = """#!/bin/sh
-case $1:$2 in
-    passwd:) cat PASSWD ;;
-    passwd:--) grep -E "^($3:|[^:]*:[^:]*:$3:)" PASSWD || exit 2 ;;
-    group:) cat GROUP ;;
-    group:--) grep -E "^($3:|[^:]*:[^:]*:$3:)" GROUP || exit 2 ;;
-esac
-"""
 
 Make = Callable[..., tuple[str, list[str]]]
 
 
 @pytest.fixture
-def made(imports: Run, desk: str, tmp_path: Path, monkeypatch: pytest.MonkeyPatch) -> Make:
-    """The base of a text, and the notes on it, on a machine of three users and three groups."""
-    for name, text in (("group", GROUP), ("passwd", PASSWD)):
-        (tmp_path / name).write_text(text)
-    (tmp_path / "bin").mkdir()
-    getent = tmp_path / "bin" / "getent"
-    getent.write_text(GETENT.replace("PASSWD", str(tmp_path / "passwd")).replace("GROUP", str(tmp_path / "group")))
-    getent.chmod(0o755)
-    monkeypatch.setenv("PATH", f"{tmp_path}/bin:{os.environ['PATH']}")
+def folder(tmp_path: Path) -> Path:
+    """A copy of the /etc of a host with three users and five groups, which has them in files."""
+    found = tmp_path / "etc"
+    found.mkdir()
+    for name, text in (("group", GROUP), ("passwd", PASSWD), ("nsswitch.conf", FILES)):
+        (found / name).write_text(text)
+    return found
+
+
+@pytest.fixture
+def made(imports: Run, desk: str, folder: Path, tmp_path: Path) -> Make:
+    """The base of a text, as the file of the host db1 or of all hosts, and what is told."""
 
     def make(text: str, *words: str, status: int | None = None) -> tuple[str, list[str]]:
-        source = tmp_path / "sudoers"
+        source = folder / "sudoers"
         source.write_text(text)
-        ran = imports("--desk", desk, *words, str(source))
+        which = [str(source)] if "--all-hosts" in words else ["--host", f"db1={folder}"]
+        ran = imports("--desk", desk, *which, "--rest", str(tmp_path / "rest"), *words)
         assert status is None or ran.returncode == status, ran.stderr
         return ran.stdout, ran.stderr.replace(str(source), "sudoers").splitlines()
 
@@ -58,192 +56,183 @@ def made(imports: Run, desk: str, tmp_path: Path, monkeypatch: pytest.MonkeyPatc
 @pytest.mark.parametrize(
     ("text", "base"),
     [
-        ("ann ALL = /bin/ls\n", "ann ALL = (root) /bin/ls\n"),
+        ("ann ALL = /bin/ls\n", "ann db1 = (root) /bin/ls\n"),
         (
-            "ann db1 = (op) NOPASSWD: /bin/ls, PASSWD: /bin/kill -9 1 : db2 = ALL",
-            "ann db1 = (op) NOPASSWD: /bin/ls\nann db1 = (op) /bin/kill -9 1\nann db2 = (root) ALL\n",
+            "ann db1 = (op) NOPASSWD: /bin/ls, PASSWD: /bin/kill -9 1 : ALL, !db1 = ALL",
+            "ann db1 = (op) NOPASSWD: /bin/ls\nann db1 = (op) /bin/kill -9 1\n",
         ),
-        ("User_Alias B = ann\nB ALL = ALL\n", "User_Alias B = ann\nB ALL = (root) ALL\n"),
-        ("A DB1 = /bin/ls\nUser_Alias A = B, !bob\nUser_Alias B = ann\n", "User_Alias B = ann\nUser_Alias A = B, !bob\nA db1 = (root) /bin/ls\n"),
+        ("User_Alias B = ann\nB ALL = ALL\n", "User_Alias DESK_B = ann\nDESK_B db1 = (root) ALL\n"),
+        (
+            "A DB1 = /bin/ls\nUser_Alias A = B, !bob\nUser_Alias B = ann\n",
+            "User_Alias DESK_B = ann\nUser_Alias DESK_A = DESK_B, !bob\nDESK_A db1 = (root) /bin/ls\n",
+        ),
         (
             "ann ALL = NOTBEFORE=2026010509Z NOTAFTER=202601051000+0100 /bin/x a\\,b\\:c \\\n, !/bin/y\n",
-            f"ann ALL = (root) {NINE} /bin/x a\\,b\\:c\nann ALL = (root) {NINE} !/bin/y\n",
+            f"ann db1 = (root) {NINE} /bin/x a\\,b\\:c\nann db1 = (root) {NINE} !/bin/y\n",
         ),
         # cvtsudoers joins commands whose options alone differ
         (
-            "ann ALL = NOTBEFORE=2026010509Z /bin/a a\\,b, NOTAFTER=2026010509Z MAIL: /bin/b : db1 = (op) TIMEOUT=1 /bin/c, !/bin/d",
-            f"ann ALL = (root) NOTBEFORE=20260105090000Z /bin/a a\\,b\nann ALL = (root) {NINE} /bin/b\nann db1 = (op) !/bin/d\n",
+            "ann ALL = NOTBEFORE=2026010509Z /bin/a a\\,b, NOTAFTER=2026010509Z MAIL: /bin/b",
+            f"ann db1 = (root) NOTBEFORE=20260105090000Z /bin/a a\\,b\nann db1 = (root) {NINE} /bin/b\n",
         ),
-        ("%wheel ALL = ALL\n%#3002 ALL = /bin/ls\n#2002 ALL = /bin/ls\n", "ann, bob ALL = (root) ALL\nkim ALL = (root) /bin/ls\nkim ALL = (root) /bin/ls\n"),
-        ("Defaults runas_default=op\nann ALL = /bin/ls\n", "ann ALL = (op) /bin/ls\n"),
-        # what allows is narrowed, and what denies is widened
-        ("ann, +net ALL = /bin/ls\n", "ann ALL = (root) /bin/ls\n"),
-        ("ALL, !+net, bob ALL = /bin/ls\n", "bob ALL = (root) /bin/ls\n"),
-        ("ann ALL = ALL, !/bin/l*\n", "ann ALL = (root) ALL\nann ALL = (root) !/bin/\n"),
-        # a group or a number that is not known here may be anybody's elsewhere
-        ("ann ALL = ALL\n%nothing ALL = !/bin/ls\n", "ann ALL = (root) ALL\nALL ALL = (root) !/bin/ls\n"),
-        ("ann ALL = ALL\n#4242 ALL = !/bin/ls\n", "ann ALL = (root) ALL\nALL ALL = (root) !/bin/ls\n"),
-        ("ALL, !%nothing, bob ALL = /bin/ls\n", "bob ALL = (root) /bin/ls\n"),
-        ("ann ALL = (ALL, !#4242) ALL\nann, %nothing ALL = /bin/ls\n", "ann ALL = (root) /bin/ls\n"),
-        ("ann ALL = ALL, !/bin/ls -*\n", "ann ALL = (root) ALL\nann ALL = (root) !/bin/ls\n"),
-        ("ann ALL = ALL, !/*/ls\n", "ann ALL = (root) ALL\nann ALL = (root) !ALL\n"),
-        ("ann ALL = ALL\n+net 10.0.0.0/8 = (ALL, !op) !/bin/ls\n", "ann ALL = (root) ALL\nALL ALL = (ALL, !op) !/bin/ls\n"),
-        ("ann, !+net db1, db2 = ALL, !/bin/ls\n", "ann db1, db2 = (root) !/bin/ls\n"),
-        ("Cmnd_Alias C = ALL, !/bin/ls\n+net, ann ALL = C\n", "Cmnd_Alias C = ALL, !/bin/ls\nCmnd_Alias ALL_WITHOUT_SETENV = ALL\nann ALL = (root) ALL_WITHOUT_SETENV\nALL, ann ALL = (root) !/bin/ls\n"),
-        ("Cmnd_Alias C = /bin/l*, /bin/kill\nann ALL = /bin/ps, !C\n", "ann ALL = (root) /bin/ps\nann ALL = (root) !/bin/\nann ALL = (root) !/bin/kill\n"),
-        ("ann ALL = NOEXEC: /bin/ls, EXEC: /bin/kill, NOSETENV: ALL\n", "ann ALL = (root) /bin/kill\n"),
-        ("ann ALL = CWD=/tmp /bin/ls, TIMEOUT=10 /bin/kill\n", ""),
-        ("Cmnd_Alias C = /bin/a, !/bin/b\nann ALL = ALL, NOEXEC: C\n", "Cmnd_Alias C = /bin/a, !/bin/b\nann ALL = (root) ALL\nann ALL = (root) !/bin/a\nann ALL = (root) !/bin/b\n"),
-        ("Cmnd_Alias C = /bin/a, !/bin/b\nann ALL = NOEXEC: !C\n", "Cmnd_Alias C = /bin/a, !/bin/b\nann ALL = (root) !/bin/a\n"),
-        ("ann ALL = (: op) /bin/ls, () /bin/kill, (op : op) /bin/ps\n", "ann ALL = (op) /bin/ps\n"),
+        # a bound that is always met in the desk's time
+        ("ann ALL = NOTBEFORE=00010101000000Z NOTAFTER=99991231235959Z /bin/a\n", "ann db1 = (root) /bin/a\n"),
+        # (ALL has SETENV; a command that is joined with ALL has no SETENV)
+        ("ann ALL = ALL, /bin/ls\n", "ann db1 = (root) ALL\nann db1 = (root) /bin/ls\n"),
+        (
+            "%wheel ALL = ALL\n%#3002 ALL = /bin/ls\n#2002 ALL = /bin/ls\n",
+            "ann, bob db1 = (root) ALL\nkim db1 = (root) /bin/ls\nkim db1 = (root) /bin/ls\n",
+        ),
+        ("ALL, !%wheel ALL = /bin/ls\n", "ALL, !ann, !bob db1 = (root) /bin/ls\n"),
+        ("ann ALL = ALL\n%ops ALL = !/bin/ls\n", "ann db1 = (root) ALL\nkim db1 = (root) !/bin/ls\n"),
+        ("Defaults runas_default=op\nann ALL = /bin/ls\n", "ann db1 = (op) /bin/ls\n"),
+        # sudo takes `*` alone for any arguments and for none
+        ("ann ALL = /opt/d/x *\n", "ann db1 = (root) /opt/d/x\n"),
+        ("ann ALL = ALL, !/opt/d/x *\n", "ann db1 = (root) ALL\nann db1 = (root) !/opt/d/x\n"),
+        # the host whose file it is
+        ("ann web1 = /bin/a\nann !db1 = /bin/b\nann DB1, !web1 = /bin/c\n", "ann db1 = (root) /bin/c\n"),
+        ("ann db[12] = /bin/a\nann db[2-9] = /bin/b\nann w* = /bin/c\n", "ann db1 = (root) /bin/a\n"),
+        ("Host_Alias H = web*, !db?\nann H = /bin/a\nann !H = /bin/b\n", "ann db1 = (root) /bin/b\n"),
     ],
 )
 def test_bases(made: Make, text: str, base: str) -> None:
-    found, _ = made(text)
+    found, _ = made(text, status=0)
     assert found == base
 
 
-LS = "ALL ALL = (root) /bin/ls\n"
-ANY = "ALL ALL = (root) ALL\n"
-NOT_LS = "ann ALL = (root) !/bin/ls\n"
+# what a base cannot say just as sudo means it
+WHOLE = [
+    "ann, +net ALL = /bin/ls",
+    "ALL, !+net, bob ALL = /bin/ls",
+    "ann ALL = ALL, !/bin/l*",
+    "ann ALL = ALL, !/bin/ls -*",
+    "ann ALL = ALL, !/*/ls",
+    "ALL, !%nothing, bob ALL = /bin/ls",
+    "ann ALL = (ALL, !#4242) ALL",
+    "%twin ALL = ALL",
+    "%none ALL = ALL",
+    "Ann ALL = /bin/ls",
+    "ann ALL = (: op) /bin/ls, () /bin/kill, (op : op) /bin/ps",
+    "ann ALL = (ALL : ALL) ALL",
+    "ann ALL = /usr/sbin/x restart *, /bin/x \"a\"",
+    "ann ALL = /opt/d/*",
+    "ann ALL = sudoedit /etc/motd, list, ^/bin/x$, /bin/x ^a$",
+    "ann ALL = sha224:0GomF8mNN3wlDt1HD9XldjJ3SNgpFdbjO1+NsQ== /bin/ls",
+    "ann 10.0.0.1 = /bin/ls",
+    "ann db1.example.org, +hosts = /bin/ls",
+    *(f"ann ALL = {mark}/bin/ls" for mark in (
+        "NOEXEC: ", "INTERCEPT: ", "SETENV: ", "FOLLOW: ", "LOG_INPUT: ", "LOG_OUTPUT: ",
+        "CHROOT=/srv ", "CWD=/srv ", "TIMEOUT=9 ", "ROLE=r TYPE=t ",
+    )),
+    "ann ALL = NOSETENV: ALL",
+    "ann ALL = NOTAFTER=19691231235958Z /bin/ls",
+]  # fmt: skip
+
+
+@pytest.mark.parametrize("line", WHOLE)
+def test_what_is_not_exact_stays_whole(made: Make, tmp_path: Path, line: str) -> None:
+    base, said = made(f"{line}\n", status=0)
+    assert (tmp_path / "rest").read_text().splitlines()[1:] == [line]
+    assert base == "" and said[0] == f"sudoers:1: gone: {line}", said
+    assert all("stays on the host" in it or ": note: " in it for it in said[1:-2]), said
 
 
 @pytest.mark.parametrize(
-    ("rule", "above", "denial"),
+    ("text", "base", "rest"),
     [
-        *(
-            (f"ann ALL = {mark}/bin/ls\n", LS, NOT_LS)
-            for mark in (
-                *("NOEXEC: ", "INTERCEPT: ", "CHROOT=/srv ", "CWD=/srv ", "TIMEOUT=9 "),
-                "ROLE=r TYPE=t ",
-            )
-        ),
-        ("ann ALL = NOEXEC: NOPASSWD: /bin/ls\n", LS, NOT_LS),
-        ("ann ALL = NOEXEC: ALL\n", LS, "ann ALL = (root) !ALL\n"),
-        ("ann ALL = NOEXEC: /bin/ls -l\n", LS, "ann ALL = (root) !/bin/ls -l\n"),
-        # (sudo takes it for the same file where /bin is a link)
-        ("ann ALL = NOEXEC: /usr/bin/ls\n", LS, "ann ALL = (root) !/usr/bin/ls\n"),
+        # a rule of which a part stays
         (
-            "ann ALL = NOTAFTER=2026010509Z NOEXEC: /bin/ls\n",
-            LS,
-            "ann ALL = (root) NOTAFTER=20260105090000Z !/bin/ls\n",
+            "ann ALL = NOPASSWD: /bin/ls, /opt/x -*, (op) NOEXEC: /bin/b",
+            "ann db1 = (root) NOPASSWD: /bin/ls\n",
+            ["ann ALL = NOPASSWD: /opt/x -*", "ann ALL = (op) NOPASSWD: NOEXEC: /bin/b"],
         ),
-        # what cannot be said of the rule is taken wide
-        ("+net ALL = NOEXEC: /bin/ls\n", LS, "ALL ALL = (root) !/bin/ls\n"),
-        ("ann 10.0.0.1 = NOEXEC: /bin/ls\n", LS, NOT_LS),
-        ("ann ALL = (:adm) NOEXEC: /bin/ls\n", LS, "ann ALL = (ALL) !/bin/ls\n"),
-        ("ann ALL = (root : adm) NOEXEC: /bin/ls\n", LS, NOT_LS),
-        ("ann ALL = (root : !adm) NOEXEC: /bin/ls\n", LS, NOT_LS),
-        ("ann ALL = NOEXEC: /bin/l*\n", LS, "ann ALL = (root) !/bin/\n"),
-        ("ann ALL = NOEXEC: /bin/ls -*\n", LS, NOT_LS),
-        ("ann ALL = NOEXEC: ^/bin/l.*$\n", LS, "ann ALL = (root) !ALL\n"),
-        ("ann ALL = NOEXEC: sha224:0GomF8mNN3wlDt1HD9XldjJ3SNgpFdbjO1+NsQ== /bin/ls\n", LS, NOT_LS),
-        ("ann ALL = CWD=/srv sudoedit /etc/motd\n", ANY, "ann ALL = (root) !ALL\n"),
-        # ALL lets its user set the environment
-        ("ann ALL = NOSETENV: ALL\n", ANY, "ann ALL = (root) !ALL\n"),
-        ("ann ALL = NOSETENV: /bin/l*\n", ANY, "ann ALL = (root) !/bin/\n"),
+        # Defaults, and what they and the rules that stay name
         (
-            "ann, +net ALL = NOSETENV: /bin/ls\n",
-            ANY,
-            "ALL ALL = (root) !/bin/ls\nann ALL = (root) /bin/ls\n",
+            "Cmnd_Alias A = /bin/a, B\nCmnd_Alias B = /bin/b\nCmnd_Alias C = /bin/c\n"
+            "Defaults!A  lecture_file = \"/x  y\"\nann ALL = C\n",
+            "Cmnd_Alias DESK_C = /bin/c\nann db1 = (root) DESK_C\n",
+            [
+                "Cmnd_Alias A = /bin/a, B",
+                "Cmnd_Alias B = /bin/b",
+                'Defaults!A  lecture_file = "/x  y"',
+            ],
         ),
-        # no line above gives it
-        ("ann ALL = NOEXEC: /bin/kill\n", LS, ""),
-        ("ann ALL = NOEXEC: /bin/ls -l\n", "ann ALL = (root) /bin/ls -a\n", ""),
-        ("ann ALL = NOEXEC: /bin/ls\n", "bob ALL = (root) /bin/ls\n", ""),
-        ("ann db1 = NOEXEC: /bin/ls\n", "ann db2 = (root) /bin/ls\n", ""),
-        ("ann !db1 = NOEXEC: /bin/ls\n", LS, ""),
-        ("ann ALL = CWD=/srv sudoedit /etc/motd\n", LS, ""),
-        ("ann ALL = NOSETENV: ALL\n", LS, ""),
-        ("ann ALL = /bin/l*\n", ANY, ""),
+        (
+            "User_Alias U = ann\nCmnd_Alias C = /bin/x*\nU ALL = C, /bin/ls\n",
+            "User_Alias DESK_U = ann\nDESK_U db1 = (root) /bin/ls\n",
+            ["User_Alias U = ann", "Cmnd_Alias C = /bin/x*", "U ALL = C"],
+        ),
+        # a rule of another host is in neither
+        ("ann web1 = ALL\nann ALL = /bin/ls\n", "ann db1 = (root) /bin/ls\n", []),
     ],
 )
-def test_what_is_left_out_of_a_rule_is_denied(
-    made: Make, rule: str, above: str, denial: str
-) -> None:
-    """sudo goes by the last rule that fits: without it, one above gives what it held back."""
-    assert made(above + rule)[0] == above + denial
+def test_what_stays(made: Make, tmp_path: Path, text: str, base: str, rest: list[str]) -> None:
+    assert made(text, status=0)[0] == base
+    assert (tmp_path / "rest").read_text().splitlines()[1:] == rest
+
+
+LS = "ALL ALL = /bin/ls\n"
 
 
 @pytest.mark.parametrize(
-    ("setting", "rule", "base"),
+    ("earlier", "later", "is_taken"),
     [
-        ("setenv", "NOSETENV: /bin/ls", LS + NOT_LS),
-        ("setenv", "NOSETENV: /bin/kill", LS),
-        ("!setenv", "NOSETENV: /bin/ls", f"{LS}ann ALL = (root) /bin/ls\n"),
-        ("sudoedit_follow", "NOFOLLOW: ALL", f"{LS}ann ALL = (root) !ALL\n"),
+        (LS, "ann ALL = NOEXEC: /bin/ls", True),
+        (LS, "ann ALL = !/bin/l*", True),
+        # (a link may have any folder)
+        (LS, "ann ALL = NOEXEC: /usr/bin/ls", True),
+        (LS, "ann ALL = NOEXEC: /bin/ls -l", True),
+        (LS, "+net ALL = NOEXEC: /bin/ls", True),
+        (LS, "ann 10.0.0.1 = NOEXEC: /bin/ls", True),
+        (LS, "ann ALL = (:adm) !/bin/ls", True),
+        (LS, "ann ALL = NOEXEC: ^/bin/l.*$", True),
+        ("ann ALL = NOPASSWD: /bin/ls\n", "+net ALL = (:adm) /bin/ls", True),
+        ("ann ALL = ALL\n", "ann ALL = sudoedit /etc/motd", True),
+        ("ann ALL = /usr/bin/tail -f /var/log/messages\n", "ann ALL = !/usr/bin/tail *mess*", True),
+        ("Cmnd_Alias C = /bin/a, /bin/ls\nann ALL = C\n", "ann ALL = NOEXEC: /bin/ls", True),
+        # other people, hosts or commands, or the same said
+        (LS, "ann ALL = NOEXEC: /bin/kill", False),
+        ("bob ALL = /bin/ls\n", "ann ALL = NOEXEC: /bin/ls", False),
+        ("ann ALL = /bin/ls -a\n", "ann ALL = NOEXEC: /bin/ls -l", False),
+        ("ann ALL = /usr/bin/tail -f /var/log/messages\n", "ann ALL = !/usr/bin/tail *..*", False),
+        ('ann ALL = /usr/bin/tail ""\n', "ann ALL = !/usr/bin/tail ?*", False),
+        ("ann ALL = /bin/ls\n", "ann ALL = sudoedit /etc/motd", False),
+        ("ann ALL = /bin/ls\n", "ann ALL = /bin/l*", False),
+        ("ann ALL = !/bin/ls\n", "ann ALL = !/bin/l*", False),
     ],
 )
-def test_what_a_tag_takes_back_of_defaults(
-    made: Make, setting: str, rule: str, base: str
+def test_what_stays_takes_an_earlier_rule_along(
+    made: Make, earlier: str, later: str, is_taken: bool
 ) -> None:
-    """The Defaults stay on the hosts, and the tag cannot be said."""
-    assert made(f"Defaults {setting}\n{LS}ann ALL = {rule}\n")[0] == base
+    """sudo goes by the last rule that fits, and reads what stays before the desk's file."""
+    base, said = made(f"{earlier}{later}\n", status=0)
+    line = earlier.count("\n")
+    assert (base == "") == is_taken, (base, said)
+    assert any(f"because of line {line + 1}, which" in it for it in said) == is_taken
+    assert f"sudoers:{line}: {'gone' if is_taken else 'kept'}: " in "\n".join(said)
 
 
-def test_what_aliases_above_give_is_denied(made: Make) -> None:
-    aliases = "User_Alias A = bob, !C\nUser_Alias C = !ann\nCmnd_Alias D = ALL, !E\nCmnd_Alias E = /bin/ls\n"
-    base, _ = made(f"{aliases}A ALL = !D\nann ALL = NOEXEC: E\nkim ALL = NOEXEC: E\n")
-    assert base.splitlines()[4:] == ["A ALL = (root) !D", "ann ALL = (root) !E"]
+SCOPES = ("", ":ann", "@db1", ">root", "!/usr/bin/id")
+WALK = [
+    (flag, is_on, scope, sign)
+    for flag in sudo_settings.TAGS
+    for is_on in (True, False)
+    for scope in SCOPES
+    for sign in ("", "!", None)
+]
 
 
-FREE = "ALL ALL = NOPASSWD: /usr/bin/id\n"
-ALL_FREE = "ALL ALL = NOPASSWD: ALL\n"
-
-
-@pytest.mark.parametrize(
-    ("above", "rule", "has_note"),
-    [
-        (FREE, "ann ALL = /usr/bin/i*", True),
-        (FREE, "+net ALL = PASSWD: /usr/bin/id", True),
-        (FREE, "ann, +net ALL = /usr/bin/id", True),
-        (FREE, "ALL, !+net ALL = /usr/bin/id", True),
-        (ALL_FREE, "ann 10.0.0.1 = /usr/bin/id", True),
-        (ALL_FREE, "ann ALL = (:adm) /usr/bin/id", True),
-        (ALL_FREE, "ann ALL = (root : !adm) /usr/bin/id", True),
-        (ALL_FREE, "ann ALL = sudoedit /etc/motd", True),
-        ("Cmnd_Alias I = /usr/bin/id\nALL ALL = NOPASSWD: I\n", "+net ALL = /usr/bin/id", True),
-        ("ALL ALL = NOPASSWD: /bin/ls\n", "ann ALL = NOSETENV: ALL", True),
-        # nothing of it wants a password, or is left out, or is given above without one
-        (FREE, "+net ALL = NOPASSWD: /usr/bin/id", False),
-        (FREE, "ann ALL = PASSWD: /usr/bin/id", False),
-        (FREE, "ann !db1 = /usr/bin/id", False),
-        (FREE, "+net ALL = /bin/ls", False),
-        (FREE, "+net ALL = NOEXEC: /usr/bin/id", False),
-        ("ALL ALL = /usr/bin/id\n", "+net ALL = /usr/bin/id", False),
-    ],
-)
-def test_the_note_on_passwords(made: Make, above: str, rule: str, has_note: bool) -> None:
-    line = above.count("\n") + 1
-    note = (
-        f"sudoers:{line}: note: PASSWD: what is left out wanted a password: "
-        "where a rule above with NOPASSWD allows it too, it now wants none"
-    )
-    assert (note in made(f"{above}{rule}\n")[1]) == has_note
-
-
-@pytest.mark.parametrize(
-    ("text", "base", "status"),
-    [
-        ("NOTAFTER=99991231235959Z /bin/ls", "/bin/ls", 0),
-        ("NOTAFTER=21000101000000Z !/bin/ls", "!/bin/ls", 0),
-        ("NOTBEFORE=00010101000000Z /bin/ls", "/bin/ls", 0),
-        (f"NOTBEFORE=19691231235958Z {NINE.split()[1]} /bin/ls", f"{NINE.split()[1]} /bin/ls", 0),
-        ("NOTBEFORE=19700101000000Z /bin/ls", "NOTBEFORE=19700101000000Z /bin/ls", 0),
-        ("NOTAFTER=20991231235959Z /bin/ls", "NOTAFTER=20991231235959Z /bin/ls", 0),
-        # it never holds, and so it denies nothing in place of NOEXEC
-        ("NOTAFTER=19691231235958Z NOEXEC: /bin/ls", None, 1),
-        ("NOTBEFORE=21000101000000Z !/bin/ls", None, 1),
-        ("NOTBEFORE=99991231235959Z NOTAFTER=99991231235959Z /bin/ls", None, 1),
-    ],
-)
-def test_bounds_outside_of_the_desks_time(
-    made: Make, text: str, base: str | None, status: int
-) -> None:
-    found, said = made(f"{LS}ann ALL = {text}\n", status=status)
-    assert found == LS + (f"ann ALL = (root) {base}\n" if base else "")
-    has_note = "a desk's time is 1970 to 2099, in which it is " in said[0]
-    assert has_note == (text.count("=") != (base or "").count("="))
+def test_each_tag_beside_each_defaults() -> None:
+    """A tag is left out of a base only where the command means the same without it."""
+    for flag, is_on, scope, sign in WALK:
+        tag = sudo_settings.TAGS[flag]
+        settings = [] if sign is None else [(flag, not sign)]
+        unsaid = sudo_settings.unsaid_tag(flag, is_on, settings, False)
+        is_same = is_on == tag.is_on and (sign is None or (not sign) == tag.is_on)
+        if flag == "send_mail" or (flag == "authenticate" and not is_on):
+            assert unsaid is None
+        else:
+            assert unsaid == (None if is_same else tag.yes if is_on else tag.no), (flag, is_on, scope, sign)
 
 
 LONG = f" {'y' * 64}" * 15
@@ -270,14 +259,14 @@ def users_of(count: int, rules: int) -> str:
     ids="weight, denied aliases, heavy, entries, more entries, bytes, more bytes".split(", "),
 )
 def test_a_base_too_large_for_a_desk(made: Make, text: str, said: str | None) -> None:
-    notes = made(text)[1][:-1]
+    notes = [it for it in made(text)[1] if "(K6)" in it]
     assert len(notes) == (said is not None), notes
-    assert said is None or said in notes[0] and "(K6)" in notes[0]
+    assert said is None or said in notes[0]
 
 
 def test_a_base_over_the_limits_of_a_policy(made: Make) -> None:
     """(The weight is the desk's own: one more word is refused by desk check.)"""
-    assert "131,072 words in its rules" in made(users_of(32765, 4))[1][0]
+    assert "131,072 words in its rules" in made(users_of(32765, 4))[1][-2]
     assert made(users_of(32766, 4), status=2) == (
         "",
         [
@@ -287,106 +276,303 @@ def test_a_base_over_the_limits_of_a_policy(made: Make) -> None:
     )
 
 
-def test_the_list_of_what_is_left_out(made: Make, tmp_path: Path) -> None:
-    text = """\
-# a comment, \\
-Defaults env_reset, \\
-    mail_badpass
-Defaults:ann !requiretty
-ann ALL = \\
-    NOEXEC: /usr/bin/less, \\
-    sha224:0GomF8mNN3wlDt1HD9XldjJ3SNgpFdbjO1+NsQ== /bin/cat
-%odd, %nothing ALL = sudoedit /etc/motd # five
+RULES = """\
+Cmnd_Alias SVC = /usr/bin/systemctl restart *
+User_Alias NETOPS = +netops
+Host_Alias DMZ = 172.16.0.0/12
+# (the rules)
+ann ALL = SVC
+NETOPS ALL = /usr/bin/id
+bob DMZ = /usr/bin/du
+%none ALL = (root) ALL
+ann ALL = /usr/bin/id, \\
+    SVC, NOEXEC: /usr/bin/less
+kim ALL = /usr/bin/du
+Defaults env_reset
+Defaults !authenticate
 """
+
+
+def test_each_rule_has_its_verdict(made: Make, tmp_path: Path) -> None:
+    """Quoted as it stands, with the line that is the cause, in the order of the file."""
     report = tmp_path / "report"
-    found, said = made(text, "--report", str(report), status=1)
-    assert found == ""
-    assert [line.split(": ")[:3] for line in said[:-1]] == [
-        ["sudoers:2", "left out", "Defaults env_reset, mail_badpass"],
-        ["sudoers:4", "left out", "Defaults:ann !requiretty"],
-        ["sudoers:5", "left out", "/usr/bin/less"],
-        ["sudoers:5", "left out", "/bin/cat"],
-        ["sudoers:8", "left out", "%odd"],
-        ["sudoers:8", "left out", "%nothing"],
-        ["sudoers:8", "left out", "sudoedit /etc/motd"],
+    base, said = made(RULES, "--report", str(report), status=0)
+    wildcard = "/usr/bin/systemctl restart *: a base compares arguments whole: none stands for several (`*`)"
+    assert said == [
+        "sudoers:5: gone: ann ALL = SVC",
+        f"    stays on the host: SVC: because of line 1: {wildcard}",
+        "sudoers:6: gone: NETOPS ALL = /usr/bin/id",
+        "    stays on the host: /usr/bin/id: because of line 2: +netops: no netgroup of that name is listed, or it has a domain; name its members",
+        "sudoers:7: gone: bob DMZ = /usr/bin/du",
+        "    stays on the host: /usr/bin/du: because of line 3: 172.16.0.0/12: a base has short host names alone; name the hosts, or give --host-list a file of them in the form of /etc/hosts",
+        "sudoers:8: gone: %none ALL = (root) ALL",
+        "    stays on the host: ALL: %none: it is nobody now; name the users, or take the rule out",
+        "sudoers:8: note: %none is nobody now: who joins later is not in the base",
+        "sudoers:9: in part: ann ALL = /usr/bin/id, SVC, NOEXEC: /usr/bin/less",
+        f"    stays on the host: SVC: because of line 1: {wildcard}",
+        "    stays on the host: /usr/bin/less: NOEXEC: without it the command may open a shell; leave the tag out only if that is meant",
+        "sudoers:11: kept: kim ALL = /usr/bin/du",
+        "sudoers:12: stays on the host: Defaults env_reset: it holds back what the base's rules give too",
+        "sudoers:13: stays on the host: Defaults !authenticate: it lets the base's rules give more",
+        "rules: 4 gone, 1 in part, 1 kept",
+        "the base has 2 entries",
     ]
-    assert "may open a shell" in said[2] and said[-1] == "0 entries; 7 things are left out"
-    assert report.read_text().replace(str(tmp_path / "sudoers"), "sudoers").splitlines() == said
+    assert base == "ann db1 = (root) /usr/bin/id\nkim db1 = (root) /usr/bin/du\n"
+    assert report.read_text().replace(str(tmp_path / "etc" / "sudoers"), "sudoers").splitlines() == said
 
 
-NOTES = [
-    ("Ann ALL = /bin/ls\n", "sudoers:1: left out: Ann: no user of the desk has such a name: it has lower-case letters, digits and . _ - alone, up to 32 bytes"),
-    (
-        "\ufeffann ALL = /bin/ls\n",
-        "sudoers:1: left out: ann: a byte order mark stands before it, which sudo takes for a part of the name: save the file without one",
-    ),
-    # whoever a denial cannot name, it denies to all; whoever an exception cannot name, those before it lose the right
-    ("ann ALL = ALL\n+net ALL = !/bin/ls\n", "sudoers:2: note: users: what cannot be said of them became ALL: the rule denies more than it did"),
-    ("ann ALL = ALL\nann 10.0.0.1 = !/bin/ls\n", "sudoers:2: note: hosts: what cannot be said of them became ALL: the rule denies more than it did"),
-    ("ALL, !+net, bob ALL = /bin/ls\n", "sudoers:1: note: users: a denial of them cannot be said: those named before it are left out"),
-    (
-        "ALL ALL = /bin/ls\nann ALL = NOEXEC: /bin/ls\n",
-        "sudoers:2: note: !/bin/ls: it is denied in place of what is left out, which a line above may give without that option or tag",
-    ),
-    # a rule that gives nothing in sudo either, and what was surely meant
-    ("ann !db1 = /bin/ls\n", "sudoers:1: note: hosts: a list of denials alone (!db1) means nobody, to sudo as well: begin it with ALL if that is meant"),
-    (
-        "ann ALL = /usr/sbin\n",
-        "sudoers:1: note: /usr/sbin: a file by its form, and a directory by its name: with no / at its end it allows nothing in /usr/sbin/",
-    ),
-    ("Cmnd_Alias C = /opt\n", "sudoers:1: note: /opt: a file by its form, and a directory by its name: with no / at its end it allows nothing in /opt/"),
-    (
-        "User_Alias A = ann, +net\nA ALL = /bin/ls\n",
-        "sudoers:1: note: A: a part of its list cannot be said, so the alias is not kept: the rest stands where it is used",
-    ),
-]
+def test_what_is_in_no_file_is_lost(imports: Run, desk: str, folder: Path) -> None:
+    """Status 1; Defaults and what stays are no loss."""
+    for text, status in ((RULES, 1), ("Defaults env_reset\nann ALL = /bin/ls\n", 0)):
+        (folder / "sudoers").write_text(text)
+        ran = imports("--desk", desk, "--host", f"db1={folder}")
+        assert ran.returncode == status
+        assert ("    lost: SVC: because of line 1: " in ran.stderr) == (status == 1)
 
 
-@pytest.mark.parametrize(("text", "note"), NOTES)
-def test_notes(made: Make, text: str, note: str) -> None:
-    assert note in made(text)[1]
+def test_the_byte_that_no_base_has(made: Make) -> None:
+    said = made("ann ALL = /opt/x conf *, /opt/$HOME/x, /opt/y $HOME\nann ALL = /opt/d/*\n")[1]
+    assert "    stays on the host: /opt/x conf *: a base compares arguments whole: none stands for several (`*`)" in said
+    assert "    stays on the host: /opt/$HOME/x: a base has no such path (`$`); list full paths, or a directory" in said
+    assert any("/opt/y $HOME: " in it and "(`$`)" in it for it in said)
+    assert any("takes in names that begin with a dot: /opt/d/" in it for it in said)
+    assert not any("list the arguments" in it or "arguments that are allowed" in it for it in said)
 
 
-def test_what_needs_no_note(made: Make) -> None:
-    assert made("ALL, !ann ALL, !db1 = /usr/local/sbin/, /bin/ls\n%ops ALL = /bin/ls\n")[1] == [
-        "sudoers:2: note: %ops: it is kim here, by getent: who joins later is not in the base",
-        "3 entries; 0 things are left out",
+LOOSENS, TIGHTENS = "it lets the base's rules give more", "it holds back what the base's rules give too"
+
+
+@pytest.mark.parametrize(
+    ("line", "effect"),
+    [
+        ("Defaults closefrom_override", LOOSENS),
+        ("Defaults setenv", LOOSENS),
+        ("Defaults exempt_group=wheel", LOOSENS),
+        ("Defaults !setenv", TIGHTENS),
+        ("Defaults !env_reset", LOOSENS),
+        ("Defaults:ann noexec", TIGHTENS),
+        ("Defaults log_year", "it changes no right"),
+    ],
+)
+def test_what_defaults_do(made: Make, line: str, effect: str) -> None:
+    assert f"sudoers:1: stays on the host: {line}: {effect}" in made(f"{line}\nann ALL = /bin/ls\n", status=0)[1]
+
+
+def test_an_item_is_quoted_as_it_stands(made: Make) -> None:
+    """With its mark, and with a remedy that can work."""
+    said = "\n".join(made("%:AD\\ Admins ALL = /bin/a\nann +fw = /bin/b\n", status=0)[1])
+    assert ": %:AD\\ Admins: a plugin of sudo says who is in it; name the users" in said
+    assert ": +fw: no netgroup of that name is listed, or it has a domain; name its members" in said
+    assert "--host-list" not in said
+
+
+def test_a_group_is_told_once(made: Make) -> None:
+    """(It was told with each of its rules.)"""
+    said = made("%wheel ALL = /bin/a\n%wheel ALL = /bin/b\n%ops ALL = /bin/c\n", status=0)[1]
+    assert [it for it in said if ": note: " in it] == [
+        "sudoers:1: note: %wheel is ann, bob now: who joins later is not in the base",
+        "sudoers:3: note: %ops is kim now: who joins later is not in the base",
     ]
 
 
-def test_the_list_is_in_the_order_of_the_file(made: Make) -> None:
-    text = "User_Alias A = +a\nann ALL = /bin/*\nCmnd_Alias C = /bin/?\nHost_Alias H = 10.0.0.1\nA H = C\nDefaults x\n"
-    said = made(text.replace("Defaults x", "Defaults mail_badpass"))[1]
-    lines = [int(line.split(":")[1]) for line in said[:-1]]
-    assert lines == sorted(lines) and {*lines} >= {1, 2, 3, 4, 6}
+LDIF = """\
+dn: cn=defaults,ou=SUDOers,dc=example
+objectClass: sudoRole
+cn: defaults
+sudoOption: env_reset
+
+dn: cn=ann,ou=SUDOers,dc=example
+objectClass: sudoRole
+cn: ann
+sudoUser: ann
+sudoHost: ALL
+sudoCommand: /usr/bin/id
+sudoCommand: !/usr/bin/id -u
+sudoOption: !authenticate
+sudoNotAfter: 20261231235959Z
+"""
 
 
-def test_the_line_of_a_fault(made: Make) -> None:
+def test_rules_of_a_directory(made: Make, tmp_path: Path) -> None:
+    """LDAP's sudoRoles, by the command of IMPORT.md."""
+    with open(os.path.join(ROOT, "docs", "IMPORT.md"), encoding="utf-8") as file:
+        [command] = re.findall(r"`(cvtsudoers -i ldif [^`]+)`", file.read())
+    (tmp_path / "roles.ldif").write_text(LDIF)
+    subprocess.run(command, shell=True, cwd=tmp_path, check=True)
+    assert made((tmp_path / "sudoers").read_text(), status=0)[0] == (
+        "ann db1 = (root) NOTAFTER=20261231235959Z NOPASSWD: /usr/bin/id\n"
+        "ann db1 = (root) NOTAFTER=20261231235959Z NOPASSWD: !/usr/bin/id -u\n"
+    )
+
+
+def test_which_hosts_is_asked(made: Make, imports: Run, desk: str, folder: Path) -> None:
+    """ALL in one host's file is that host; on all hosts it is said aloud."""
+    (folder / "sudoers").write_text("ann db1 = /bin/ls\n\nann ALL = (ALL) ALL\n")
+    path = str(folder / "sudoers")
+    ran = imports("--desk", desk, path)
+    assert ran.returncode == 2 and ran.stdout == ""
+    assert ran.stderr.startswith(f"desk-import: {path}:3: ALL as host: say which host's file it is")
+    base, said = made("ann ALL = (ALL) ALL\nann db1 = /bin/ls\n", "--all-hosts", status=0)
+    assert base.startswith("ann ALL = (ALL) ALL\n")
+    assert said[1] == "sudoers:1: note: it is for every host of the desk"
+    assert said[-2] == "standing root: ann ALL = (ALL) ALL: it is everything"
+    assert made("ann ALL = (ALL) ALL\n")[0] == "ann db1 = (ALL) ALL\n"
+    (folder / "sudoers").write_text("ann db1, web1 = /bin/ls\n")
+    assert imports("--desk", desk, path).stdout == "ann db1, web1 = (root) /bin/ls\n"
+
+
+TWO = {
+    "db1": "User_Alias OPS = ann\nCmnd_Alias A = /bin/a\nOPS ALL = A\nkim ALL = /bin/k\nann ALL = !/bin/a x\n",
+    "web-1": "User_Alias OPS = ann, bob\nCmnd_Alias A = /bin/a\nkim ALL = /bin/k\nOPS ALL = A\nann ALL = !/bin/a x\n",
+}
+
+
+def test_several_hosts(imports: Run, desk: str, tmp_path: Path) -> None:
+    """Equal rules and aliases become one, each host's own order stays, and what differs is said."""
+    words = []
+    for host, text in TWO.items():
+        (tmp_path / host).mkdir()
+        for name, it in (("sudoers", text), ("passwd", PASSWD), ("group", GROUP)):
+            (tmp_path / host / name).write_text(it)
+        words += ["--host", f"{host}={tmp_path / host}"]
+    ran = imports("--desk", desk, "--rest", str(tmp_path / "rests"), *words)
+    assert ran.returncode == 0, ran.stderr
+    assert ran.stdout == (
+        "Cmnd_Alias DESK_A = /bin/a\nUser_Alias DESK_OPS = ann\nUser_Alias DESK_OPS_WEB_1 = ann, bob\n"
+        "DESK_OPS db1 = (root) DESK_A\nkim db1, web-1 = (root) /bin/k\n"
+        "DESK_OPS_WEB_1 web-1 = (root) DESK_A\nann db1, web-1 = (root) !/bin/a x\n"
+    )
+    assert "only on db1: DESK_OPS .. = (root) DESK_A" in ran.stderr
+    assert "the alias OPS of web-1 is DESK_OPS_WEB_1 in the base" in ran.stderr
+    assert sorted(it.name for it in (tmp_path / "rests").iterdir()) == ["db1", "web-1"]
+
+
+def test_a_group_of_another_host_is_that_hosts(imports: Run, desk: str, tmp_path: Path) -> None:
+    words = []
+    for host, member in (("db1", "ann"), ("web1", "kim")):
+        (tmp_path / host).mkdir()
+        (tmp_path / host / "sudoers").write_text("%sudo ALL = ALL\n")
+        (tmp_path / host / "group").write_text(f"sudo:x:27:{member}\n")
+        words += ["--host", f"{host}={tmp_path / host}"]
+    base = imports("--desk", desk, *words).stdout
+    assert base == "ann db1 = (root) ALL\nkim web1 = (root) ALL\n"
+
+
+def test_a_denied_group_is_certain_in_files_alone(made: Make, folder: Path) -> None:
+    """A directory may know more people than it lists: sssd and winbind list none."""
+    (folder / "nsswitch.conf").write_text(MORE)
+    for line in (
+        "ALL, !%ops ALL = /bin/ls", "%ops ALL = !/bin/ls", "#2002 ALL = !/bin/ls", "ann ALL = (ALL, !%ops) /bin/ls",
+    ):  # fmt: skip
+        base, said = made(f"ann ALL = ALL\n{line}\n", status=0)
+        assert base == "", (line, base)
+        assert any("nsswitch.conf has more than files" in it for it in said), said
+    base, said = made("%ops ALL = /bin/ls\n", status=0)
+    assert base == "kim db1 = (root) /bin/ls\n" and said[0].startswith("sudoers:1: in part: ")
+    # (whoever is not listed would keep what is given more freely)
+    assert made("ALL ALL = NOPASSWD: /bin/ls\n%ops ALL = /bin/ls\n", status=0)[0] == ""
+
+
+def test_netgroups_are_asked(imports: Run, desk: str, tmp_path: Path, monkeypatch: pytest.MonkeyPatch) -> None:
+    getent = tmp_path / "bin" / "getent"
+    getent.parent.mkdir()
+    getent.write_text('#!/bin/sh\n[ "$1 $3" = "netgroup net" ] && echo "net (db1,eve,) (web1,kim,)" || exit 2\n')
+    getent.chmod(0o755)
+    monkeypatch.setenv("PATH", f"{getent.parent}:{os.environ['PATH']}")
+    source = tmp_path / "sudoers"
+    source.write_text("+net ALL = /bin/a\nann +net = /bin/b\nbob +other = /bin/c\n")
+    ran = imports("--desk", desk, "--host", f"db1={source}")
+    assert ran.stdout == "eve, kim db1 = (root) /bin/a\nann db1 = (root) /bin/b\n"
+    assert "    lost: /bin/c: +other: no netgroup of that name is listed" in ran.stderr
+    source.write_text("Defaults !use_netgroups\n+net ALL = /bin/a\n")
+    assert imports("--desk", desk, "--host", f"db1={source}").stdout == ""
+
+
+def test_target_groups_are_left_out_if_that_is_asked(made: Make) -> None:
+    word = "--without-target-groups"
+    text = "root ALL=(ALL:ALL) ALL\nann ALL = (op : !adm) /bin/ls\nann ALL = (op : adm) !/bin/kill\n"
+    base, said = made(text, word, status=0)
+    assert base == "root db1 = (ALL) ALL\n" and said[0].startswith("sudoers:1: in part: ")
+
+
+def test_the_line_of_a_fault(made: Make, folder: Path) -> None:
     """sudo's own number, whatever comments, continuations and included files stand above."""
     text = "# one\n\nann ALL = \\\n  /bin/ls\n@includedir nothing\n# six\nbob ALL = bin/ls\n"
-    assert made(text, status=2)[1] == ["desk-import: sudo cannot read it: sudoers:7:11: expected a fully-qualified path name"]
+    for words in ((), ("--all-hosts",)):
+        said = made(text, *words, status=2)[1]
+        assert said == ["desk-import: sudo cannot read it: sudoers:7:11: expected a fully-qualified path name"]
 
 
 def test_hosts_of_a_list(made: Make, tmp_path: Path) -> None:
-    (tmp_path / "hosts").write_text("# ours\n10.0.0.1 db1.example.org db1\n10.0.0.2 DB2\n192.0.2.7 web1\n")
-    words = ("--host-list", str(tmp_path / "hosts"))
-    text = "ann 10.0.0.0/24, !db1.example.org = /bin/ls\nann db* = /bin/kill\nann 203.0.113.0/24 = ALL\n"
-    assert made(text, *words)[0] == "ann db1, db2, !db1 = (root) /bin/ls\nann db1, db2 = (root) /bin/kill\n"
-    assert made(text)[0] == ""
-    # a host that the list lacks may be any
-    text = "ann ALL = ALL\nann 203.0.113.0/24 = !/bin/ls\nann ALL, !web9.example.org = /bin/kill\n"
-    assert made(text, *words)[0] == "ann ALL = (root) ALL\nann ALL = (root) !/bin/ls\n"
+    (tmp_path / "hosts").write_text("10.0.0.1 db1.example.org db1\n10.0.0.2 DB2\n192.0.2.7 web1\n")
+    words = ("--all-hosts", "--host-list", str(tmp_path / "hosts"))
+    text = "ann 10.0.0.0/24, !db1.example.org = /bin/a\nann db[12] = /bin/b\nbob 203.0.113.0/24 = ALL\n"
+    assert made(text, *words)[0] == "ann db1, db2, !db1 = (root) /bin/a\nann db1, db2 = (root) /bin/b\n"
+    assert made(text, *words[1:])[0] == "ann db1 = (root) /bin/b\n"
+    assert made(text)[0] == "ann db1 = (root) /bin/b\n"
 
 
-def test_included_files(made: Make, tmp_path: Path) -> None:
-    (tmp_path / "more.d").mkdir()
+def test_included_files(made: Make, folder: Path) -> None:
+    (folder / "more.d").mkdir()
     files = {"b": "bob ALL = /bin/b\n", "a": "User_Alias A = ann\n\nA ALL = /bin/a, /bin/x*\n", "c.off": "c ALL = ALL\n", "d~": "d ALL = ALL\n"}
     for name, text in files.items():
-        (tmp_path / "more.d" / name).write_text(text)
-    found, said = made("root ALL = ALL\n@includedir more.d\nroot ALL = !/bin/su\n#includedir none\n")
-    assert found == "User_Alias A = ann\nroot ALL = (root) ALL\nA ALL = (root) /bin/a\nbob ALL = (root) /bin/b\nroot ALL = (root) !/bin/su\n"
-    assert said[0] == f"sudoers:4: note: {tmp_path}/none: there is no such directory, and sudo passes over it"
-    assert said[1].startswith(f"{tmp_path}/more.d/a:3: left out: /bin/x*: wildcards ")
+        (folder / "more.d" / name).write_text(text)
+    text = "root ALL = ALL\n@includedir more.d\nroot ALL = !/bin/su\n#includedir none\n"
+    for words, host in (((), "db1"), (("--all-hosts",), "ALL")):
+        found, said = made(text, *words)
+        assert found == (
+            f"User_Alias DESK_A = ann\nroot {host} = (root) ALL\nDESK_A {host} = (root) /bin/a\n"
+            f"bob {host} = (root) /bin/b\nroot {host} = (root) !/bin/su\n"
+        )
+        assert f"sudoers:4: note: {folder}/none: there is no such directory, and sudo passes over it" in said
+        assert f"{folder}/more.d/a:3: in part: A ALL = /bin/a, /bin/x*" in said
+
+
+def test_aliases_have_a_prefix(made: Make) -> None:
+    """So no name is defined twice on the host whose file it was."""
+    name = "A" * 40
+    base = made(f"User_Alias {name}1 = ann\nUser_Alias {name}2 = bob\n{name}1 ALL = ALL\n{name}2 ALL = ALL\n")[0]
+    names = re.findall(r"User_Alias (\w+) ", base)
+    assert len({*names}) == 2 and all(it.startswith("DESK_A") and len(it) <= 32 for it in names)
+    assert made("User_Alias U = ann\nU ALL = ALL\n", "--prefix", "OURS_")[0].startswith("User_Alias OURS_U = ann")
+
+
+def test_a_copy_of_another_hosts_etc(made: Make, folder: Path) -> None:
+    """What it includes is read there, and not on this machine."""
+    (folder / "sudoers.d").mkdir()
+    (folder / "sudoers.d" / "ops").write_text("kim ALL = /bin/k\n")
+    text = "ann ALL = /bin/a\n@includedir /etc/sudoers.d\nann ALL = !/bin/a x\n"
+    base, said = made(text, status=0)
+    assert base == "ann db1 = (root) /bin/a\nkim db1 = (root) /bin/k\nann db1 = (root) !/bin/a x\n"
+    assert said[0] == "sudoers:1: kept: ann ALL = /bin/a"
+    assert said[1].endswith("sudoers.d/ops:1: kept: kim ALL = /bin/k")
+    for name in ("include /srv/x", "includedir /etc/sudoers.e"):
+        line = made(f"ann ALL = ALL\n@{name}\n", status=2)[1][0]
+        assert line.endswith(f":2: {name.split()[1]} is not in the copy of the host's /etc"), line
+
+
+def test_a_copy_by_a_relative_path(
+    imports: Run, desk: str, folder: Path, monkeypatch: pytest.MonkeyPatch
+) -> None:
+    """What it includes is read: `--host db1=etc/db1` is how a loop over hosts names copies."""
+    (folder / "sudoers.d").mkdir()
+    (folder / "sudoers.d" / "ops").write_text("kim ALL = /bin/k\n")
+    (folder / "sudoers").write_text("ann ALL = /bin/a\n@includedir /etc/sudoers.d\n")
+    monkeypatch.chdir(folder.parent)
+    ran = imports("--desk", desk, "--host", f"db1={folder.name}", "--rest", "rest")
+    assert ran.stdout == "ann db1 = (root) /bin/a\nkim db1 = (root) /bin/k\n", ran.stderr
+    rest = (folder.parent / "rest").read_text()
+    assert "# in place of: /etc/sudoers.d/ops\n" in rest, rest
+
+
+def test_what_stays_includes_the_desks_file(made: Make, folder: Path, tmp_path: Path) -> None:
+    (folder / "sudoers.d").mkdir()
+    (folder / "sudoers.d" / "ops").write_text("kim ALL = /bin/k*\n")
+    made("Defaults env_reset\n@includedir /etc/sudoers.d\n", status=0)
+    assert (tmp_path / "rest").read_text().splitlines()[1:] == [
+        "# in place of: /etc/sudoers.d/ops",
+        "Defaults env_reset", "kim ALL = /bin/k*", "@includedir /etc/sudoers.d",
+    ]  # fmt: skip
 
 
 REFUSALS = [
@@ -398,11 +584,7 @@ REFUSALS = [
     ("ann ALL = ALL\n# \0\nann ALL = !ALL\n", ":2: a byte 0, behind which sudo reads nothing"),
     ("\nUser_Alias A = ann, B\nUser_Alias B = A\n", ":2: the alias A names itself"),
     ("Runas_Alias A = A\n", ":1: the alias A names itself"),
-    ("\nDefaults !lecture, !root_sudo\nann ALL = ALL\n", ":2: root_sudo: it takes sudo from root"),
-    ("Defaults:bob requiretty\nann ALL = ALL\n", ":1: requiretty: it takes sudo from whoever has no terminal"),
     ("Defaults unheard_of\nann ALL = ALL\n", ':1:20: unknown defaults entry "unheard_of"'),
-    ("# x\nDefaults>op runas_default=op\nann ALL = (ALL) ALL, ALL\nbob ALL = ALL\n", ":2: runas_default: such a target"),
-    ("Defaults runas_default=Op\nann ALL = /bin/ls\n", ":1: runas_default: such a target cannot be said"),
     ('ann "ALL" = /bin/ls\n', ":1: ALL between quotes or with a backslash is a name"),
     ("\\x41LL ALL = /bin/ls\n", ":1: ALL between quotes or with a backslash is a name"),
     ("ann ALL = /bin/ls\\ -l\n", ":1: a blank in a command's path"),
@@ -410,7 +592,6 @@ REFUSALS = [
     # (cvtsudoers tells of neither alone)
     ("ann ALL = ROLE=r /bin/ls\n", ":1: ROLE without TYPE"),
     ("ann ALL = /bin/ls, TYPE = t /bin/kill\n", ":1: ROLE without TYPE"),
-    ("%twin ALL = ALL\n", ":1: %twin: the groups other and twin share a number"),
 ]
 
 
@@ -422,18 +603,18 @@ def test_refusals(made: Make, text: str, why: str) -> None:
     assert re.fullmatch(f"desk-import: (sudo cannot read it: )?sudoers{why}.*", said[0]), said
 
 
-def test_many_files_that_include_one_another(made: Make, tmp_path: Path) -> None:
+def test_many_files_that_include_one_another(made: Make, folder: Path) -> None:
     for number in range(40):
-        (tmp_path / f"f{number}").write_text(f"@include f{number + 1}\n@include f{number + 1}\n")
-    (tmp_path / "f40").write_text("")
+        (folder / f"f{number}").write_text(f"@include f{number + 1}\n@include f{number + 1}\n")
+    (folder / "f40").write_text("")
     began = time.monotonic()
     assert "too many files are included" in made("@include f0\n", status=2)[1][0]
     assert time.monotonic() - began < 60
 
 
-def test_what_is_read_as_sudo_reads_it(made: Make, tmp_path: Path) -> None:
+def test_what_is_read_as_sudo_reads_it(made: Make, folder: Path) -> None:
     """What looks odd, and is no fault."""
-    (tmp_path / "more").write_text("kim ALL = /bin/kim")
+    (folder / "more").write_text("kim ALL = /bin/kim")
     text = """\
   #include nothing
 # it ends in a backslash \\
@@ -444,8 +625,13 @@ Defaults passprompt = "a \\
      b # runas_default=op", !lecture
 %#3002 ALL = /bin/echo a\\:b
 """
-    base = "ann ALL = (root) /bin/ls\nann ALL = (root) /bin/kill\nkim ALL = (root) /bin/kim\nkim ALL = (root) /bin/echo a\\:b\n"
+    base = (
+        "ann db1 = (root) /bin/ls\nann db1 = (root) /bin/kill\nkim db1 = (root) /bin/kim\n"
+        "kim db1 = (root) /bin/echo a\\:b\n"
+    )
     assert made(text)[0] == base
+    text = text.replace("%#3002", "kim")
+    assert made(text, "--all-hosts")[0] == base.replace("db1", "ALL")
 
 
 def test_no_byte_of_a_file_rules_a_terminal(
@@ -511,16 +697,100 @@ def test_failures(made: Make, imports: Run, desk: str, tmp_path: Path) -> None:
     assert imports("--desk", desk, str(tmp_path / "none")).returncode == 2
     assert made("ann ALL = /bin/ls\n", "--host-list", "none", status=2)[1] == ["desk-import: none: No such file or directory"]
     assert made("ann ALL = /bin/ls\n", "--desk", "/none", status=2)[1] == ["desk-import: there is no program /none"]
-    assert made("ann ALL = /bin/ls\n", status=0)[1] == ["1 entry; 0 things are left out"]
+    for words in (("--host", "db1"), ("--host", "DB1=x"), ("--host", "db1=x", "--all-hosts")):
+        assert made("ann ALL = /bin/ls\n", *words, status=2)[0] == ""
 
 
-def ask_sudo(script: str, *words: str) -> None:
+COMPARED = """\
+Defaults env_reset
+Cmnd_Alias OK = /usr/bin/id, /usr/bin/du "", /opt/x *
+nobody, daemon ALL = NOPASSWD: OK, PASSWD: /usr/bin/w, NOEXEC: /usr/bin/less
+bin ALL = (ALL) ALL, !/usr/bin/tail *..*
+root ALL = (ALL:ALL) ALL
+"""
+CHANGES = [
+    ("", 0, "0 more, 0 less"),
+    ("bin ALL = (ALL) NOPASSWD: /usr/bin/id\n", 3, "more: bin: (ALL) [Options: !authenticate] /usr/bin/id"),
+    ("games ALL = /usr/bin/id\n", 3, "more: games: (root) /usr/bin/id"),
+    ("nobody ALL = !/usr/bin/id\n", 1, "less: nobody: (root) /usr/bin/id"),
+    ("Defaults:games !authenticate\ngames ALL = !ALL\n", 3, "more: games: other Defaults"),
+]
+
+
+def test_compare_asks_sudo(imports: Run, desk: str, tmp_path: Path) -> None:
+    """The old file, and the base behind what stays: nothing more or less, and what a change does."""
+    needs_sudo()
+    host = platform.node().partition(".")[0].lower()
+    old, rest, base = (tmp_path / name for name in ("old", "rest", "base"))
+    old.write_text(COMPARED)
+    made = imports("--desk", desk, "--host", f"{host}={old}", "--rest", str(rest))
+    assert made.returncode == 0 and "DESK_OK" in made.stdout, made
+    for more, status, said in CHANGES:
+        base.write_text(made.stdout + more)
+        words = ["compare", "--old", str(old), "--rest", str(rest), "--base", str(base), host]
+        ran = imports(*words)
+        assert (ran.returncode, said in ran.stdout) == (status, True), (more, ran)
+    base.write_text(made.stdout)
+    without = imports("compare", "--old", str(old), "--base", str(base), host)
+    assert without.returncode == 3 and "less: nobody: (root) [Options: noexec] /usr/bin/less" in without.stdout
+
+
+def test_compare_with_a_folder(imports: Run, desk: str, tmp_path: Path) -> None:
+    """The old file includes the files that were kept with it, and not those of now."""
+    needs_sudo()
+    host = platform.node().partition(".")[0].lower()
+    kept = tmp_path / "kept"
+    (kept / "sudoers.d").mkdir(parents=True)
+    (kept / "sudoers").write_text("Defaults env_reset\n@includedir /etc/sudoers.d\n")
+    (kept / "sudoers.d" / "ops").write_text("nobody ALL = /usr/bin/id, /usr/bin/less -*\n")
+    for path in (kept / "sudoers", kept / "sudoers.d" / "ops"):
+        path.chmod(0o440)
+    rest, base = tmp_path / "rest", tmp_path / "base"
+    made = imports("--desk", desk, "--host", f"{host}={kept}", "--rest", str(rest))
+    words = ["--rest", str(rest), "--base", str(base), host]
+    for text, status, says in ((made.stdout, 0, "0 more, 0 less"), ("", 1, "less: nobody: (root) /usr/bin/id")):
+        base.write_text(text)
+        ran = imports("compare", "--old", str(kept), *words)
+        assert (ran.returncode, says in ran.stdout) == (status, True), ran
+    ran = imports("compare", "--old", str(tmp_path), *words)
+    assert ran.returncode == 2 and ran.stderr == f"desk-import: {tmp_path}: it has no file sudoers\n"
+
+
+def test_what_a_list_of_sudos_has() -> None:
+    listing = """\
+Matching Defaults entries for ann on db1:
+    env_reset, !setenv
+
+User ann may run the following commands on db1:
+
+Sudoers entry: /etc/sudoers
+    RunAsUsers: root, op
+    RunAsGroups: adm
+    Options: !authenticate, !setenv, !noexec
+    NotAfter: 20260101000000Z
+    Commands:
+\t/usr/bin/id -u
+\t!/usr/bin/su
+"""
+    how = "NotAfter: 20260101000000Z; Options: !authenticate, !setenv"
+    assert comparing.rights(listing) == [
+        comparing.Right(target, how, command)
+        for command in ("/usr/bin/id -u", "!/usr/bin/su")
+        for target in ("root", "op", ":adm")
+    ]
+
+
+def needs_sudo() -> None:
     path = f"{os.environ['PATH']}:/usr/sbin:/sbin"
     needed = ("sudo", "visudo", "cvtsudoers", "faketime", "unshare", "setpriv")
     lacks = [name for name in needed if shutil.which(name, path=path) is None]
     if os.geteuid() != 0 or lacks:
         assert not os.environ.get("WHOLE"), f"sudo cannot be asked here: it lacks root or {lacks}"
         pytest.skip(f"sudo cannot be asked here: it lacks root or {lacks}")
+
+
+def ask_sudo(script: str, *words: str) -> None:
+    needs_sudo()
     ran = subprocess.run([sys.executable, script, *words], stdout=subprocess.PIPE, stderr=subprocess.STDOUT, text=True, check=False)
     print(ran.stdout[-400:])
     assert ran.returncode == 0, ran.stdout[-6000:]
@@ -537,8 +807,8 @@ def test_no_base_gives_more_than_its_file(desk: str, pytestconfig: pytest.Config
 
 def test_files_of_others_beside_sudo(desk: str) -> None:
     try:
-        files = fetch.fetched()
-    except fetch.NoNetwork as fault:
+        files = others_sudoers.fetched()
+    except others_sudoers.NoNetwork as fault:
         assert not os.environ.get("WHOLE"), f"the sudoers files of Debian's packages cannot be fetched: {fault}"
         pytest.skip(f"LEFT OUT: the sudoers files of Debian's packages cannot be fetched: {fault}")
     assert len(files) > 25, files

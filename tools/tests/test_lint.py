@@ -311,7 +311,7 @@ def test_a_message_over_several_lines(lint: Run, tmp_path: Path) -> None:
 
 
 def test_words(lint: Run, tmp_path: Path) -> None:
-    assert lint("--explain", "O4").stdout.startswith("O4 BadName (A roster (docs/ROSTER.md))\n  when: a text has not the form")
+    assert lint("--explain", "O4").stdout.startswith("O4 BadName (A roster (docs/ROSTER.md))\n  when: a text is no name or command")
     assert lint("--explain", "badname").stdout == lint("--explain", "O4 BadName").stdout
     assert "(STORE.md, 'When the roster changes')" in lint("--explain", "K1").stdout
     ran = lint("--explain", "Z9")
@@ -427,6 +427,30 @@ def test_warnings_of_a_base(lint: Run, desk: str, tmp_path: Path) -> None:
     assert (said.returncode, said.stdout) == (0, "")
 
 
+GIVES = """\
+Cmnd_Alias SITE_C = /usr/bin/id, \\
+  /usr/bin/vim, !/usr/bin/less
+User_Alias SITE_U = ann
+SITE_U ALL = (ALL) NOPASSWD: ALL, /usr/bin/apt-get install x\\:y, /usr/sbin/visudo
+ann ALL, db1 = SITE_C, !ALL : db2 = NOTAFTER=20260105090000Z /bin/bash, (op) /usr/local/sbin
+root ALL = ALL
+ann ALL = /usr/bin/docker, /usr/bin/python3 "", /usr/local/sbin/
+"""
+
+
+def test_what_a_base_gives_at_all_times(lint: Run, desk: str, tmp_path: Path) -> None:
+    """ALL, shells, visudo, editors, package managers, interpreters, docker; root's own is none."""
+    base = tmp_path / "b.sudo"
+    base.write_text(GIVES)
+    said = lint("--desk", desk, "--strict", str(base))
+    found = re.findall(r":(\d+): warning: (.*?): (.*)", said.stdout)
+    assert said.returncode == 1
+    assert [(line, what) for line, what, why in found if "/bin/ is a link" not in why] == [
+        ("1", "/usr/bin/vim"), ("4", "ALL"), ("4", "/usr/sbin/visudo"), ("5", "/usr/local/sbin"),
+        ("5", "/bin/bash"), ("7", "/usr/bin/docker"), ("7", '/usr/bin/python3 ""'),
+    ]  # fmt: skip
+
+
 COMMENTED = """\
 # User_Alias OLD = /bin/id
 User_Alias SITE_A = ann # was: OLD = /bin/id
@@ -482,7 +506,7 @@ def dated(number: int) -> str:
 
 @pytest.mark.parametrize("person", [lambda _: '"a","b"', dated])
 def test_big_rosters_in_seconds(lint: Run, tmp_path: Path, person: Callable[[int], str]) -> None:
-    """Of processor time, since others may use the machine."""
+    """The seconds are of processor time, since others may use the machine."""
     (tmp_path / "r.toml").write_text(crowd(person))
     before = resource.getrusage(resource.RUSAGE_CHILDREN)
     assert lint("--on", "20260101", str(tmp_path / "r.toml")).returncode == 0

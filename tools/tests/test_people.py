@@ -16,7 +16,8 @@ from urllib.parse import quote
 import pytest
 
 from desk_tools import people_settings
-from desk_tools.directory import Ldap, Unsure, on_call
+from desk_tools.calendars import Named, on_call
+from desk_tools.directory import Ldap, Unsure, unseen
 from desk_tools.roster_text import Days
 from conftest import ROOT
 from running import until
@@ -87,6 +88,7 @@ END:VCALENDAR
 """
 # settings that are surely wrong, and what is said of each
 GROUP, TURNS = '[duties.audit]\ngetent = "root"\n', '[duties.audit]\ncalendar = "x"\n'
+BY_ADDRESS = f'{TURNS}person = "attendee"\n'
 WRONG = (
     ("duties = 3\n", "duties: a table is expected, below a line [duties]"),
     ("[duties]\naudit = 3\n", "duties.audit: a table is expected, below a line [duties.audit]"),
@@ -112,6 +114,10 @@ WRONG = (
     (f"{TURNS}weeks = 0\n", "duties.audit.weeks: a whole number"),
     (f"{TURNS}weeks = true\n", "duties.audit.weeks: a whole number"),
     (f'{TURNS}weeks = "8"\n', "weeks: a whole number from 1 to 520 is expected, without quotes"),
+    (f'{GROUP}domain = "site"\n', "duties.audit.domain: only a calendar has it"),
+    (f'{TURNS}domain = "site"\n', 'audit.domain: only person = "attendee" has it: leave it out'),
+    (f'{BY_ADDRESS}domain = "@site"\n', "audit.domain: what stands behind the @ is expected"),
+    (f"{BY_ADDRESS}domain = 3\n", "audit.domain: what stands behind the @ is expected"),
 )
 # events of bob that are not sure, and what is said of each
 DAY, TIME = "DTSTART;VALUE=DATE:20260401", "DTSTART:20260401T120000Z"
@@ -291,7 +297,7 @@ def test_ends_of_contractors(room: Room, directory: Directory) -> None:
 
 
 def refused(room: Room, settings: str, said: str) -> None:
-    """It changes nothing, and says why."""
+    """desk-roster changes nothing, and says why."""
     ran = room.run(settings, "--write")
     assert ran.returncode == 2 and room.roster.read_text() == ROSTER, ran
     assert re.search(said, ran.stderr) and ran.stderr.endswith(": nothing is changed\n"), ran
@@ -383,6 +389,32 @@ def test_a_table(room: Room) -> None:
     refused(room, settings, "people.csv:3: a line without person or duty")
     table.write_text("")
     refused(room, settings, "its first line names the columns person and duty")
+    table.write_text("person,duty,duty\nbob,operate-db,approve-db\n")
+    refused(room, settings, "names the columns person and duty, each once")
+
+
+def test_a_row_that_is_not_read(room: Room) -> None:
+    """By a slip in the duty somebody would lose a right, and nobody would be told."""
+    table = room.folder / "people.csv"
+    settings = f'[duties.approve-db]\ncsv = "{table}"\n'
+    for row, said in (
+        ("hana,aprove-db", ":3: the roster has no duty 'aprove-db'"),
+        ("hana,approve-db ", ":3: a blank before or behind 'hana' or 'approve-db '"),
+        (" hana,approve-db", ":3: a blank before or behind ' hana' or 'approve-db'"),
+        ("hana,Approve-DB", ":3: the roster has no duty 'Approve-DB'"),
+        ("# hana,approve-db", ":3: no roster has such a name|no roster has such a name"),
+    ):
+        table.write_text(f"person,duty\nbob,approve-db\n{row}\n")
+        refused(room, settings, said)
+    table.write_text("person,duty\nbob,approve-db\nann,operate-db\ncarol,operate-db\n")
+    ran = room.run(settings)
+    assert [it.partition(": not read: ")[0] for it in ran.stderr.splitlines()] == [
+        f"desk-roster: {table}:3",
+        f"desk-roster: {table}:4",
+    ], ran
+    assert "no [duties.operate-db] of the settings names this file" in ran.stderr, ran
+    ran = room.run(f'{settings}[duties.operate-db]\ncsv = "{table}"\n')
+    assert ran.stderr == "", ran
 
 
 def test_weeks_of_a_calendar(room: Room) -> None:
@@ -409,7 +441,7 @@ def called(room: Room, *events: str) -> dict[str, list[Days]]:
     """Who is on call by these events beside those of CALENDAR."""
     text = CALENDAR.replace("END:VCALENDAR", f"{''.join(events)}END:VCALENDAR")
     (room.folder / "on-call.ics").write_text(text)
-    return on_call(f"{room.folder}/on-call.ics", "summary", TODAY, 26)
+    return on_call(f"{room.folder}/on-call.ics", Named(), TODAY, 26, print)
 
 
 @pytest.mark.parametrize("rest, said", UNSURE, ids=[it[0].splitlines()[-1] for it in UNSURE])
@@ -431,6 +463,92 @@ def test_events_that_are_sure(room: Room) -> None:
     assert found["bob"] == [Days("20260401", "20260402"), Days("20260501", "20260502")]
     found = called(room, EVENT.format(uid=3, who="bob", rest=BERLIN))
     assert found["bob"] == [Days("20260331", "20260401"), Days("20260407", "20260408")]
+
+
+def of_attendee(said: str, more: str = "") -> str:
+    """An event of bob's that has this attendee."""
+    return EVENT.format(uid=3, who="duty", rest=f"{ONE}\nATTENDEE{said}{more}")
+
+
+NO_TURNS = (
+    ("STATUS:TENTATIVE", "its STATUS is TENTATIVE"),
+    ("STATUS:cancelled", "its STATUS is cancelled"),
+)
+NOT_THERE = (
+    (";PARTSTAT=DECLINED:mailto:bob@site.example", "its PARTSTAT is DECLINED"),
+    (";PARTSTAT=TENTATIVE:mailto:bob@site.example", "its PARTSTAT is TENTATIVE"),
+    (";PARTSTAT=DELEGATED:mailto:bob@site.example", "its PARTSTAT is DELEGATED"),
+    (";ROLE=NON-PARTICIPANT:mailto:bob@site.example", "its ROLE is NON-PARTICIPANT"),
+    (":mailto:bob@site.example", ""),
+    (";PARTSTAT=ACCEPTED;ROLE=CHAIR;CUTYPE=INDIVIDUAL:MAILTO:bob@Site.Example", ""),
+    (";PARTSTAT=NEEDS-ACTION;RSVP=TRUE:Mailto:bob@site.example", ""),
+)
+UNSURE_PEOPLE = (
+    (":mailto:bob@evil.example", "no roster has such a name: 'bob@evil.example'; give each ano"),
+    (":mailto:bob@site.example.evil", "no roster has such a name: 'bob@site.example.evil'"),
+    (":mailto:bob@evil.example@site.example", "no roster has such a name: 'bob@evil.example'"),
+    (":mailto:bob", "no roster has such a name: 'mailto:bob'"),
+    (":mailto:bob@", "no roster has such a name: 'bob@'"),
+    (":invalid:bob@site.example", "no roster has such a name: 'invalid:bob@site.example'"),
+    (";PARTSTAT=X-LATER:mailto:bob@site.example", "the event 'duty' has the PARTSTAT X-LATER"),
+    (";ROLE=OPT-PARTICIPANT:mailto:bob@site.example", "has the ROLE OPT-PARTICIPANT"),
+    (";CUTYPE=GROUP:mailto:bob@site.example", "the event 'duty' has the CUTYPE GROUP"),
+)
+
+
+def by_attendee(room: Room, event: str, more: str = "") -> subprocess.CompletedProcess[str]:
+    """desk-roster over a calendar of this event alone."""
+    head, tail = CALENDAR.partition("BEGIN:VEVENT")[0], "END:VCALENDAR\n"
+    (room.folder / "on-call.ics").write_text(f"{head}{event}{tail}")
+    duty = f'[duties.on-call]\ncalendar = "{room.folder}/on-call.ics"\nperson = "attendee"\n'
+    return room.run(f'{duty}domain = "site.example"\nmay_be_empty = true\n{more}')
+
+
+@pytest.mark.parametrize("said, why", NOT_THERE, ids=[it[0] for it in NOT_THERE])
+def test_an_attendee_who_is_not_on_call(room: Room, said: str, why: str) -> None:
+    ran = by_attendee(room, of_attendee(said))
+    given = "bob has on-call not at all, then from 20260401 until 20260403" in ran.stdout
+    assert ran.returncode == 1 and given == (why == ""), ran
+    told = f"the event 'duty' gives no duty: {why}\n" if why else ""
+    assert ran.stderr.partition("on-call.ics: ")[2] == told, ran
+
+
+@pytest.mark.parametrize("said, why", UNSURE_PEOPLE, ids=[it[0] for it in UNSURE_PEOPLE])
+def test_an_attendee_who_may_be_somebody_else(room: Room, said: str, why: str) -> None:
+    ran = by_attendee(room, of_attendee(said))
+    assert ran.returncode == 2 and re.search(why, ran.stderr), ran
+
+
+def test_an_address_of_another_domain_has_a_name_of_its_own(room: Room) -> None:
+    event = of_attendee(":mailto:bob@partner.example")
+    ran = by_attendee(room, event, '[names]\n"bob@partner.example" = "bobby"\n')
+    assert ran.returncode == 1 and "bobby has on-call not at all, then from 2026" in ran.stdout, ran
+
+
+@pytest.mark.parametrize("said, why", NO_TURNS, ids=[it[0] for it in NO_TURNS])
+def test_an_event_that_is_no_turn(
+    room: Room, said: str, why: str, capsys: pytest.CaptureFixture[str]
+) -> None:
+    found = called(room, EVENT.format(uid=3, who="bob", rest=f"{ONE}\n{said}"))
+    assert "bob" not in found and set(found) == {"ann", "carol"}, found
+    assert f"the event 'bob' gives no duty: {why}" in capsys.readouterr().out
+    assert "bob" in called(room, EVENT.format(uid=3, who="bob", rest=f"{ONE}\nSTATUS:CONFIRMED"))
+    with pytest.raises(Unsure, match="the event 'bob' has the STATUS X-MAYBE"):
+        called(room, EVENT.format(uid=3, who="bob", rest=f"{ONE}\nSTATUS:X-MAYBE"))
+    # (a turn of a series that is not sure, and the others are)
+    turn = TURN.replace("carol", "bob").replace("SEQUENCE:0", f"SEQUENCE:0\n{said}")
+    assert called(room, SERIES, turn)["bob"] == [Days("20260401", "20260403")]
+
+
+def test_a_message_about_events_is_no_calendar(room: Room) -> None:
+    settings = f'[duties.on-call]\ncalendar = "{room.folder}/on-call.ics"\n'
+    for method in ("CANCEL", "REQUEST", "REPLY", "COUNTER", "X-ANY", "cancel"):
+        text = CALENDAR.replace("VERSION:2.0", f"VERSION:2.0\nMETHOD:{method}")
+        (room.folder / "on-call.ics").write_text(text)
+        refused(room, settings, f"its METHOD is {method}: it is a message about events")
+    text = CALENDAR.replace("VERSION:2.0", "VERSION:2.0\nMETHOD:Publish")
+    (room.folder / "on-call.ics").write_text(text)
+    assert room.run(settings).returncode == 1
 
 
 def test_events_that_do_not_fit_together(room: Room) -> None:
@@ -486,3 +604,12 @@ def test_the_grants_that_change(room: Room, directory: Directory, desk: str) -> 
     room.roster = served
     ran = room.run(by_ldap(directory), "--write")
     assert ran.returncode == 2 and "the desk is served with this file" in ran.stderr, ran
+
+
+def test_whom_getent_does_not_see(tmp_path: Path) -> None:
+    """A directory lists nobody by default (sssd, winbind)."""
+    switch = tmp_path / "nsswitch.conf"
+    for text, is_told in (("passwd: files\ngroup: files\n", False), ("passwd: files sss\n", True)):
+        switch.write_text(text)
+        said = unseen("ops", str(switch))
+        assert (said is not None and "first group" in said) == is_told

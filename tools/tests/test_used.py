@@ -21,6 +21,7 @@ import jsonschema
 import pytest
 
 from desk_tools.decisions import Desk, Invocation, Question
+from desk_tools.peers import BadPeers, Peers
 from desk_tools.sudo_logs import Logs, Run, read_log, without_exits
 from desk_tools.use import Done, done_of, grants_of
 from steelnewt_client.moments import seconds
@@ -68,15 +69,19 @@ ENTRY = {
     "__REALTIME_TIMESTAMP": f"{seconds('20260105092000Z')}000000",
     "_HOSTNAME": "db1",
     "SYSLOG_IDENTIFIER": "sudo",
+    "_EXE": "/usr/bin/sudo",
     "MESSAGE": f"     ann : {WAS}",
 }
+OF_NOBODY = {key: value for key, value in ENTRY.items() if key != "_EXE"}
 OBJECTS: tuple[tuple[dict[str, Any], int], ...] = (
     ({"accept": EVENT}, 0),
     ({"sudo": {"accept": EVENT}}, 0),
     (ENTRY, 0),
-    (ENTRY | {"MESSAGE": list(ENTRY["MESSAGE"].encode()), "_EXE": "/usr/bin/sudo"}, 0),
+    (ENTRY | {"MESSAGE": list(ENTRY["MESSAGE"].encode())}, 0),
     (ENTRY | {"MESSAGE": "@cee:" + json.dumps({"sudo": {"accept": EVENT}})}, 0),
     (ENTRY | {"_EXE": "/tmp/sudo"}, 1),
+    (OF_NOBODY, 1),
+    (OF_NOBODY | {"_COMM": "sudo"}, 1),
     ({"accept": EVENT | {"submituser": 7}}, 1),
     ({"accept": 7}, 1),
     ({"what": EVENT}, 1),
@@ -92,7 +97,9 @@ def pretty(*events: tuple[str, dict[str, Any]]) -> str:
 
 def read(path: Path, text: str | bytes, host: str = "", year: int = 2026) -> Logs:
     path.write_bytes(text if isinstance(text, bytes) else text.encode())
-    logs = Logs()
+    peers = path.with_name("peers")
+    peers.write_text("10.0.0.1 db1\n")
+    logs = Logs(peers=Peers(str(peers)))
     read_log(logs, str(path), host, year)
     without_exits(logs)
     return logs
@@ -156,8 +163,46 @@ def test_a_log_server_may_be_late(tmp_path: Path) -> None:
     assert [at for _, at in ran(logs)] == [moments]
 
 
+PEERS = """\
+# as in hosts(5)
+10.0.0.1     db1.site.example db1
+2001:db8::1  DB2  # in the other hall
+10.0.0.9     relay db3 db4
+"""
+
+
+def test_root_on_one_host_does_not_speak_for_another(tmp_path: Path) -> None:
+    """A log server says from where an event came, and its sender which host it is."""
+    (tmp_path / "peers").write_text(PEERS)
+    peers = Peers(str(tmp_path / "peers"))
+    for host, address, is_its in (
+        ("db1", "10.0.0.1", True),
+        ("db1.evil.example", "10.0.0.1", True),
+        ("db1", "::ffff:10.0.0.1", True),
+        ("db2", "2001:DB8:0::1", True),
+        ("db1", "10.0.0.2", False),
+        ("db2", "10.0.0.1", False),
+        ("db3", "10.0.0.9", True),
+        ("none", "10.0.0.1", False),
+        ("db1", "", False),
+    ):
+        logs = Logs(peers=peers)
+        event = EVENT | {"submithost": host, "peeraddr": address}
+        (tmp_path / "log").write_text(pretty(("accept", event)))
+        read_log(logs, str(tmp_path / "log"), "", 2026)
+        assert [len(logs.runs), logs.count_unread] == [is_its, not is_its], (host, address)
+        for it in logs.unread:
+            assert it.why == f"{address} sent it, which is no known address of {host}: see --peers"
+    by_name = Peers()
+    assert by_name.are("localhost", "127.0.0.1") and not by_name.are("localhost", "10.0.0.1")
+    assert not by_name.are("no-such-host.invalid", "127.0.0.1")
+    (tmp_path / "peers").write_text(f"{PEERS}db5 10.0.0.5\n")
+    with pytest.raises(BadPeers, match="peers:5: db5 is no address"):
+        Peers(str(tmp_path / "peers"))
+
+
 def test_a_log_that_is_cut_anywhere(tmp_path: Path) -> None:
-    """It never has a run that the whole log has not, and says what it lost."""
+    """A cut log never has a run that the whole log has not, and says what it lost."""
     classic = "".join(f"{head}{WAS}{no}\n" for no, head in enumerate(HEADS))
     wrapped = "Jan  5 09:20:00 2026 : ann : HOST=db1 ; PWD=/ ; USER=root ;\n    COMMAND=/bin/id a\n"
     events = pretty(*[("accept", EVENT | {"runargv": ["id", str(no)]}) for no in range(3)])
@@ -419,6 +464,61 @@ def test_beside_sudo(desk: str) -> None:
     assert ran.returncode == 0, ran.stdout[-6000:] + ran.stderr[-2000:]
 
 
+@pytest.mark.parametrize("script", ["beside_logs_that_fail.py", "beside_journal.py"])
+def test_beside_logs_that_lose(desk: str, script: str) -> None:
+    """Beside the real sudo, journald and rsyslogd, where something is not written."""
+    words = [sys.executable, os.path.join(ROOT, "tools", "tests", script)]
+    told = subprocess.run(words, env=os.environ | {"DESK": desk}, capture_output=True, text=True)
+    assert told.returncode == 0, (told.stdout, told.stderr)
+
+
+LOSSES = (
+    ("systemd-journald[9]: Suppressed 12 messages from session-3.scope", "Suppressed 12 messages"),
+    ("systemd-journald[9]: Forwarding to syslog missed 3 messages.", "Forwarding to syslog missed"),
+    ("systemd-journald: Failed to write entry (22 items, 700 bytes), ignoring: No", "Failed to wr"),
+    ("rsyslogd: imuxsock[pid: 28, name: x]: 25 messages lost due to rate-limiting (5", "25 messag"),
+    ("rsyslogd: imuxsock[pid: 28] from <db1:sudo>: begin to drop messages due to rate", "begin to"),
+    ("rsyslogd[1]: file '/var/log/auth.log'[7] write error - see https", "write error - see"),
+    ("rsyslogd: action 'action-1-builtin:omfile' (module 'x') message lost, could", "message lost"),
+)
+NO_LOSSES = (
+    "systemd-journald[9]: Journal started",
+    "rsyslogd: [origin software=x] start",
+    "myprogram: Suppressed 12 messages from session-3.scope",
+    "sshd[3]: rsyslogd: write error",
+)
+
+
+def test_lines_that_a_log_says_it_lost(tmp_path: Path, used: Tell) -> None:
+    """What may be missing is unread, on the host that says it."""
+    run = f"{HEADS[0]}{WAS}\n"
+    for said, shown in LOSSES:
+        for host in ("db1 ", ""):
+            logs = read(tmp_path / "log", f"{run}Jan  5 09:21:00 {host}{said}\n")
+            assert len(logs.runs) == 1 and logs.count_unread == 1, said
+            why = logs.unread[0].why
+            assert why.startswith(f"lines of {host.strip() or 'its host'} are lost: "), why
+            assert shown in why, why
+        program, _, words = said.partition(": ")
+        entry = OF_NOBODY | {"SYSLOG_IDENTIFIER": program.partition("[")[0], "MESSAGE": words}
+        logs = read(tmp_path / "log", json.dumps(entry) + "\n")
+        assert [it.why for it in logs.unread] == [why.replace("its host", "db1")], said
+    for said in NO_LOSSES:
+        logs = read(tmp_path / "log", f"{run}Jan  5 09:21:00 db1 {said}\n")
+        assert len(logs.runs) == 1 and not logs.count_unread, said
+    told, status = used(f"{run}Jan  5 09:21:00 db1 {LOSSES[0][0]}\n")
+    assert status == 1 and told["logs"]["unread"] == 1, told
+
+
+def test_a_line_whose_end_was_not_written(tmp_path: Path) -> None:
+    """The next one begins in its middle: neither is anybody's."""
+    for head in (HEADS[0], HEADS[6]):
+        first, second = f"{head}{WAS}", f"{head.replace('ann', 'bob')}{WAS}"
+        for cut in range(len(head), len(first)):
+            logs = read(tmp_path / "log", f"{first[:cut]}{second}\n")
+            assert not logs.runs and logs.count_unread == 1, (first[:cut], logs)
+
+
 def test_grants_are_those_of_the_audit(audit: str) -> None:
     with open(audit, encoding="utf-8") as file:
         (grant,) = grants_of(json.load(file))
@@ -426,7 +526,7 @@ def test_grants_are_those_of_the_audit(audit: str) -> None:
 
 
 def test_a_command_that_syslog_splits(tmp_path: Path) -> None:
-    """Its pieces are joined, whatever comes between of others; a piece alone is no run."""
+    """A command's pieces are joined, whatever lines of others come between; a piece is no run."""
     text = line("20260105092000Z", "root ; COMMAND=/usr/bin/id a").rstrip("\n")
     more = text.partition(" : ")[0] + " : (command continued) "
     other = line("20260105092001Z", "root ; COMMAND=/usr/bin/id x", user="kim")
@@ -560,7 +660,7 @@ def test_a_run_late_enough_for_the_time_asked_about(
 def test_a_run_after_a_grant_was_revoked_before_it_began(
     used: Tell, desk: str, tmp_path: Path, audit: str
 ) -> None:
-    """It has no window; a request that nobody approved in time was on no host."""
+    """Such a grant has no window; a request that nobody approved in time was on no host."""
     window = ("20260105130000Z", "20260105140000Z")
     revoke = "20260105120000Z"
     rows = (
@@ -656,7 +756,7 @@ def test_a_form_that_is_not_known_is_unread(tmp_path: Path, used: Tell) -> None:
 
 
 def test_a_roster_of_toml_1_1(used: Tell, tmp_path: Path) -> None:
-    """It may have a table over several lines, as a desk reads it; a fault is told with its line."""
+    """A table may stand over several lines, as a desk reads it; a fault is told with its line."""
     with open(ROSTER, encoding="utf-8") as file:
         text = file.read()
     roster = tmp_path / "roster.toml"
@@ -669,3 +769,46 @@ def test_a_roster_of_toml_1_1(used: Tell, tmp_path: Path) -> None:
     roster.write_text(text + "\n]")
     with pytest.raises(AssertionError, match=f"roster.toml:{text.count(chr(10)) + 2}: a key is"):
         used(log, *options, str(roster))
+
+
+def start(when: str, command: str = "/usr/bin/id", **more: Any) -> str:
+    """A line of `desk-host starts`."""
+    told = {"form": 1, "at": seconds(when), "name": "7-9", "user": "ann", "runas": "root"}
+    return json.dumps(told | {"command": command, "words": ["id", "-u"], "boot": "b"} | more) + "\n"
+
+
+def test_a_start_without_a_line(used: Tell, tmp_path: Path) -> None:
+    with open(os.path.join(ROOT, "tools", "schemas", "used.schema.json"), "rb") as file:
+        schema = json.load(file)
+    moments = ("20260105092000Z", "20260105094000Z")
+    log = "".join(line(it, "root ; COMMAND=/usr/bin/id -u") for it in moments)
+    kept = tmp_path / "starts"
+    for text, unlogged, lost in (
+        (start("20260105092001Z") + start("20260105093959Z"), [], 0),
+        # (one that is there twice, since a run was killed; a prompt that was open before; and what
+        # came before the log)
+        (start("20260105092001Z") * 2 + start("20260105094300Z"), [], 0),
+        (start("20260105091000Z") + start("20260105092000Z"), [], 0),
+        # (between two that have a line; another command; another user; more than there are lines)
+        (
+            start("20260105092001Z") + start("20260105093000Z") + start("20260105094000Z"),
+            ["20260105093000Z"],
+            0,
+        ),
+        (start("20260105092000Z", "/usr/bin/env"), ["20260105092000Z"], 0),
+        (start("20260105092000Z", user="bob"), ["20260105092000Z"], 0),
+        # (an edit, which a log may have as a run of the editor)
+        (start("20260105092000Z", edit=True), [], 0),
+        (start("20260105092000Z", "/usr/bin/vi", edit=True), ["20260105092000Z"], 0),
+        (start("20260105095900Z"), ["20260105095900Z"], 0),
+        ('{"at": 7, "lost": "lines of starts were lost"}\n', [], 1),
+        ("[]\n{\n" + start("20260105092000Z", words=7), [], 3),
+        (start("20260105092000Z", at=10**15), [], 1),
+    ):
+        kept.write_text(text)
+        for word in (f"--starts=db1={kept}", f"--starts={kept}"):
+            told, status = used(log, word)
+            assert [it["at"] for it in told["unlogged"]] == unlogged, text
+            assert len(told["starts_lost"]) == lost, text
+            assert status == (1 if unlogged or lost else 0), text
+            jsonschema.validate(told, schema)

@@ -1,5 +1,5 @@
-"""Sudoers files of which a base was made once that gave more than the file: each with what else is
-there, a question that sudo answers with no, and why."""
+"""Sudoers files whose bases once gave more than the file: each with its other files, a question to
+which sudo answers no, and why."""
 
 from typing import NamedTuple
 
@@ -166,6 +166,26 @@ WIDENERS = [
         "ann ALL = NOPASSWD: NOEXEC: C\n",
         asks=("ann", "db1", "root", "/bin/sh", "-c", "/bin/true; exit $?"),
         is_run=True,
+    ),
+    *(
+        Widener(
+            f"a PASSWD beside Defaults{scope} !authenticate",
+            f"Defaults{scope} !authenticate\n"
+            "ann ALL = (root) /srv/bin/ls, PASSWD: /srv/bin/kill\n",
+            is_run=True,
+        )
+        for scope in ("", ":ann", "!/srv/bin/kill", ">root")
+    ),
+    Widener(
+        "Defaults of an alias of which a part cannot be said",
+        "Cmnd_Alias A1 = /bin/sh, /srv/bin/l*\nDefaults!A1 noexec\n"
+        "ann ALL = NOPASSWD: /bin/sh, A1\n",
+        asks=("ann", "db1", "root", "/bin/sh", "-c", "/bin/true; exit $?"),
+        is_run=True,
+    ),
+    Widener(
+        "an alias that the host has for something else",
+        "Cmnd_Alias A1 = /srv/bin/ls\nDefaults!A1 !lecture\nann ALL = A1\n",
     ),
     Widener("a time of the host's own zone", "ann ALL = NOTBEFORE=2026010510 ALL\n"),
 ]

@@ -1,13 +1,13 @@
 //! The connections of a service, and whose turn it is.
 
-use crate::connection::{Buffers, Connection, Next};
-use crate::log::Log;
+use crate::connection::{Buffers, Connection, Next, Peer, Step};
+use crate::log::{Answered, Log};
 use crate::ready::Ready;
 use crate::socket::{Listener, Stream};
 use desk::{Desk, Keeper, Refusal};
 use mio::event::Events;
 use mio::{Interest, Poll, Token};
-use relay_http::{Routes, ServeFault};
+use relay_http::{HttpResponse, Received, Routes, ServeFault};
 use std::alloc::{AllocFailed, Global};
 use std::collections::VecDeque;
 use std::io::{self, ErrorKind};
@@ -206,47 +206,79 @@ impl Service {
         }
     }
 
-    /// Puts a connection back, to wait for its peer or for its turn, or ends it.
-    fn settle(
-        &mut self,
-        rt: &HostRuntime,
-        log: &mut Log,
-        at: usize,
-        mut connection: Connection,
-        next: Next,
-    ) {
+    /// Puts a connection back, to wait for its peer, or ends it.
+    fn settle(&mut self, rt: &HostRuntime, log: &mut Log, at: usize, next: Next) {
         match next {
-            Next::Waits => match connection.watch(self.poll.registry(), Token(at)) {
-                Ok(()) => self.put(at, connection),
-                Err(_) => self.end(rt, log, connection.fault()),
-            },
-            Next::Lingers => match connection.unwatch(self.poll.registry()) {
+            Next::Waits(mut connection) => {
+                match connection.watch(self.poll.registry(), Token(at)) {
+                    Ok(()) => self.put(at, connection),
+                    Err(_) => self.end(rt, log, connection.fault()),
+                }
+            }
+            Next::Lingers(mut connection) => match connection.unwatch(self.poll.registry()) {
                 Ok(()) => self.linger(rt, log, at, connection),
                 Err(_) => self.end(rt, log, None),
             },
-            Next::IsWhole => {
-                match self.queues.push(at, connection.is_post()) {
-                    Ok(()) => self.put(at, connection),
-                    Err(_) => self.end(rt, log, Some(ServeFault::NoMemory)),
-                }
-            }
             Next::Ends => self.end(rt, log, None),
             Next::Fails(fault) => self.end(rt, log, Some(fault)),
         }
     }
 
-    /// Goes on with the connection at a place as far as its peer lets it. Once its request is
-    /// whole, it waits for its turn.
+    /// Has a request that has come wait for its turn. Where memory runs out for that, the response
+    /// says so.
+    fn queue(
+        &mut self,
+        rt: &HostRuntime,
+        log: &mut Log,
+        at: usize,
+        peer: Peer,
+        received: Received,
+        now: u64,
+    ) {
+        match self.queues.push(at, received.is_post()) {
+            Ok(()) => self.put(at, peer.wait_for_turn(received)),
+            Err(_) => {
+                let response = received.starve(&self.routes);
+                self.respond(rt, log, at, peer, response, now);
+            }
+        }
+    }
+
+    /// Begins to send a response, and says a 503 in the log.
+    fn respond(
+        &mut self,
+        rt: &HostRuntime,
+        log: &mut Log,
+        at: usize,
+        peer: Peer,
+        response: HttpResponse,
+        now: u64,
+    ) {
+        if let Some(line) = Answered::of(response.status, response.refusal) {
+            log.say(rt, &line);
+            if line.is_of_storage() {
+                self.doubt(now);
+            }
+        }
+        let next = peer.respond(response.rest, &mut self.buffers, now);
+        self.settle(rt, log, at, next);
+    }
+
+    /// Goes on with the connection at a place as far as its peer lets it. Once its request has
+    /// come, it waits for its turn.
     fn go_on(&mut self, rt: &HostRuntime, log: &mut Log, at: usize, now: u64) {
-        let Some(mut connection) = self.take(at) else {
+        let Some(connection) = self.take(at) else {
             return;
         };
         if connection.is_received() {
             self.put(at, connection);
             return;
         }
-        let next = connection.go_on(&self.routes, &mut self.buffers, now);
-        self.settle(rt, log, at, connection, next);
+        match connection.go_on(&self.routes, &mut self.buffers, now) {
+            Step::Goes(next) => self.settle(rt, log, at, next),
+            Step::Came(peer, received) => self.queue(rt, log, at, peer, received, now),
+            Step::Responds(peer, response) => self.respond(rt, log, at, peer, response, now),
+        }
     }
 
     /// Has the desk answer the request of the connection at a place, and begins to send the
@@ -259,21 +291,16 @@ impl Service {
         at: usize,
     ) -> io::Result<()> {
         let began = Instant::now(rt)?;
-        let Some(mut connection) = self.take(at) else {
+        let Some(connection) = self.take(at) else {
             return Ok(());
         };
         let answered = connection.answer(rt.alloc(), &self.routes, desk);
         self.busy = self.busy.saturating_add(millis(began.elapsed(rt)?));
         let now = self.now(rt)?;
-        if let Some(line) = answered {
-            log.say(rt, &line);
-            if line.is_of_storage() {
-                self.doubt(now);
-            }
+        match answered {
+            Ok((peer, response)) => self.respond(rt, log, at, peer, response, now),
+            Err(connection) => self.put(at, connection),
         }
-        connection.begin_response(now);
-        let next = connection.go_on(&self.routes, &mut self.buffers, now);
-        self.settle(rt, log, at, connection, next);
         Ok(())
     }
 
@@ -366,7 +393,7 @@ impl Service {
             let Some(pace) = connection.pace(now) else {
                 continue;
             };
-            let rank = (pace, connection.due, connection.arrival);
+            let rank = (pace, connection.due(), connection.arrival());
             found = match found {
                 Some((_, first)) if first <= rank => found,
                 _ => Some((at, rank)),
@@ -464,7 +491,7 @@ impl Service {
     fn let_due_go(&mut self, rt: &HostRuntime, log: &mut Log, now: u64) {
         for at in 0..self.places.len() {
             let is_due = match self.places.get(at) {
-                Some(Some(connection)) => connection.due <= now,
+                Some(Some(connection)) => connection.due() <= now,
                 _ => false,
             };
             if is_due {
@@ -496,7 +523,7 @@ impl Service {
         }
         for at in 0..self.places.len() {
             if let Some(connection) = &self.places[at] {
-                first = Some(first.unwrap_or(u64::MAX).min(connection.due));
+                first = Some(first.unwrap_or(u64::MAX).min(connection.due()));
             }
         }
         first.map(|due| Duration::from_millis(due.saturating_sub(now).saturating_add(1)))

@@ -9,9 +9,9 @@ use Rattle.httparse.proofs.GrammarLemmas.{request_unique}
 use Rattle.sudo_policy.specs.declared.entry.Entry.{Entry}
 use Rattle.messages.specs.declared.message.Message.{Message}
 use Rattle.roster.specs.Fields.{Reading}
-use Rattle.store_schema.specs.Beside.{TableWithRows}
 use Rattle.desk_store.specs.Keeping.{HasFailed}
-use Rattle.desk_store.specs.Serving.{IsServed}
+use Rattle.desk_store.specs.Serves.{Serves}
+use Rattle.desk_store.specs.declared.keeper.Keeper.{Ghosts}
 use Rattle.desk_store.proofs.ServingLemmas.{served_as}
 use Rattle.relay_http.specs.Request.{Action, Request, deliver, all_messages, count, grants, parked, host_file, host_file_after, report, refused}
 use Rattle.relay_http.specs.Request.{requests, requests_after, named_request}
@@ -127,13 +127,13 @@ only_done_leaves Same old new (host_file_after host at) response left = inl left
 only_done_leaves Same old new (report at) response left = inl left
 only_done_leaves Same old new (refused fault) response left = inl left
 
-module _ (roster : Reading) (base : List Entry) (IsUp : Type 0) (old new : Message
-    → Type 0) (Same : Type 0) (Served : Type 0 → Type 0 → Type 0) (Wrote : List ℕ → Type 0) where
+module _ {K : Type 0} (g : Ghosts K) (roster : Reading) (base : List Entry) (before after : K) (Wrote : List ℕ → Type 0) where
   -- an exchange changes nothing, or it is acknowledged
-  pub changes : (bytes : List ℕ) (request : Request ℕ) → IsHttpRequest bytes request → IsExchange roster base IsUp old new Same Served Wrote request → IsUp
-      → Same ⊎ IsAcknowledged bytes Wrote
+  pub changes : (bytes : List ℕ) (request : Request ℕ) → IsHttpRequest bytes request → IsExchange g roster base before after Wrote request → g.is_up after
+      → g.is_same before after ⊎ IsAcknowledged bytes Wrote
   changes bytes request asks x up =
-      elim (only_done_leaves Same old new request.action x.response (x.answered.leaves up)) as (λ _. Same ⊎ IsAcknowledged bytes Wrote) [
+      elim (only_done_leaves (g.is_same before after) (g.holds before) (g.holds after) request.action x.response (x.answered.leaves up))
+      as (λ _. g.is_same before after ⊎ IsAcknowledged bytes Wrote) [
         | inl same ↦ inl same
         | inr d ↦ let post = delivery_is_post bytes request d.0 d.1 asks d.2 in
             inr (
@@ -147,10 +147,10 @@ module _ (roster : Reading) (base : List Entry) (IsUp : Type 0) (old new : Messa
       ]
 
   -- a head with another method is not that of a POST
-  pub queries : (bytes : List ℕ) (request : Request ℕ) → IsHttpRequest bytes request → IsExchange roster base IsUp old new Same Served Wrote request → IsUp
-      → (head : RequestHead) → HasHead bytes head → head.method ≢ codes "POST" → Same
+  pub queries : (bytes : List ℕ) (request : Request ℕ) → IsHttpRequest bytes request → IsExchange g roster base before after Wrote request → g.is_up after
+      → (head : RequestHead) → HasHead bytes head → head.method ≢ codes "POST" → g.is_same before after
   queries bytes request asks x up head has differs =
-      elim (changes bytes request asks x up) as (λ _. Same) [
+      elim (changes bytes request asks x up) as (λ _. g.is_same before after) [
         | inl same ↦ same
         | inr ack ↦ let one : head ≡ ack.0.head = (request_unique (front bytes) head ack.0.head has.0.0 ack.0.has.0.0 has.0.1 ack.0.has.0.1).0 in
             absurd (differs (ap (λ (h : RequestHead). h.method) one ∙ ack.0.method))
@@ -159,22 +159,20 @@ module _ (roster : Reading) (base : List Entry) (IsUp : Type 0) (old new : Messa
   -- the same, of all the bytes of a stream
   pub all_changes : (known : Option (List ℕ)) (bytes : List ℕ) (read : Request ℕ) → IsHttpRequest bytes read
       → IfSome known (λ all. (request : Request ℕ) → IsHttpRequest bytes request → IsHttpRequest all request)
-      → IsExchange roster base IsUp old new Same Served Wrote read → IsUp → IfSome known (λ all. Same ⊎ IsAcknowledged all Wrote)
+      → IsExchange g roster base before after Wrote read → g.is_up after → IfSome known (λ all. g.is_same before after ⊎ IsAcknowledged all Wrote)
   all_changes None bytes read asks more x up = tt
   all_changes (Some all) bytes read asks more x up = changes all read (more read asks) x up
 
   pub all_queries : (known : Option (List ℕ)) (bytes : List ℕ) (read : Request ℕ) → IsHttpRequest bytes read
       → IfSome known (λ all. (request : Request ℕ) → IsHttpRequest bytes request → IsHttpRequest all request)
-      → IsExchange roster base IsUp old new Same Served Wrote read → IsUp
-      → IfSome known (λ all. (head : RequestHead) → HasHead all head → head.method ≢ codes "POST" → Same)
+      → IsExchange g roster base before after Wrote read → g.is_up after
+      → IfSome known (λ all. (head : RequestHead) → HasHead all head → head.method ≢ codes "POST" → g.is_same before after)
   all_queries None bytes read asks more x up = tt
   all_queries (Some all) bytes read asks more x up = queries all read (more read asks) x up
 
--- ---- what storage did
+  -- ---- what storage did
 
-pub exchange_served : {K : Type 0} {is_up is_clean : K → Type 0} {failures : K → ℕ} {beside : K → TableWithRows → Type 0} {a b : K} (roster : Reading)
-    (base : List Entry) (IsUp : Type 0) (old new : Message → Type 0) (Same : Type 0) (Wrote : List ℕ → Type 0) (request : Request ℕ)
-    → IsExchange roster base IsUp old new Same (IsServed is_up is_clean failures beside a b) Wrote request
-    → IsServed is_up is_clean failures beside a b ⊥ (WritesServerFailure Wrote)
-exchange_served roster base IsUp old new Same Wrote request x =
-    served_as ⊥ (WritesServerFailure Wrote) (λ none. absurd none) (λ want. (x.response, request.with_body, want, x.wrote)) x.answered.served
+  pub exchange_served : (request : Request ℕ) → IsExchange g roster base before after Wrote request
+      → Serves g before after ⊥ (WritesServerFailure Wrote)
+  exchange_served request x =
+      served_as ⊥ (WritesServerFailure Wrote) (λ none. absurd none) (λ want. (x.response, request.with_body, want, x.wrote)) x.answered.served

@@ -13,3 +13,5 @@ pub mod ExchangeLemmas
 pub mod OutgoingLemmas
 pub mod ScanLemmas
 pub mod StageLemmas
+pub mod ReceivingLemmas
+pub mod StepLemmas

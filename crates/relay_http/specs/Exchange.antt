@@ -8,8 +8,11 @@ use Rattle.sudo_policy.specs.declared.entry.Entry.{Entry}
 use Rattle.messages.specs.declared.message.Message.{Message}
 use Rattle.roster.specs.Fields.{Reading}
 use Rattle.desk_store.specs.Sets.{Lists}
+use Rattle.desk_store.specs.Serves.{Serves}
+use Rattle.desk_store.specs.declared.keeper.Keeper.{Ghosts}
 use Rattle.desk.specs.declared.refusal.Refusal.{Refusal}
 use Rattle.desk.specs.declared.refusal.Refusal.TheVariants.{Storage}
+use Rattle.relay_http.specs.Lasting.{Lasts}
 use Rattle.relay_http.specs.Request.{Action, Request}
 use Rattle.relay_http.specs.Responses.{Response, IsResponse, IsServerFailure, Leaves}
 use Rattle.relay_http.specs.Responses.{ResponseTells, refusal}
@@ -36,21 +39,21 @@ pub record IsAnswered (roster : Reading) (base : List Entry)
   pub leaves : IsUp → Leaves Same old new action response
   pub served : Served (response ≡ refusal Storage) (IsServerFailure response)
 
--- An exchange over such a desk: one response is its answer, and `Wrote` holds of that response's
--- bytes.
-pub record IsExchange (roster : Reading) (base : List Entry) (IsUp : Type 0)
-    (old new : Message → Type 0) (Same : Type 0) (Served : (Failure Want : Type 0) → Type 0)
-    (Wrote : List ℕ → Type 0) (request : Request ℕ) : Type 0 where
+-- An exchange over such a desk, whose keeper `g` describes before and after: one response is its
+-- answer, also by what it leaves after a crash, and `Wrote` holds of that response's bytes.
+pub record IsExchange {K : Type 0} (g : Ghosts K) (roster : Reading) (base : List Entry)
+    (before after : K) (Wrote : List ℕ → Type 0) (request : Request ℕ) : Type 0 where
   pub response : Response
-  pub answered : IsAnswered roster base IsUp old new Same Served request.action response
+  pub answered : IsAnswered roster base (g.is_up after) (g.holds before) (g.holds after)
+      (g.is_same before after) (Serves g before after) request.action response
+  pub lasts : Lasts g roster.says roster.text before after request.action response
   pub wrote : Wrote (written response.status response.body request.with_body)
 
 -- An exchange whose response is known by its status, the refusal that it tells, and its bytes.
-abbrev pub IsPrepared : (roster : Reading) → (base : List Entry) → (IsUp : Type 0)
-    → (old new : Message → Type 0) → (Same : Type 0) → (Served : (Failure Want : Type 0) → Type 0)
-    → Request ℕ → (code : ℕ) → Option Refusal → (bytes : List ℕ) → Type 0
-IsPrepared roster base IsUp old new Same Served request code told bytes =
-    (x : IsExchange roster base IsUp old new Same Served (λ all. bytes ≡ all) request)
+abbrev pub IsPrepared : {K : Type 0} → (g : Ghosts K) → (roster : Reading) → (base : List Entry)
+    → (before after : K) → Request ℕ → (code : ℕ) → Option Refusal → (bytes : List ℕ) → Type 0
+IsPrepared g roster base before after request code told bytes =
+    (x : IsExchange g roster base before after (λ all. bytes ≡ all) request)
     × (code ≡ code_of x.response.status) × ResponseTells told x.response
 
 -- a response that tells of a want of memory or of storage was written

@@ -6,11 +6,10 @@ use Rattle.roster.specs.Fields.{RosterFields}
 use Rattle.desk_store.specs.Left.{Left, AddsOnly}
 use Rattle.desk_store.specs.declared.keeper.Keeper.{Ghosts}
 use Rattle.desk.specs.Crash.{IsAddedByDelivery}
-use Rattle.relay_http.specs.Request.{Action, Request, deliver, all_messages, count, grants}
+use Rattle.relay_http.specs.Request.{Action, deliver, all_messages, count, grants}
 use Rattle.relay_http.specs.Request.{parked, host_file, host_file_after, report, refused}
 use Rattle.relay_http.specs.Request.{requests, requests_after, named_request}
 use Rattle.relay_http.specs.Responses.{Response}
-use Rattle.relay_http.specs.Response.{written}
 use Rattle.relay_http.specs.declared.status.ResponseStatus.TheVariants.{Done}
 
 -- A delivery commits only its message, if that is to be acknowledged and the keeper was up. No
@@ -38,10 +37,3 @@ pub record Lasts {K : Type 0} (g : Ghosts K) (f : RosterFields Cmnd) (roster : L
   pub live : g.is_clean after → response.status ≡ Done → g.is_up after
   pub leaves : g.is_clean after → AddsOnly (g.may_leave before) (g.may_leave after)
       (IsAddedBy (g.is_up before) f roster (g.holds before) action)
-
--- the same, with a response whose bytes were written
-abbrev pub LastsWith : {K : Type 0} → Ghosts K → RosterFields Cmnd → (roster : List ℕ)
-    → (before after : K) → (Wrote : List ℕ → Type 0) → Request ℕ → Type 0
-LastsWith g f roster before after Wrote request =
-    (response : Response) × Lasts g f roster before after request.action response
-    × Wrote (written response.status response.body request.with_body)

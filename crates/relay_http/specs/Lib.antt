@@ -6,10 +6,12 @@ pub mod Content
 pub mod RequestBytes
 pub mod Response
 pub mod Responses
-pub mod Exchange
 pub mod Lasting
+pub mod Exchange
 pub mod Counting
+pub mod Receiving
 pub mod Sent
+pub mod Sending
 pub mod Outgoing
 pub mod Seen
 pub mod Settled

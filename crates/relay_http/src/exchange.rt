@@ -3,7 +3,7 @@
 ghost use Rattle.std.specs.Prelude.{◌≡◌, ◌≢◌, ◌≤◌, ◌<◌, ◌+◌, ◌-◌, ◌++◌, ℕ, [], IfOk, OnErr};
 ghost use Rattle.std.specs.Prelude.{◌==◌, Err, IfSome, None, Ok, OnOk, false, length, take, true};
 ghost use Rattle.std.specs.Prelude.{vec_capacity};
-ghost use Rattle.std.specs.Io.KnownBytes.{IsAtEnd};
+ghost use Rattle.std.specs.Io.KnownBytes.{IsAtEnd, Keeps};
 ghost use Rattle.httparse.specs.Grammar.{RequestHead};
 ghost use Rattle.relay_http.specs.Content.{most_content};
 ghost use Rattle.relay_http.specs.Request.{request_of};
@@ -26,6 +26,7 @@ use crate::head_scan::{HeadScan, scan};
 use crate::methods::allow;
 use crate::outgoing::ExchangeBuffer;
 use crate::request::{NO_HEAD, is_cut_short, request_from};
+use crate::response_head::BUFFER_SIZE;
 use crate::route::Methods;
 use crate::routes::Routes;
 use messages::MOST_BYTES;
@@ -53,7 +54,7 @@ pub enum Need {
 pub enum ReceiveFault {
     /// The read failed.
     Failed(ErrorKind),
-    /// Bytes came, and there was no memory for them.
+    /// There was no memory for more bytes, and none was read.
     NoMemory,
 }
 
@@ -292,8 +293,54 @@ impl Exchange {
         matches!(self.need(), Need::Nothing)
     }
 
+    /// Takes bytes that have room.
+    #[inline(always)]
+    fn take_roomy(&mut self, routes: &Routes, bytes: &[u8])
+        requires { length self.old.bytes + length bytes.now ≤ self.old.room }
+        ensures taken { self.new.bytes ≡ self.old.bytes ++ bytes.now }
+        ensures room { self.old.room ≤ self.new.room }
+    {
+        match self.take(routes, bytes) {
+            Ok(_) => {}
+            Err(_) => {}
+        }
+    }
+
+    /// How many more bytes have room.
+    #[inline(always)]
+    fn room(&self) -> usize
+        ensures { result ≡ self.now.room - length self.now.bytes }
+    {
+        self.come.capacity() - self.come.len()
+    }
+
+    /// Makes room for another read. It is done seldom, and stands apart so that the loop is short.
+    #[inline(never)]
+    fn grow(&mut self) -> Result<(), NoMemory>
+        ensures bytes { self.new.bytes ≡ self.old.bytes }
+        ensures room { self.old.room ≤ self.new.room }
+        ensures some { OnOk result (length self.new.bytes + 4_096 ≤ self.new.room) }
+    {
+        Ok(self.come.reserve(BUFFER_SIZE)?)
+    }
+
+    /// Makes room for what one read may bring.
+    #[inline(always)]
+    fn make_room(&mut self) -> Result<(), NoMemory>
+        ensures bytes { self.new.bytes ≡ self.old.bytes }
+        ensures room { self.old.room ≤ self.new.room }
+        ensures some { OnOk result (length self.new.bytes + 4_096 ≤ self.new.room) }
+        ensures full { OnErr result (self.old.room < length self.old.bytes + 4_096) }
+    {
+        if self.room() < BUFFER_SIZE {
+            self.grow()?;
+        }
+        Ok(())
+    }
+
     /// Reads once, and takes the bytes that came. It answers how many, and 0 at the end of the
-    /// stream. Where the read fails, or there is no memory for what came, nothing is taken.
+    /// stream. Room is made before: where there is none, nothing is read. Where the read fails,
+    /// nothing is taken.
     pub fn read_on<R: Read>(
         &mut self,
         routes: &Routes,
@@ -305,18 +352,23 @@ impl Exchange {
         ensures end { IfOk result (λ n. n ≡ 0 → IsAtEnd (R.remaining reader.new.inner)) }
         ensures within { IfOk result (λ n. n ≤ 4_096) }
         ensures kept { OnErr result (self.new.bytes ≡ self.old.bytes) }
+        ensures none { OnErr result
+            (Keeps (R.remaining reader.old.inner) (R.remaining reader.new.inner)) }
         ensures room { self.old.room ≤ self.new.room }
         ensures full { result ≡ Err fault.NoMemory
             → self.old.room < length self.old.bytes + 4_096 }
+        ensures unread { result ≡ Err fault.NoMemory → reader.new ≡ reader.old }
         ensures counted { reader.new.failures ≡ after_reading result reader.old.failures }
     {
-        let count = match reader.read(&mut buffer.bytes) {
-            Ok(count) => count,
-            Err(error) => return Err(ReceiveFault::Failed(error.kind())),
+        let Ok(()) = self.make_room() else {
+            return Err(ReceiveFault::NoMemory);
         };
-        match self.take(routes, &buffer.bytes[..count]) {
-            Ok(_) => Ok(count),
-            Err(NoMemory) => Err(ReceiveFault::NoMemory),
+        match reader.read(&mut buffer.bytes) {
+            Ok(count) => {
+                self.take_roomy(routes, &buffer.bytes[..count]);
+                Ok(count)
+            }
+            Err(error) => Err(ReceiveFault::Failed(error.kind())),
         }
     }
 

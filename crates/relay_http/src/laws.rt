@@ -1,13 +1,14 @@
 //! The laws of requests and responses, each the contract of a function that does nothing.
 
 ghost use Rattle.std.specs.Prelude.{◌≡◌, ◌≤◌, ◌++◌, ℕ, List, [], Some};
-ghost use Rattle.std.specs.Prelude.{codes, false, length, take, true};
+ghost use Rattle.std.specs.Prelude.{Ok, Option, Result, codes, false, length, take, true};
 ghost use Rattle.httparse.specs.Grammar.{ReadsRequest, RequestHead};
 ghost use Rattle.matchit.specs.Router.{RouteOf};
 ghost use Rattle.matchit.specs.Seek.{first};
 ghost use Rattle.sudo_policy.specs.declared.entry.Entry.{Entry};
 ghost use Rattle.messages.specs.declared.message.Message.{Message};
 ghost use Rattle.roster.specs.Fields.{Reading};
+ghost use Rattle.relay_http.specs.Receiving.{HasCome, HasReceived};
 ghost use Rattle.relay_http.specs.Request.{Action, Request, deliver, refused};
 ghost use Rattle.relay_http.specs.Fields.{Fields};
 ghost use Rattle.relay_http.specs.Responses.{Response, IsResponse};
@@ -15,9 +16,14 @@ ghost use Rattle.relay_http.specs.Response.{written};
 ghost use Rattle.relay_http.specs.Routes.{routes};
 ghost use Rattle.relay_http.specs.RequestBytes.{IsHttpRequest, IsHttpRequestByHead};
 ghost use Rattle.relay_http.specs.RequestBytes.{action_by, front};
+ghost use Rattle.relay_http.specs.Sending.{IsSending};
 ghost use Rattle.relay_http.specs.declared.fault.RequestFault.TheVariants.{ShortBody};
+ghost use Rattle.relay_http.specs.declared.received.Received.{Received};
 ghost use Rattle.relay_http.specs.declared.route.Route.{Route};
 ghost use Rattle.relay_http.specs.declared.route.Route.TheVariants.{Messages};
+ghost use Rattle.relay_http.specs.declared.sending.Sending.{Sending};
+ghost use Rattle.relay_http.specs.declared.sending.Sending.TheVariants.{Waits};
+ghost use Rattle.relay_http.specs.declared.serving.ServeFault.{ServeFault};
 ghost use Rattle.relay_http.specs.declared.status.ResponseStatus.{ResponseStatus};
 
 // worked requests and responses
@@ -73,4 +79,17 @@ pub fn one_response()
     ensures { (roster : Reading) (base : List Entry) (set : List Message) (action : Action ℕ)
         (a b : Response) → IsResponse roster base set action a
         → IsResponse roster base set action b → a ≡ b }
+{}
+
+/// Steps of receiving, one behind the other, are one: what comes in both is what the reader gave in
+/// both, each byte once and in order, and a request that came at last asks for what all the bytes
+/// of the stream ask for. Steps of sending are one likewise.
+pub fn steps_are_one()
+    ensures come { (a b c : Option (List ℕ)) (before mid now : List ℕ)
+        → HasCome a b before mid → HasCome b c mid now → HasCome a c before now }
+    ensures received { (a b c : Option (List ℕ)) (before mid : List ℕ) (x : Received)
+        → HasCome a b before mid → HasReceived b c mid x → HasReceived a c before x }
+    ensures sent { (a b c : Option (List ℕ)) (response rest : List ℕ)
+        (result : Result Sending ServeFault) → IsSending a b response (Ok (Waits rest))
+        → IsSending b c rest result → IsSending a c response result }
 {}

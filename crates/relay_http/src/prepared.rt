@@ -33,7 +33,7 @@ pub fn to_fault(fault: RequestFault) -> PreparedResponse
 }
 
 /// The response to what the desk refuses. It takes no memory.
-fn to_refusal(reason: Refusal) -> PreparedResponse
+pub fn to_refusal(reason: Refusal) -> PreparedResponse
     ensures response { response_of result ≡ refusal reason }
     ensures told { ResponseTells result.refusal (response_of result) }
 {

@@ -1,16 +1,18 @@
 //! The response to a request.
 
 ghost use Rattle.std.specs.Prelude.{◌≡◌, ℕ};
-ghost use Rattle.desk_store.specs.Serves.{Serves};
 ghost use Rattle.desk.specs.Serving.{KeepsSettings};
 ghost use Rattle.relay_http.specs.Request.{Request};
 ghost use Rattle.relay_http.specs.Exchange.{IsPrepared};
-ghost use Rattle.relay_http.specs.Lasting.{LastsWith};
+ghost use Rattle.relay_http.specs.Prepared.{response_of};
+ghost use Rattle.relay_http.specs.Receiving.{IsWantResponse};
 ghost use Rattle.relay_http.specs.RequestBytes.{IsHttpRequest};
+ghost use Rattle.relay_http.specs.Response.{code_of, written};
 
 use crate::answering::answered;
-use crate::exchange::Exchange;
 use crate::outgoing::Outgoing;
+use crate::prepared::{PreparedResponse, to_refusal};
+use crate::received::Received;
 use crate::routes::Routes;
 use desk::{Desk, Keeper, Refusal};
 use http::StatusCode;
@@ -27,31 +29,52 @@ pub struct HttpResponse {
     pub rest: Outgoing,
 }
 
-impl Exchange {
+impl HttpResponse {
+    fn of(answer: PreparedResponse, with_body: bool) -> HttpResponse
+        ensures status { result.status ≡ code_of (response_of answer).status }
+        ensures told { result.refusal ≡ answer.refusal }
+        ensures rest { result.rest ≡ written (response_of answer).status
+            (response_of answer).body with_body }
+    {
+        HttpResponse {
+            status: answer.status.code(),
+            refusal: answer.refusal,
+            rest: Outgoing::new(answer.status, answer.body, with_body),
+        }
+    }
+
+    /// The response where memory ran out. It takes none.
+    pub(crate) fn of_want(with_body: bool) -> HttpResponse
+        ensures { IsWantResponse with_body result }
+    {
+        HttpResponse::of(to_refusal(Refusal::NoMemory), with_body)
+    }
+}
+
+impl Received {
     /// Has the desk answer what the bytes that have come ask for. Once a message is acknowledged no
     /// memory is taken.
     pub fn answer<K: Keeper>(
-        &self,
+        self,
         alloc: Global,
         routes: &Routes,
         desk: &mut Desk<K>,
     ) -> HttpResponse
-        ensures exchange { (request : Request ℕ) × IsHttpRequest self.now.bytes request
-            × IsPrepared desk.old.roster desk.old.base (K.is_up desk.new.keeper)
-            (K.holds desk.old.keeper) (K.holds desk.new.keeper) (K.is_same desk.old.keeper
-            desk.new.keeper) (Serves K.Keeper desk.old.keeper desk.new.keeper) request
-            result.status result.refusal result.rest }
-        ensures lasts { (request : Request ℕ) × IsHttpRequest self.now.bytes request
-            × LastsWith K.Keeper desk.old.roster.says desk.old.roster.text desk.old.keeper
-            desk.new.keeper (λ bytes. result.rest ≡ bytes) request }
+        ensures exchange { (request : Request ℕ) × IsHttpRequest self.come.bytes request
+            × IsPrepared K.Keeper desk.old.roster desk.old.base desk.old.keeper desk.new.keeper
+            request result.status result.refusal result.rest }
         ensures settings { KeepsSettings desk.old desk.new }
     {
-        let request = self.request(routes);
+        let request = self.come.request(routes);
         let answer = answered(alloc, desk, request.action);
-        HttpResponse {
-            status: answer.status.code(),
-            refusal: answer.refusal,
-            rest: Outgoing::new(answer.status, answer.body, request.with_body),
-        }
+        HttpResponse::of(answer, request.with_body)
+    }
+
+    /// The response where memory ran out before the desk was asked. It takes none.
+    pub fn starve(self, routes: &Routes) -> HttpResponse
+        ensures { (request : Request ℕ) × IsHttpRequest self.come.bytes request
+            × IsWantResponse request.with_body result }
+    {
+        HttpResponse::of_want(self.come.request(routes).with_body)
     }
 }

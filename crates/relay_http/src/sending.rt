@@ -1,34 +1,43 @@
-//! Writing a whole response.
+//! Sending a response.
 
-ghost use Rattle.std.specs.Prelude.{◌≡◌, MatchResult};
-ghost use Rattle.relay_http.specs.Counting.{one_failure};
-ghost use Rattle.relay_http.specs.Sent.{Sends};
+ghost use Rattle.std.specs.Prelude.{◌≡◌};
+ghost use Rattle.relay_http.specs.Sending.{IsSending, after_sending};
 
 use crate::counted::Counted;
 use crate::outgoing::{ExchangeBuffer, Outgoing};
-use std::io::Write;
+use crate::serving::ServeFault;
+use std::io::{ErrorKind, Write};
 
-/// A write failed, or took nothing.
-#[derive(Clone, Copy)]
-pub struct WriteFailed;
+/// What a step of sending comes to.
+#[derive(Drop)]
+pub enum Sending {
+    /// All of the response is out.
+    Out,
+    /// Its peer takes no more of it for now; this is left.
+    Waits(Outgoing),
+}
 
-/// Writes all that is left of a response. Where a write fails or takes nothing, a beginning of it
-/// went out.
-pub fn send_all<W: Write>(
-    response: &mut Outgoing,
-    writer: &mut Counted<W>,
-    buffer: &mut ExchangeBuffer,
-) -> Result<(), WriteFailed>
-    ensures sent { Sends (W.contents writer.old.inner)
-        (W.contents writer.new.inner) result response.old }
-    ensures counted { MatchResult result (λ _. writer.new.failures ≡ writer.old.failures)
-        (λ _. writer.new.failures ≡ one_failure writer.old.failures) }
-{
-    while !response.is_out() {
-        match response.send(writer, buffer) {
-            Ok(0) | Err(_) => return Err(WriteFailed),
-            Ok(_) => {}
+impl Outgoing {
+    /// Writes what is left, up to where a write would block. Where a write fails otherwise or takes
+    /// nothing, it is `WriteFailed`, and a beginning of it went out.
+    pub fn send_on<W: Write>(
+        self,
+        writer: &mut Counted<W>,
+        buffer: &mut ExchangeBuffer,
+    ) -> Result<Sending, ServeFault>
+        ensures sent { IsSending (W.contents writer.old.inner)
+            (W.contents writer.new.inner) self result }
+        ensures counted { writer.new.failures ≡ after_sending result writer.old.failures }
+    {
+        let mut rest = self;
+        while !rest.is_out() {
+            match rest.send(writer, buffer) {
+                Ok(0) => return Err(ServeFault::WriteFailed),
+                Ok(_) => {}
+                Err(ErrorKind::WouldBlock) => return Ok(Sending::Waits(rest)),
+                Err(_) => return Err(ServeFault::WriteFailed),
+            }
         }
+        Ok(Sending::Out)
     }
-    Ok(())
 }

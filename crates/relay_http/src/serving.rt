@@ -1,26 +1,27 @@
 //! One exchange.
 
-ghost use Rattle.std.specs.Prelude.{◌≡◌, ◌≢◌, ◌⊎◌, ℕ, Err, IfSome, MatchResult, OnOk, codes};
+ghost use Rattle.std.specs.Prelude.{◌≡◌, ◌≢◌, ◌≤◌, ◌⊎◌, ℕ, [], Err, IfOk, IfSome, MatchResult};
+ghost use Rattle.std.specs.Prelude.{OnOk, codes};
 ghost use Rattle.httparse.specs.Grammar.{RequestHead};
 ghost use Rattle.desk_store.specs.Keeping.{HasFailed};
 ghost use Rattle.desk_store.specs.Serves.{Serves};
 ghost use Rattle.desk.specs.Serving.{KeepsSettings};
 ghost use Rattle.relay_http.specs.Request.{Request};
-ghost use Rattle.relay_http.specs.Counting.{one_failure};
+ghost use Rattle.relay_http.specs.Counting.{after_read, one_failure};
 ghost use Rattle.relay_http.specs.Exchange.{HasResponded, IsAcknowledged, IsExchange};
 ghost use Rattle.relay_http.specs.Exchange.{WritesServerFailure};
-ghost use Rattle.relay_http.specs.Lasting.{LastsWith};
+ghost use Rattle.relay_http.specs.Needs.{most_room};
 ghost use Rattle.relay_http.specs.Sent.{Sends};
 ghost use Rattle.relay_http.specs.RequestBytes.{IsHttpRequest, HasHead};
 ghost use Rattle.relay_http.specs.declared.serving.ServeFault.TheVariants.{NoMemory, ReadFailed};
 ghost use Rattle.relay_http.specs.declared.serving.ServeFault.TheVariants.{WriteFailed};
 
 use crate::counted::Counted;
-use crate::exchange::Exchange;
 use crate::outgoing::ExchangeBuffer;
-use crate::reading::read_request;
+use crate::received::Received;
+use crate::receiving::{Receiving, Reception};
 use crate::routes::Routes;
-use crate::sending::{self, send_all};
+use crate::sending::Sending;
 use desk::{Desk, Keeper};
 use std::alloc::Global;
 use std::error::Error;
@@ -56,31 +57,53 @@ impl fmt::Display for ServeFault {
 
 impl Error for ServeFault {}
 
-/// Has the desk answer what the bytes that have come ask for, and writes the response. Once a
-/// message is acknowledged no memory is taken.
+/// Receives a request from a stream that waits for its peer, so that a read that would block is one
+/// that failed.
+fn receive_whole<R: Read>(
+    receiving: Receiving,
+    routes: &Routes,
+    reader: &mut Counted<R>,
+    buffer: &mut ExchangeBuffer,
+) -> Result<Received, ServeFault>
+    requires empty { receiving.come.bytes ≡ [] }
+    requires room { most_room ≤ receiving.come.room }
+    ensures asks { IfOk result (λ x. IfSome (R.remaining reader.old.inner) (λ all.
+        (request : Request ℕ) → IsHttpRequest x.come.bytes request
+        → IsHttpRequest all request)) }
+    ensures counted { reader.new.failures ≡ after_read result reader.old.failures }
+{
+    match receiving.receive(routes, reader, buffer) {
+        Ok(Reception::Came(received)) => Ok(received),
+        Ok(Reception::Waits(_)) => Err(ServeFault::ReadFailed),
+        Ok(Reception::Starved(_)) => Err(ServeFault::ReadFailed),
+        Err(_) => Err(ServeFault::ReadFailed),
+    }
+}
+
+/// Has the desk answer a request, and sends the response to a stream that waits for its peer. Once
+/// a message is acknowledged no memory is taken.
 fn respond_to<K: Keeper, W: Write>(
     alloc: Global,
     routes: &Routes,
-    exchange: &Exchange,
+    received: Received,
     desk: &mut Desk<K>,
     writer: &mut Counted<W>,
     buffer: &mut ExchangeBuffer,
-) -> Result<(), sending::WriteFailed>
-    ensures exchange { (request : Request ℕ) × IsHttpRequest exchange.now.bytes request
-        × IsExchange desk.old.roster desk.old.base (K.is_up desk.new.keeper)
-        (K.holds desk.old.keeper) (K.holds desk.new.keeper) (K.is_same desk.old.keeper
-        desk.new.keeper) (Serves K.Keeper desk.old.keeper desk.new.keeper) (λ response.
-        Sends (W.contents writer.old.inner) (W.contents writer.new.inner) result response) request }
-    ensures lasts { (request : Request ℕ) × IsHttpRequest exchange.now.bytes request
-        × LastsWith K.Keeper desk.old.roster.says desk.old.roster.text desk.old.keeper
-        desk.new.keeper (λ response. Sends (W.contents writer.old.inner)
-        (W.contents writer.new.inner) result response) request }
+) -> Result<(), ServeFault>
+    ensures exchange { (request : Request ℕ) × IsHttpRequest received.come.bytes request
+        × IsExchange K.Keeper desk.old.roster desk.old.base desk.old.keeper desk.new.keeper
+        (λ bytes. Sends (W.contents writer.old.inner) (W.contents writer.new.inner) result bytes)
+        request }
     ensures counted { MatchResult result (λ _. writer.new.failures ≡ writer.old.failures)
         (λ _. writer.new.failures ≡ one_failure writer.old.failures) }
     ensures settings { KeepsSettings desk.old desk.new }
 {
-    let mut response = exchange.answer(alloc, routes, desk);
-    send_all(&mut response.rest, writer, buffer)
+    let response = received.answer(alloc, routes, desk);
+    match response.rest.send_on(writer, buffer) {
+        Ok(Sending::Out) => Ok(()),
+        Ok(Sending::Waits(_)) => Err(ServeFault::WriteFailed),
+        Err(_) => Err(ServeFault::WriteFailed),
+    }
 }
 
 /// Reads a request, has the desk answer it, and writes the response.
@@ -94,15 +117,15 @@ pub fn serve_one<K: Keeper, R: Read, W: Write>(
     reader: &mut Counted<R>,
     writer: &mut Counted<W>,
 ) -> Result<(), ServeFault>
-    // The bytes that the reader has left are one request. The desk's response to it was written, or
-    // where a write failed a beginning of it.
+    // The bytes that the reader has left are one request. One response is the desk's to it, with
+    // what it leaves of the keeper, also over a disk that crashes; it was written, or where a write
+    // failed a beginning of it.
     ensures exchange { HasResponded result
         → IfSome (R.remaining reader.old.inner) (λ all. (request : Request ℕ)
         → IsHttpRequest all request
-        → IsExchange desk.old.roster desk.old.base (K.is_up desk.new.keeper)
-        (K.holds desk.old.keeper) (K.holds desk.new.keeper) (K.is_same desk.old.keeper
-        desk.new.keeper) (Serves K.Keeper desk.old.keeper desk.new.keeper) (λ bytes.
-        Sends (W.contents writer.old.inner) (W.contents writer.new.inner) result bytes) request) }
+        → IsExchange K.Keeper desk.old.roster desk.old.base desk.old.keeper desk.new.keeper
+        (λ bytes. Sends (W.contents writer.old.inner) (W.contents writer.new.inner) result bytes)
+        request) }
     // A request that is not a POST changes nothing, and only the exchange of a POST to a relay's
     // messages with the status 200 changes anything.
     ensures queries { HasResponded result → K.is_up desk.new.keeper
@@ -112,14 +135,6 @@ pub fn serve_one<K: Keeper, R: Read, W: Write>(
         → IfSome (R.remaining reader.old.inner)
         (λ all. K.is_same desk.old.keeper desk.new.keeper ⊎ IsAcknowledged all
         (λ bytes. Sends (W.contents writer.old.inner) (W.contents writer.new.inner) result bytes)) }
-    // Over an honest disk: after a response with the status 200 the keeper is up; and a crash
-    // leaves what it might have left before, or what a delivery commits, if the keeper was up.
-    ensures lasts { HasResponded result
-        → IfSome (R.remaining reader.old.inner) (λ all. (request : Request ℕ)
-        → IsHttpRequest all request
-        → LastsWith K.Keeper desk.old.roster.says desk.old.roster.text desk.old.keeper
-        desk.new.keeper (λ bytes. Sends (W.contents writer.old.inner) (W.contents writer.new.inner)
-        result bytes) request) }
     ensures unanswered { (result ≡ Err ReadFailed) ⊎ (result ≡ Err NoMemory)
         → (desk.new ≡ desk.old) × (writer.new ≡ writer.old) }
     ensures unread { result ≡ Err NoMemory → reader.new ≡ reader.old }
@@ -141,13 +156,13 @@ pub fn serve_one<K: Keeper, R: Read, W: Write>(
     let Ok(mut buffer) = ExchangeBuffer::new(alloc) else {
         return Err(ServeFault::NoMemory);
     };
-    let Ok(mut exchange) = Exchange::with_room(alloc) else {
+    let Ok(receiving) = Receiving::with_room(alloc) else {
         return Err(ServeFault::NoMemory);
     };
-    let Ok(()) = read_request(&mut exchange, &routes, reader, &mut buffer) else {
+    let Ok(received) = receive_whole(receiving, &routes, reader, &mut buffer) else {
         return Err(ServeFault::ReadFailed);
     };
-    match respond_to(alloc, &routes, &exchange, desk, writer, &mut buffer) {
+    match respond_to(alloc, &routes, received, desk, writer, &mut buffer) {
         Ok(()) => Ok(()),
         Err(_) => Err(ServeFault::WriteFailed),
     }

@@ -1,0 +1,156 @@
+"""What the door looks up in its journal. It is made of the journal, and can be made again: a
+database of SQLite, which is never the only place where something stands."""
+
+import contextlib
+import logging
+import os
+import sqlite3
+import threading
+from collections.abc import Iterable
+from dataclasses import dataclass
+
+from steelnewt_client.signed import Signed, digest
+from steelnewt_door.rows import FIRST, Last, Row, line_digest
+
+SCHEMA = """
+CREATE TABLE IF NOT EXISTS lines (
+    line TEXT PRIMARY KEY,
+    no INTEGER NOT NULL UNIQUE,
+    at TEXT NOT NULL,
+    how TEXT NOT NULL,
+    message TEXT NOT NULL,
+    about TEXT NOT NULL,
+    why TEXT NOT NULL,
+    key TEXT NOT NULL,
+    code TEXT NOT NULL
+) STRICT;
+CREATE INDEX IF NOT EXISTS by_message ON lines (message);
+CREATE INDEX IF NOT EXISTS unanswered ON lines (no) WHERE code = '';
+CREATE TABLE IF NOT EXISTS last (one INTEGER PRIMARY KEY, no INTEGER, chain TEXT) STRICT;
+"""
+ACK = "ack"
+KNOWN = "SELECT no, at, how, code FROM lines WHERE"
+log = logging.getLogger("desk-door")
+
+
+@dataclass(frozen=True)
+class Known:
+    """A line that came before: its row's number, when, as what, and what was answered last."""
+
+    no: int
+    at: str
+    how: str
+    code: str
+
+
+def opened(path: str) -> sqlite3.Connection:
+    """The database at a path, with its tables."""
+    base = sqlite3.connect(path, timeout=20, check_same_thread=False, isolation_level=None)
+    try:
+        # (a power cut may take the last rows of it: they are taken from the journal again)
+        base.execute("PRAGMA journal_mode = wal")
+        base.execute("PRAGMA synchronous = normal")
+        for statement in SCHEMA.split(";"):
+            base.execute(statement)
+        base.execute("SELECT max(no) FROM lines").fetchone()
+    except BaseException:
+        base.close()
+        raise
+    return base
+
+
+class Index:
+    """Several threads may have it at a time."""
+
+    def __init__(self, path: str) -> None:
+        self.lock = threading.Lock()
+        try:
+            self.base = opened(path)
+        except sqlite3.OperationalError:
+            raise  # (no room, no right: a person has to look)
+        except sqlite3.DatabaseError as fault:
+            log.warning("%s cannot be read, and is made again of the journal: %s", path, fault)
+            for end in ("", "-wal", "-shm"):
+                with contextlib.suppress(FileNotFoundError):
+                    os.unlink(path + end)
+            self.base = opened(path)
+
+    def close(self) -> None:
+        with self.lock:
+            self.base.close()
+
+    def last(self) -> Last:
+        """The last row of the journal that is in here."""
+        with self.lock:
+            found = self.base.execute("SELECT no, chain FROM last").fetchone()
+        return Last(*(found or (0, FIRST)))
+
+    def add(self, rows: Iterable[Row]) -> None:
+        """Notes rows that are on the disk."""
+        with self.lock:
+            self.base.execute("BEGIN IMMEDIATE")
+            try:
+                last = None
+                for row in rows:
+                    self.note(row)
+                    last = row
+                if last:
+                    values = (last["no"], last["chain"])
+                    self.base.execute("INSERT OR REPLACE INTO last VALUES (1, ?, ?)", values)
+            except BaseException:
+                self.base.execute("ROLLBACK")
+                raise
+            self.base.execute("COMMIT")
+
+    def note(self, row: Row) -> None:
+        if row["row"] == "answered":
+            values = (row["code"], row["of"])
+            self.base.execute("UPDATE lines SET code = ? WHERE no = ?", values)
+        elif row["row"] == "came":
+            signed = Signed(row["message"], row["signature"], row["about"], row["why"])
+            parts = (line_digest(signed), row["no"], row["at"], row["how"], signed.digest)
+            code = ACK if row["how"] == "before" else ""
+            line = (*parts, signed.about, signed.why, row["key"], code)
+            marks = ", ".join("?" * len(line))
+            # (a line that was refused and is judged anew has a new row)
+            self.base.execute(f"INSERT OR REPLACE INTO lines VALUES ({marks})", line)
+
+    def known(self, signed: Signed) -> Known | None:
+        """What was noted of a line."""
+        where = f"{KNOWN} line = ?"
+        with self.lock:
+            found = self.base.execute(where, (line_digest(signed),)).fetchone()
+        return Known(*found) if found else None
+
+    def signed_before(self, signed: Signed, key: str) -> Known | None:
+        """The first line with what a key signed, however its signature was written: one signature
+        can be written in many ways (zeros before a number, a curve's other number, base64)."""
+        where = f"{KNOWN} message = ? AND about = ? AND why = ? AND key = ? AND how = 'signed'"
+        values = (signed.digest, signed.about, signed.why, key)
+        with self.lock:
+            found = self.base.execute(f"{where} ORDER BY no LIMIT 1", values).fetchone()
+        return Known(*found) if found else None
+
+    def is_about(self, message: str, about: str) -> bool:
+        """Whether a verdict came with a good signature that is about this request."""
+        where = "SELECT 1 FROM lines WHERE message = ? AND about = ? AND how = 'signed'"
+        with self.lock:
+            return self.base.execute(where, (digest(message), about)).fetchone() is not None
+
+    def is_here(self, message: str) -> bool:
+        """Whether a message came through the door, or was at the desk before it."""
+        where = "SELECT 1 FROM lines WHERE message = ? AND how != 'refused'"
+        with self.lock:
+            return self.base.execute(where, (digest(message),)).fetchone() is not None
+
+    def whys(self, request: str) -> set[str]:
+        """The digests of the reasons with which a request, of this digest, was signed."""
+        where = "SELECT why FROM lines WHERE message = ? AND how = 'signed'"
+        with self.lock:
+            return {it[0] for it in self.base.execute(where, (request,))}
+
+    def unanswered(self) -> list[int]:
+        """The rows with messages of which nobody knows what became of them."""
+        with self.lock:
+            found = self.base.execute("SELECT no FROM lines WHERE code = '' ORDER BY no")
+            return [it[0] for it in found]

@@ -1,0 +1,193 @@
+"""The program `desk-door`."""
+
+import argparse
+import asyncio
+import contextlib
+import logging
+import os
+import signal
+import socket
+import sqlite3
+import stat
+import sys
+from collections.abc import Iterator
+
+from steelnewt_client.desk import Silent
+from steelnewt_door.index import Index
+from steelnewt_door.journal import BadJournal, files_of
+from steelnewt_door.refusals import Refused
+from steelnewt_door.serving import Serving
+from steelnewt_door.settings import CONFIG, BadSettings, Settings, read_settings
+from steelnewt_door.signers import BadSigners
+from steelnewt_door.taking import Door
+
+log = logging.getLogger("desk-door")
+
+
+def parser() -> argparse.ArgumentParser:
+    found = argparse.ArgumentParser(
+        "desk-door",
+        description="Lets messages to a desk through with their author's signature, and keeps a"
+        " journal.",
+    )
+    found.add_argument("--config", default=CONFIG, help=f"the settings (default {CONFIG})")
+    jobs = found.add_subparsers(dest="job", metavar="JOB", required=True)
+    jobs.add_parser("serve", help="serve until SIGTERM")
+    jobs.add_parser("begin", help="note what the desk holds that never came through the door")
+    jobs.add_parser("check", help="say all that would stop it, or let a message past it")
+    return found
+
+
+def told_ready() -> None:
+    """Tells systemd that the sockets are there."""
+    place = os.environ.get("NOTIFY_SOCKET", "")
+    if place:
+        with socket.socket(socket.AF_UNIX, socket.SOCK_DGRAM) as peer:
+            peer.connect(f"\0{place[1:]}" if place.startswith("@") else place)
+            peer.sendall(b"READY=1")
+
+
+async def until_ended(serving: Serving, settings: Settings) -> None:
+    def ready() -> None:
+        log.info("the door of %s is at unix:%s", settings.site, settings.listen)
+        print(f"listening unix:{settings.listen}", flush=True)
+        told_ready()
+
+    job = asyncio.current_task()
+    assert job
+    for number in (signal.SIGTERM, signal.SIGINT):
+        asyncio.get_running_loop().add_signal_handler(number, job.cancel)
+    try:
+        await serving.serve((settings.listen, settings.root), ready)
+    except asyncio.CancelledError:
+        log.info("ended, as it was asked to")
+
+
+def serve(settings: Settings) -> int:
+    for path in (settings.listen, settings.root):
+        check_place(path)
+    door = settings.door()
+    try:
+        told(door, settings)
+        asyncio.run(until_ended(Serving(door, settings.questions), settings))
+    finally:
+        door.journal.close()
+    return 0
+
+
+def told(door: Door, settings: Settings) -> None:
+    """Says how it begins, and settles what was open when it ended."""
+    if not settings.rules.is_signing:
+        log.warning("MESSAGES WITHOUT A SIGNATURE ARE TAKEN (signing = no): a journal alone")
+    else:
+        with suppress_signers():
+            log.info("signers of %s", door.signers.now().at)
+    door.journal.note_torn()
+    try:
+        if count := door.settle():
+            log.warning("%d messages had no answer in the journal: the desk was asked", count)
+    except (Silent, Refused) as fault:
+        log.warning("what was open in the journal is settled at the next start: %s", fault)
+
+
+@contextlib.contextmanager
+def suppress_signers() -> Iterator[None]:
+    """Signers that cannot be read are said, and end nothing: root may still take rights away."""
+    try:
+        yield
+    except BadSigners as fault:
+        log.error("K25 NoSigners: nothing signed is taken: %s", fault)
+
+
+def check_place(path: str) -> None:
+    """Refuses a socket whose place others could take while the door is stopped, or where another
+    door answers."""
+    found = os.stat(os.path.dirname(path))
+    if found.st_mode & 0o022 or found.st_uid not in (0, os.geteuid()):
+        raise BadSettings(f"others may write in {os.path.dirname(path)}, and take the door's place")
+    with socket.socket(socket.AF_UNIX) as peer:
+        if peer.connect_ex(path) == 0:
+            raise BadSettings(f"a door answers at {path} already")
+
+
+def begin(settings: Settings) -> int:
+    door = settings.door()
+    try:
+        count, many = door.begin()
+    finally:
+        door.journal.close()
+    print(f"{count} messages of {many} are from before the door")
+    return 0
+
+
+def signer_faults(settings: Settings) -> Iterator[str]:
+    """What is wrong with the signers, the roster and the base."""
+    two = settings.two()
+    try:
+        version = two.signers.now()
+        two.check_all()
+        names = sorted({it.name for it in version.signers() if not it.last})
+        if not names:
+            yield f"{settings.signers}: nobody signs"
+        for path in (settings.signers, version.folder):
+            found = os.stat(path)
+            if found.st_uid != 0 or found.st_mode & (stat.S_IWGRP | stat.S_IWOTH):
+                yield f"{path} is not root's alone to write"
+        _, roster, base = settings.asked().count()
+        two.check_text("roster", roster)
+        two.check_text("base", base)
+    except (BadSigners, OSError) as fault:
+        yield str(fault)
+    except Silent:
+        pass  # (desk_faults says so)
+
+
+def desk_faults(settings: Settings) -> Iterator[str]:
+    """Whether the desk answers, and whether anything came past the door."""
+    try:
+        found = os.stat(settings.desk)
+        if found.st_mode & (stat.S_IROTH | stat.S_IWOTH):
+            yield f"{settings.desk} is open to every account of this machine: past the door"
+        held = settings.asked().get("/v1/messages").splitlines()
+        index = Index(os.path.join(settings.journal, "index.db"))
+        yield from (f"this came past the door: {it}" for it in held if not index.is_here(it))
+        index.close()
+    except OSError as fault:
+        yield f"there is no desk at {settings.desk}: {fault.strerror}"
+    except Silent as fault:
+        yield f"the desk does not answer: {fault}"
+
+
+def room_faults(settings: Settings) -> Iterator[str]:
+    """Whether the journal has room."""
+    try:
+        total = sum(os.path.getsize(path) for _, path in files_of(settings.journal))
+        percent = 100 * total // settings.room.most
+        if percent >= 70:
+            yield f"the journal has {percent} % of journal_bytes: carry files of it away"
+    except OSError as fault:
+        yield f"{settings.journal} cannot be read: {fault.strerror}"
+
+
+def check(settings: Settings) -> int:
+    found = [*desk_faults(settings), *room_faults(settings)]
+    if settings.rules.is_signing:
+        found += signer_faults(settings)
+    else:
+        print("(messages without a signature are taken: signing = no)")
+    print("\n".join(found) or "nothing is wrong with the door")
+    return 2 if found else 0
+
+
+def main(words: list[str] | None = None) -> int:
+    said = parser().parse_args(words)
+    logging.basicConfig(level=logging.INFO, format="%(name)s: %(message)s")
+    jobs = {"serve": serve, "begin": begin, "check": check}
+    try:
+        return jobs[said.job](read_settings(said.config))
+    except (BadSettings, BadSigners, BadJournal, Silent, OSError, sqlite3.Error) as fault:
+        print(f"desk-door: {fault}", file=sys.stderr)
+        return 2
+    except Refused as fault:
+        print(f"desk-door: {fault}: {fault.why}", file=sys.stderr)
+        return 2

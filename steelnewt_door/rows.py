@@ -1,0 +1,115 @@
+"""The rows of the journal: one line of JSON each, which has the digest of the row before it.
+
+    came      a message as it came, before the desk is asked: its bytes, signature, key, relay,
+              peer, moment, and the version of the signers by which it was judged
+    answered  the answer to a message: `of` is the number of the row with which that came
+    more      how many more messages of a relay were refused that have no rows of their own
+    begun     the first row of each file
+    healed    the rest of a row that a power cut left; nobody was answered by that row
+"""
+
+import hashlib
+import json
+from dataclasses import dataclass
+from typing import Any
+
+from steelnewt_client.messages import canonical
+from steelnewt_client.signed import Signed
+
+FIRST = "0" * 64
+KINDS = {
+    "came": {"at", "how", "key", "message", "peer", "relay", "signature", "about", "why"}
+    | {"signers"},
+    "answered": {"at", "by", "code", "of"},
+    "more": {"at", "count", "relay"},
+    "begun": {"at", "site"},
+    "healed": {"at", "bytes", "digest"},
+}
+COMMON = {"no", "row", "before", "chain"}
+# How a message came: signed; by root's socket, unsigned; unsigned, where the site signs nothing;
+# held by the desk before there was a door; or as something that was refused.
+HOWS = ("signed", "root", "unsigned", "before", "refused")
+# What is written of a row that cannot be a message: no more than this of its text.
+SHORT = 200
+
+Row = dict[str, Any]
+
+
+class BadRow(ValueError):
+    """A line is no row of a journal; the text says why."""
+
+
+@dataclass(frozen=True)
+class Last:
+    """The last row: its number and its chain."""
+
+    no: int = 0
+    chain: str = FIRST
+
+
+def chained(row: Row) -> str:
+    """The digest of a row, which has the one before it in itself."""
+    told = {name: value for name, value in row.items() if name != "chain"}
+    return hashlib.sha256(canonical(told).encode("utf-8")).hexdigest()
+
+
+def following(last: Last, row: Row) -> Row:
+    """A row as the next one behind another."""
+    numbered = row | {"no": last.no + 1, "before": last.chain}
+    return numbered | {"chain": chained(numbered)}
+
+
+def line_of(row: Row) -> bytes:
+    return canonical(row).encode("utf-8") + b"\n"
+
+
+def read_row(line: bytes) -> Row:
+    """A row by its line, where its digest is right: what was changed in it is found here."""
+    try:
+        text = line.decode("utf-8").removesuffix("\n")
+        found = json.loads(text)
+        is_row = isinstance(found, dict) and canonical(found) == text
+        wanted = KINDS.get(found["row"], set()) | COMMON if is_row else set()
+    except (ValueError, RecursionError, KeyError, TypeError):
+        raise BadRow("is no row") from None
+    numbers = [found.get(name, 0) for name in ("no", "of", "count", "bytes")] if is_row else [""]
+    if not is_row or found.keys() != wanted or not all(type(it) is int for it in numbers):
+        raise BadRow("is no row")
+    texts = [value for name, value in found.items() if name not in ("no", "of", "count", "bytes")]
+    if not all(isinstance(it, str) for it in texts):
+        raise BadRow("is no row")
+    # (the text is cut as chained() made it: no string in it has the name unescaped)
+    told = text.replace(f',"chain":"{found["chain"]}"', "", 1)
+    if found["chain"] != hashlib.sha256(told.encode("utf-8")).hexdigest():
+        raise BadRow("was changed")
+    return dict(found)
+
+
+def came(
+    signed: Signed, at: str, way: tuple[str, str], how: str, key: str = "", version: str = ""
+) -> Row:
+    """The row of a message that came by a relay and a peer, which `way` has."""
+    relay, peer = way
+    return {
+        "row": "came", "at": at, "relay": relay, "peer": peer, "how": how,
+        "message": signed.message, "signature": signed.signature, "about": signed.about,
+        "why": signed.why, "key": key, "signers": version,
+    }  # fmt: skip
+
+
+def came_broken(line: bytes, at: str, way: tuple[str, str]) -> Row:
+    """The row of something that is no message: its digest, and how it begins."""
+    begins = line[:SHORT].decode("utf-8", "backslashreplace")
+    told = f"{len(line)} bytes, {hashlib.sha256(line).hexdigest()}: {begins}"
+    return came(Signed(told.encode("utf-8", "replace").decode("utf-8")), at, way, "refused")
+
+
+def answered(no: int, at: str, code: str, by: str) -> Row:
+    """The row of an answer. (of a stranger's bytes nothing is in it)"""
+    plain = "".join(it if " " <= it <= "~" else "?" for it in code)[:80]
+    return {"row": "answered", "at": at, "of": no, "code": plain, "by": by}
+
+
+def line_digest(signed: Signed) -> str:
+    """By what a message with its signature is known again."""
+    return hashlib.sha256(signed.line().encode("utf-8")).hexdigest()

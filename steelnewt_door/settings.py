@@ -1,0 +1,110 @@
+"""The door's settings: one file of TOML (door/door.example.toml)."""
+
+import os
+import tomllib
+from dataclasses import dataclass
+
+from steelnewt_client.desk import BadAddress, Desk, Place
+from steelnewt_client.signed import SITE
+from steelnewt_door.changes import Two
+from steelnewt_door.journal import Journal, Room
+from steelnewt_door.judge import Judge
+from steelnewt_door.serving import post_to
+from steelnewt_door.signers import SIGNERS, Signers
+from steelnewt_door.taking import Door, Rules
+
+CONFIG = "/etc/desk/door.toml"
+TEXTS = {
+    "site": "",
+    "signing": "yes",
+    "desk": "unix:/run/desk/desk.sock",
+    "questions": "",
+    "listen": "unix:/run/desk-door/desk.sock",
+    "root": "unix:/run/desk-door/root/desk.sock",
+    "signers": SIGNERS,
+    "journal": "/var/lib/desk-door",
+}
+NUMBERS = {"late": 86_400, "changes_by": 1, "journal_bytes": 4 << 30, "file_bytes": 16 << 20}
+LEAST = {"late": 60, "changes_by": 1, "journal_bytes": 1 << 20, "file_bytes": 1 << 16}
+
+
+class BadSettings(ValueError):
+    """The settings cannot be used."""
+
+
+@dataclass(frozen=True)
+class Settings:
+    site: str
+    desk: str
+    questions: str
+    listen: str
+    root: str
+    signers: str
+    journal: str
+    rules: Rules
+    room: Room
+
+    def judge(self) -> Judge:
+        return Judge(self.site)
+
+    def two(self) -> Two:
+        return Two(self.judge(), Signers(self.signers), self.rules.changes_by)
+
+    def asked(self) -> Desk:
+        """The desk, to be asked."""
+        return Desk(f"unix:{self.questions}", "")
+
+    def door(self) -> Door:
+        parts = Signers(self.signers), Journal(self.journal, self.site, self.room), self.asked()
+        return Door(self.rules, self.judge(), *parts, post_to(self.desk))
+
+
+def socket_of(name: str, text: str) -> str:
+    """The path of a socket, from `unix:/PATH`."""
+    try:
+        found = Place.of(text).path
+    except BadAddress:
+        found = ""
+    if not found or os.path.normpath(found) != found:
+        raise BadSettings(f"{name} = {text!r} is no socket: write unix:/PATH")
+    return found
+
+
+def checked(found: dict[str, object]) -> tuple[dict[str, str], dict[str, int]]:
+    """The settings, each of its kind."""
+    if unknown := found.keys() - TEXTS.keys() - NUMBERS.keys():
+        raise BadSettings(f"no setting is named {', '.join(sorted(unknown))}")
+    texts, numbers = dict(TEXTS), dict(NUMBERS)
+    for name, value in found.items():
+        if name in TEXTS and isinstance(value, str):
+            texts[name] = value
+        elif name in NUMBERS and type(value) is int and value >= LEAST[name]:
+            numbers[name] = value
+        else:
+            least = LEAST.get(name)
+            wanted = "a text between quotes" if least is None else f"a number, {least} or more"
+            raise BadSettings(f"{name} is {wanted}")
+    if not SITE.fullmatch(texts["site"]):
+        raise BadSettings("site is a name as desk.example")
+    if texts["signing"] not in ("yes", "no"):
+        raise BadSettings('signing is "yes", or "no" where the door keeps the journal alone')
+    return texts, numbers
+
+
+def read_settings(path: str) -> Settings:
+    try:
+        with open(path, "rb") as file:
+            texts, numbers = checked(tomllib.load(file))
+        return Settings(
+            site=texts["site"],
+            desk=socket_of("desk", texts["desk"]),
+            questions=socket_of("questions", texts["questions"] or texts["desk"]),
+            listen=socket_of("listen", texts["listen"]),
+            root=socket_of("root", texts["root"]),
+            signers=texts["signers"],
+            journal=texts["journal"],
+            rules=Rules(texts["signing"] == "yes", numbers["late"], numbers["changes_by"]),
+            room=Room(numbers["journal_bytes"], numbers["file_bytes"]),
+        )
+    except (OSError, ValueError) as fault:
+        raise BadSettings(f"{path}: {fault}") from None

@@ -1,0 +1,282 @@
+"""Looks at every row and signature again, without a desk and without trust in it: which message
+nobody signed, whether each approval was given over the very request that the desk holds, and which
+rows are missing or were changed."""
+
+import base64
+import json
+from collections import defaultdict
+from collections.abc import Iterable, Iterator
+from dataclasses import dataclass, field
+from functools import lru_cache
+
+from steelnewt_client.messages import Request, Verdict
+from steelnewt_client.moments import seconds
+from steelnewt_client.signed import BadLine, Signed, digest, said_in
+from steelnewt_door.journal import files_of
+from steelnewt_door.judge import Judge, by_ssh_keygen, print_of_blob
+from steelnewt_door.rows import BadRow, Last, Row, read_row
+from steelnewt_door.signers import BadSigners, Signers, Version
+from steelnewt_door.wire import BadSignature
+
+# How many seconds a clock may be set back, before it is said.
+SET_BACK = 60
+HOWS = {
+    "root": "root's socket took it without a signature",
+    "unsigned": "it came while the site signed nothing",
+    "before": "the desk held it before there was a door",
+}
+Counting = set[tuple[str, str, int, str]]
+
+
+class BadInput(Exception):
+    """A file is not what it has to be; the text says why."""
+
+
+@dataclass
+class Found:
+    """All that was found, and how many there are of each."""
+
+    lines: list[str] = field(default_factory=list)
+    counts: dict[str, int] = field(default_factory=lambda: defaultdict(int))
+    last: Last = field(default_factory=Last)
+
+    def add(self, kind: str, why: str, text: str = "") -> None:
+        self.lines.append(f"{kind}: {why}: {text}" if text else f"{kind}: {why}")
+
+
+@dataclass(frozen=True)
+class Came:
+    """What is kept of a row with a message."""
+
+    no: int
+    at: str
+    how: str
+    about: str
+    why: str
+    is_good: bool
+
+
+def read_counting(text: str) -> Counting:
+    """The approvals that count, as a desk tells them: who, of whom, which number, when."""
+    try:
+        names = json.loads(text)["names"]
+        verdicts = [it for entry in names for it in entry["verdicts"] if it["counts"]]
+        told = [it["verdict"] for it in verdicts if it["verdict"]["kind"] == "approve"]
+        return {(it["by"], it["of"], it["no"], it["at"]) for it in told}
+    except (ValueError, KeyError, TypeError) as fault:
+        raise BadInput(f"this is no answer of /v1/requests, or of desk-audit: {fault!r}") from None
+
+
+class Chain:
+    """Whether rows follow from one another, and which do not: it goes on behind each fault."""
+
+    def __init__(self, found: Found) -> None:
+        self.found, self.broken = found, 0
+        self.came, self.is_begun = "", False
+
+    def rows(self, folder: str) -> Iterator[Row]:
+        """The rows of all files that can be read."""
+        for _, path in files_of(folder):
+            with open(path, "rb") as file:
+                for number, line in enumerate(file, 1):
+                    try:
+                        row = read_row(line)
+                    except BadRow as fault:
+                        self.broken += 1
+                        self.found.add("CHANGED ROW", f"{path}: line {number} {fault}")
+                        continue
+                    self.follow(row)
+                    yield row
+
+    def follow(self, row: Row) -> None:
+        last, no = self.found.last, row["no"]
+        if not self.is_begun and no > 1 and row["row"] == "begun" and not self.broken:
+            last = Last(no - 1, row["before"])
+            self.found.lines.append(f"(rows 1 to {no - 1} are not here: they were carried away)")
+        missing = no - last.no - 1 - self.broken
+        if no <= last.no:
+            self.found.add("MOVED ROW", f"row {no} stands behind row {last.no}")
+        elif missing > 0:
+            self.found.add("MISSING ROWS", f"{last.no + 1} to {no - 1}")
+        elif missing == 0 and not self.broken and row["before"] != last.chain:
+            self.found.add("OTHER ROW", f"row {last.no} is not the one that row {no} followed")
+        if self.came and seconds(self.came) - seconds(row["at"]) > SET_BACK:
+            self.found.add("SET BACK", f"row {no} is of {row['at']}, the one before of {self.came}")
+        self.came, self.is_begun, self.broken = row["at"], True, 0
+        self.found.last = Last(max(no, last.no), row["chain"])
+
+
+@dataclass
+class Verifier:
+    """What a site's journal is judged by. Each `step`-th signature is also given to ssh-keygen.
+    `noted` is the digest of a row that somebody noted before."""
+
+    judge: Judge
+    signers: Signers
+    late: int
+    step: int = 1_000
+    noted: str = ""
+    has_noted: bool = False
+    versions: dict[str, tuple[Version, str]] = field(default_factory=dict)
+    mine: dict[str, list[Came]] = field(default_factory=lambda: defaultdict(list))
+    codes: dict[int, str] = field(default_factory=dict)
+    texts: dict[int, str] = field(default_factory=dict)
+
+    def look(
+        self, journal: str, messages: list[str] | None, counting: Counting | None = None
+    ) -> Found:
+        """All that is found of a journal, and of the messages that a desk holds."""
+        found = Found()
+        lost = {print_of_blob(it) for it in self.lost()}
+        for row in Chain(found).rows(journal):
+            found.counts["rows"] += 1
+            self.has_noted |= row["chain"] == self.noted
+            if row["row"] == "came":
+                self.look_at_row(row, lost, found)
+            elif row["row"] == "answered":
+                self.codes[row["of"]] = row["code"]
+            elif row["row"] == "healed":
+                found.add("HEALED", f"row {row['no']}: {row['bytes']} bytes behind a power cut")
+        if messages is not None:
+            self.look_at_messages(messages, counting, found)
+        return found
+
+    def lost(self) -> list[bytes]:
+        """The keys that were lost, or revoked, as they are known now."""
+        return [base64.b64decode(it.split(" ")[1]) for it in self.signers.now().revoked()]
+
+    def look_at_row(self, row: Row, lost: set[str], found: Found) -> None:
+        """A message as it came: whether its author signed it."""
+        how = row["how"]
+        signed = Signed(row["message"], row["signature"], row["about"], row["why"])
+        if how == "refused":
+            found.counts["refused"] += 1
+            return
+        why = self.why_not(signed, row, found) if how == "signed" else ""
+        if why:
+            found.add("BAD SIGNATURE", f"row {row['no']}: {why}", row["message"])
+        if row["key"] in lost:
+            found.add("LOST KEY", f"row {row['no']} of {row['at']}: {row['key']}", row["message"])
+        is_good = how == "signed" and not why
+        kept = Came(row["no"], row["at"], how, row["about"], row["why"], is_good)
+        self.mine[signed.digest].append(kept)
+        self.texts[row["no"]] = signed.digest
+
+    def why_not(self, signed: Signed, row: Row, found: Found) -> str:
+        """Why a row's signature is none of the message's author, by what held when it came; empty
+        where it is."""
+        try:
+            said = read_message(signed.message)
+            version = self.version_of(row)
+            key = self.judge.key_of(version, said.by, signed, row["at"])
+            found.counts["signatures"] += 1
+            if found.counts["signatures"] % self.step == 1 or self.step == 1:
+                found.counts["by ssh-keygen"] += 1
+                made = signed.signed_bytes(self.judge.site)
+                by_ssh_keygen(version, said.by, made, row["at"])
+        except (BadSignature, BadSigners, BadLine) as fault:
+            return str(fault)
+        return "" if key == row["key"] else f"it is of {key}, and not of {row['key']}"
+
+    def version_of(self, row: Row) -> Version:
+        """The version by which a row was judged, which held when it came. (In the second of a
+        change either did.)"""
+        at = row["signers"]
+        if at not in self.versions:
+            later = [it for it in self.signers.moments() if it > at]
+            if at not in self.signers.moments():
+                raise BadSigners(f"there are no signers of {at}")
+            self.versions[at] = self.signers.version(at), later[0] if later else "9"
+        version, end = self.versions[at]
+        if not at <= row["at"] <= end:
+            raise BadSigners(f"the signers of {at} did not hold at {row['at']}")
+        return version
+
+    def look_at_messages(
+        self, messages: list[str], counting: Counting | None, found: Found
+    ) -> None:
+        """Each message that a desk holds, and each that it acknowledged."""
+        requests = requests_of(messages)
+        for text in messages:
+            self.look_at(text, requests, counting, found)
+        held = {digest(it) for it in messages}
+        for no, code in self.codes.items():
+            if code == "ack" and no in self.texts and self.texts[no] not in held:
+                found.add("NOT AT THE DESK", f"row {no}: it was acknowledged, and is not held")
+
+    def look_at(
+        self,
+        text: str,
+        requests: dict[tuple[str, int], list[str]],
+        counting: Counting | None,
+        found: Found,
+    ) -> None:
+        """One message: whether somebody signed it, over which request, and when it came."""
+        said, rows = said_of(text), self.mine.get(digest(text), [])
+        good = [it for it in rows if it.is_good]
+        found.counts["messages"] += 1
+        if good:
+            found.counts["signed"] += 1
+            if seconds(good[0].at) - seconds(said.at) > self.late:
+                found.add("LATE", f"it says {said.at}, and came at {good[0].at}", text)
+        elif not any(it.how == "signed" for it in rows):
+            whys = [HOWS[it.how] for it in rows]
+            found.add("UNSIGNED", whys[0] if whys else "it came past the door", text)
+        if isinstance(said, Verdict) and said.kind == "approve":
+            if counting is None or (said.by, said.of, said.no, said.at) in counting:
+                self.look_at_approval(said, text, good, requests, found)
+
+    def look_at_approval(
+        self,
+        said: Verdict,
+        text: str,
+        good: list[Came],
+        requests: dict[tuple[str, int], list[str]],
+        found: Found,
+    ) -> None:
+        """Whether an approval that counts was given over the very request, and its reason."""
+        found.counts["approvals"] += 1
+        asked = requests.get((said.of, said.no), [])
+        mine = [it for it in good if len(asked) == 1 and it.about == asked[0]]
+        whys = {it.why for it in self.mine.get(asked[0], []) if it.is_good} if asked else set()
+        if not good:
+            found.add("COUNTS UNSIGNED", "its approver did not sign it", text)
+        elif not mine:
+            found.add("OTHER REQUEST", "it was given over other bytes than are held", text)
+        elif whys and not any(it.why in whys for it in mine):
+            found.add("OTHER REASON", "it was given over another reason or ticket", text)
+        else:
+            found.counts["over the very request"] += 1
+
+
+def requests_of(messages: Iterable[str]) -> dict[tuple[str, int], list[str]]:
+    """The digests of the requests of each name."""
+    named: dict[tuple[str, int], list[str]] = defaultdict(list)
+    for text in messages:
+        said = said_of(text)
+        if isinstance(said, Request):
+            named[said.by, said.no].append(digest(text))
+    return named
+
+
+@lru_cache(maxsize=1 << 17)
+def read_message(text: str) -> Request | Verdict:
+    """(each is looked at in the journal, and at the desk)"""
+    return said_in(text)
+
+
+def said_of(text: str) -> Request | Verdict:
+    try:
+        return read_message(text)
+    except BadLine as fault:
+        raise BadInput(f"{fault}: this is no message: {text[:80]}") from None
+
+
+def summary(found: Found, is_counted: bool) -> Iterator[str]:
+    counts = found.counts
+    yield f"{counts['rows']} rows, {counts['refused']} messages were refused by the door"
+    yield f"{counts['signatures']} signatures, {counts['by ssh-keygen']} by ssh-keygen again"
+    yield f"{counts['messages']} messages at the desk, {counts['signed']} signed by their authors"
+    which = "approvals that count" if is_counted else "approvals"
+    yield f"{counts['approvals']} {which}, {counts['over the very request']} over the very request"
+    yield f"the last row is {found.last.no}: {found.last.chain}"

@@ -1,0 +1,22 @@
+"""What goes wrong, and the statuses that say so."""
+
+from __future__ import annotations
+
+
+FAULT, UNFIT = 1, 3  # statuses; 2 is argparse's, for wrong words
+
+
+class Fault(Exception):
+    """Why nothing was done, in a line, and the status."""
+
+    def __init__(self, why: str, status: int = FAULT) -> None:
+        super().__init__(why)
+        self.status = status
+
+
+class Unclear(Exception):
+    """Why sudo cannot be asked about a session, by what its user chose or did."""
+
+
+class Unanswered(Exception):
+    """Why sudo gives no answer, whoever is asked about: that is for this host to mend."""

@@ -1,0 +1,100 @@
+"""Writes messages for their authors to sign on their own machines (`mydesk`), and takes them back
+signed (docs/SIGNING.md)."""
+
+from __future__ import annotations
+
+import json
+import sys
+from typing import TYPE_CHECKING
+
+from steelnewt_client.messages import VERDICTS, BadWord, Request, Verdict
+from steelnewt_client.moments import now, stamp
+from steelnewt_client.signed import MOST_LINE, MOST_LISTED, BadLine, Signed, read_line
+from steelnewt_relay import telling
+from steelnewt_relay.admission import objections
+from steelnewt_relay.posting import post_one
+from steelnewt_relay.reasons import NONE, Reason
+from steelnewt_relay.sending import DONE, again_of, asked_of, told_request, told_verdict
+
+if TYPE_CHECKING:
+    from steelnewt_client.messages import Wish
+    from steelnewt_relay.ssh import Call
+
+Item = dict[str, object]
+SIGN = (
+    "this site takes signed messages alone: write mydesk in place of ssh and the relay's name"
+    " (man mydesk)"
+)
+
+
+def item(text: str, request: str | None, reason: Reason, notes: list[str]) -> Item:
+    """What a person's own program is told of a message."""
+    told: Item = {"message": text, "request": request, "why": reason.why}
+    return told | {"ticket": reason.ticket, "notes": [it for it in notes if it]}
+
+
+def prepare_request(call: Call, wish: Wish, reason: Reason) -> Item:
+    """A request, which is sent once it comes back signed."""
+    at = now()
+    note = telling.objected(objections(call.roster, call.person, wish, at))
+    request = call.outbox.prepare_request(call.person, wish.as_of(at), stamp(at), reason)
+    return item(request.text(), None, reason, [note])
+
+
+def prepare_verdict(call: Call, kind: str, of: str, no: int) -> Item:
+    """A verdict, the request's text if this relay brought it, and how that stands."""
+    verdict, kept = Verdict(call.person, kind, of, no, stamp(now())), call.outbox.request(of, no)
+    notes, reason = [telling.unseen(kind, of, no)] if kept is None else [], NONE
+    if kept is not None:
+        if kind == "approve":
+            telling.approvable(kept)
+        knowledge = call.knowledge()
+        standing, reason = knowledge.standing(kept), kept.reason
+        notes.append(telling.fate(standing, call.zone, call.roster, now()))
+        notes.append(telling.warning(kind, knowledge.bar_now(standing, kind, call.person)))
+    call.outbox.prepare_verdict(verdict, reason)
+    return item(verdict.text(), kept.request.text() if kept else None, reason, notes)
+
+
+def told(items: list[Item]) -> None:
+    print(json.dumps({"items": items}))
+
+
+def signed_lines() -> list[Signed]:
+    """The messages that somebody signed, a line each."""
+    given = sys.stdin.buffer.read((MOST_LINE + 1) * MOST_LISTED + 1)
+    lines = given.removesuffix(b"\n").split(b"\n")
+    if len(lines) > MOST_LISTED:
+        raise BadWord(f"these are more than {MOST_LISTED} messages")
+    try:
+        found = [read_line(it) for it in lines]
+    except BadLine as fault:
+        raise BadWord(f"this is no message with a signature: {fault}") from None
+    if not all(it.signature for it in found):
+        raise BadWord("this is no message with a signature: mydesk makes one")
+    return found
+
+
+def prepare(call: Call) -> int:
+    """Writes messages for their author to sign, with what they have to see of each."""
+    call.said = call.said.said
+    if call.said.command in VERDICTS:
+        names = call.said.names
+        told([prepare_verdict(call, call.said.command, *it) for it in names])
+    else:
+        wish, reason = again_of(call) if call.said.command == "again" else asked_of(call)
+        told([prepare_request(call, wish, reason)])
+    return DONE
+
+
+def send_signed(call: Call) -> int:
+    """Keeps messages that their author signed, posts them, and says what became of each."""
+    status = DONE
+    for kept in [call.outbox.keep_signed(call.person, it) for it in signed_lines()]:
+        if isinstance(kept.message, Request):
+            call.say_strong(f"Kept as {call.person} {kept.request.no}.")
+            status = max(status, told_request(call, post_one(call.outbox, call.desk, kept)))
+        else:
+            call.say(f"Kept: {kept.verdict.kind} {kept.verdict.of} {kept.verdict.no}.")
+            status = max(status, told_verdict(call, post_one(call.outbox, call.desk, kept)))
+    return status

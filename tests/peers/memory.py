@@ -1,0 +1,157 @@
+#!/usr/bin/env python3
+"""The memory that the desk's unit gets: it follows the messages of the store at each start, and the
+log of the desk warns where they may need half of it.
+
+`python3 -m tests.peers.memory WORDS..` runs another program than build/desk. As root it also looks
+at who reads the store.
+"""
+
+import os
+import sqlite3
+import subprocess
+import sys
+import tempfile
+from collections.abc import Iterator
+
+from tests.common import desk
+
+Row = tuple[str, bool, str]
+MEMORY = os.path.join(desk.ROOT, "packaging", "desk-memory")
+SERVE = os.path.join(desk.ROOT, "packaging", "desk-serve")
+A_UNIT = 1 << 20
+MACHINE = os.sysconf("SC_PHYS_PAGES") * os.sysconf("SC_PAGE_SIZE")
+MOST = MACHINE // 10 * 9
+# systemd, as far as a unit's MemoryMax goes: what it is, and what it is set to
+SYSTEMCTL = """#!/bin/bash
+case $1 in
+    show) cat "$ROOM/has" ;;
+    set-property) echo "${*:2}" > "$ROOM/set" ;;
+esac
+"""
+HOSTILE = "CREATE VIEW messages AS SELECT 'x' AS body WHERE edit('x', 'touch {room}/ran #') <> '';"
+
+
+def filled(path: str, count: int) -> None:
+    """A store whose table of messages has so many rows."""
+    with sqlite3.connect(path) as base:
+        base.execute("CREATE TABLE messages (body TEXT PRIMARY KEY NOT NULL) STRICT")
+        base.executemany("INSERT INTO messages VALUES (?)", ((str(it),) for it in range(count)))
+    base.close()
+
+
+def given(room: str, has: str, store: str) -> tuple[str, str]:
+    """What a unit that has so much memory is set to, and what the log says."""
+    desk.write(room, "has", f"{has}\n")
+    if os.path.exists(f"{room}/set"):
+        os.unlink(f"{room}/set")
+    held = {"PATH": f"{room}/bin:{os.environ['PATH']}", "ROOM": room, "STORE": store}
+    held |= {"ACCOUNT": "nobody" if os.geteuid() == 0 else str(os.getuid())}
+    ran = subprocess.run(
+        [MEMORY, "desk.service"],
+        env=os.environ | held,
+        stdout=subprocess.PIPE,
+        stderr=subprocess.STDOUT,
+        text=True,
+        check=False,
+    )
+    return desk.read(room, "set") if os.path.exists(f"{room}/set") else "", ran.stdout
+
+
+def follows(room: str) -> Iterator[Row]:
+    """2 KiB a message, four times over; no less than the unit has, and no more than there is."""
+    store = f"{room}/store/desk.db"
+    count = 2_000
+    filled(store, count)
+    own(room)
+    wants = min(count * 2048 * 4, MOST)
+    for what, has, said in (
+        ("the unit's own", str(A_UNIT), f"--runtime -- desk.service MemoryMax={wants}\n"),
+        ("somebody's who wants more", str(wants + 1), ""),
+        ("as much", str(wants), ""),
+        ("no limit", "infinity", ""),
+    ):
+        found, told = given(room, has, store)
+        yield f"{what}", found == said, f"{found!r}: {told}"
+    for what, path in (("no store", "-"), ("a new one", f"{room}/store/none.db")):
+        found, told = given(room, str(A_UNIT), path)
+        yield what, (found, told) == ("", ""), f"{found!r}: {told}"
+    found, told = given(room, "1", store)
+    yield "a small unit", found.endswith(f"={wants}\n"), f"{found!r}: {told}"
+
+
+def unread(room: str) -> Iterator[Row]:
+    """What is not surely a number of messages changes nothing, and says so."""
+    hostile = f"{room}/store/hostile.db"
+    with sqlite3.connect(hostile) as base:
+        base.executescript(HOSTILE.format(room=room))
+    base.close()
+    desk.write(f"{room}/store", "junk.db", os.urandom(8192))
+    own(room)
+    os.chmod(room, 0o777)
+    for name in ("hostile", "junk"):
+        found, told = given(room, str(A_UNIT), f"{room}/store/{name}.db")
+        is_said = "cannot be counted: desk.service keeps its MemoryMax" in told
+        yield f"{name}", found == "" and is_said, f"{found!r}: {told}"
+    ran = os.path.exists(f"{room}/ran")
+    yield "what somebody wrote into it is not run", not ran, str(os.listdir(room))
+    if os.geteuid() == 0:
+        os.chown(f"{room}/store/desk.db", 0, 0)
+        os.chmod(f"{room}/store/desk.db", 0o600)
+        found, told = given(room, str(A_UNIT), f"{room}/store/desk.db")
+        yield "it is read as its account", "cannot be counted" in told, f"{found!r}: {told}"
+
+
+def own(room: str) -> None:
+    """The store is another account's, as that of the service is."""
+    if os.geteuid() == 0:
+        subprocess.run(["chown", "-R", "nobody", f"{room}/store"], check=True)
+
+
+def warned(room: str) -> Iterator[Row]:
+    """The log of a desk over two messages, each of which would need so much."""
+    roster, base = desk.write(room, "roster.toml", desk.read(desk.ROSTER)), desk.read(desk.BASE)
+    base = desk.write(room, "base.sudo", base)
+    store = f"{room}/served.db"
+    told = f"{desk.request()}\n{desk.approval()}\n"
+    program = desk.named()
+    desk.run([*program, "deliver", roster, base, store, "chat"], told)
+    words = {"ROSTER": roster, "BASE": base, "STORE": store, "ADDR": f"unix:{room}/desk.sock"}
+    for a_message, is_said in ((MACHINE // 4 + 4096, True), (1024, False)):
+        held = words | {"DESK": program[0], "A_MESSAGE": str(a_message)}
+        job = subprocess.Popen(
+            [SERVE],
+            env=os.environ | held,
+            stdout=subprocess.PIPE,
+            stderr=subprocess.STDOUT,
+            text=True,
+        )
+        assert job.stdout is not None
+        lines = []
+        for line in job.stdout:
+            lines.append(line)
+            if line.startswith("desk: serving 2 messages"):
+                job.terminate()
+        job.wait()
+        warning = [it for it in lines if "WARNING: 2 messages may need" in it]
+        yield f"{a_message} bytes a message", bool(warning) == is_said, "".join(lines)
+
+
+def main() -> None:
+    checks, wrong = 0, 0
+    with tempfile.TemporaryDirectory() as room:
+        os.chmod(room, 0o755)
+        for name in ("bin", "store"):
+            os.mkdir(f"{room}/{name}")
+        os.chmod(desk.write(f"{room}/bin", "systemctl", SYSTEMCTL), 0o755)
+        for part in (follows, unread, warned):
+            for what, is_right, said in part(room):
+                checks += 1
+                if not is_right:
+                    wrong += 1
+                    print(f"{what}: otherwise. {said}")
+    print(f"the memory of the unit: {checks} checks, {wrong} wrong")
+    sys.exit(1 if wrong else 0)
+
+
+if __name__ == "__main__":
+    main()
