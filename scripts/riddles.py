@@ -1,5 +1,5 @@
-"""Riddles: sentences of comments (of Python and of scripts), docstrings and pages whose pronouns
-have no noun beside them.
+"""Riddles: sentences of comments (of Python, of scripts and of crates), docstrings and pages whose
+pronouns have no noun beside them.
 
 A reader who meets 'of both, what did not change since is not looked for again' has to guess what
 both are. Such a sentence has one of a few shapes, which this finds: two that begin with `what` or
@@ -125,6 +125,30 @@ def code_files() -> Iterator[tuple[str, str]]:
                 yield path, repository.read(path)
 
 
+def crate_comments(source: str) -> Iterator[tuple[int, str, bool]]:
+    """Each comment of a crate's file that has lines of its own, with the first one's number, and
+    whether it documents what stands below it. A paragraph of such documentation is one."""
+    held: list[str] = []
+    is_docstring = False
+    for number, line in enumerate([*source.splitlines(), ""], 1):
+        found = re.match(r" *(//[/!]?) ?(.*)", line)
+        if held and not (found and found[2] and (found[1] != "//") == is_docstring):
+            yield number - len(held), " ".join(held), is_docstring
+            held = []
+        if found and found[2]:
+            is_docstring = found[1] != "//"
+            held.append(found[2])
+
+
+def crate_files() -> Iterator[tuple[str, str]]:
+    """The files of the crates, by their names, with their texts."""
+    for ending in ("rt", "antt"):
+        pattern = os.path.join(repository.ROOT, "crates", "**", f"*.{ending}")
+        for path in sorted(glob.glob(pattern, recursive=True)):
+            name = os.path.relpath(path, repository.ROOT)
+            yield name, repository.read(name)
+
+
 def is_program(path: str) -> bool:
     with open(path, "rb") as file:
         return bool(re.match(rb"#!.*(?:python|sh)\b", file.readline()))
@@ -159,7 +183,7 @@ def paragraphs(text: str) -> Iterator[tuple[int, str]]:
 
 
 def faults() -> Iterator[str]:
-    """The riddles of Python, of scripts and of pages; this file shows some."""
+    """The riddles of Python, of scripts, of crates and of pages; this file shows some."""
     for name, source in code_files():
         if name == os.path.relpath(os.path.abspath(__file__), repository.ROOT):
             continue
@@ -169,6 +193,10 @@ def faults() -> Iterator[str]:
         else:
             found = [(number, text, False) for number, text in shell_comments(source)]
         for number, text, is_docstring in found:
+            said = riddles_of_code(text, is_docstring)
+            yield from (f"{name}:{number}: a riddle: {it[:120]}" for it in said)
+    for name, source in crate_files():
+        for number, text, is_docstring in crate_comments(source):
             said = riddles_of_code(text, is_docstring)
             yield from (f"{name}:{number}: a riddle: {it[:120]}" for it in said)
     for name in pages():

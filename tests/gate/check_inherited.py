@@ -10,15 +10,17 @@ send signals run under `nohup` with a closed input: they end as they do at a ter
 
 from __future__ import annotations
 
+import ctypes
 import json
 import os
 import pwd
 import signal
+import struct
 import subprocess
 import sys
 import tempfile
 import time
-from collections.abc import Sequence
+from collections.abc import Iterable, Sequence
 
 from tests.common import desk
 from tests.common.tally import Count
@@ -45,6 +47,11 @@ print(json.dumps({
 """
 # what Python itself ignores once it runs
 PYTHONS = {signal.SIGPIPE, signal.SIGXFSZ}
+# The C library keeps two signals to itself, and lets no program set them (nptl(7)); it sets what it
+# needs of them whatever they were. A runner that sets all signals by system calls hands them on.
+C_LIBRARYS = {32, 33}
+# rt_sigaction(2) on x86-64, and the size of its sets
+RT_SIGACTION, SET_BYTES = 13, 8
 HOSTILE = {
     "HOME": "/nonexistent",
     "TMPDIR": "/nonexistent",
@@ -72,11 +79,19 @@ SIGNALLED = (
 )
 
 
+def signals(numbers: Iterable[int]) -> int:
+    """A set of signals as /proc/PID/status shows it."""
+    return sum(1 << (number - 1) for number in numbers)
+
+
 def hostile() -> None:
     """In the child, before its words."""
     for number in signal.valid_signals() - {signal.SIGKILL, signal.SIGSTOP}:
         if number < signal.SIGRTMIN:
             signal.signal(number, signal.SIG_IGN)
+    for number in C_LIBRARYS:
+        action = struct.pack("@4Q", signal.SIG_IGN, 0, 0, 0)  # its handler, flags, restorer, mask
+        ctypes.CDLL(None).syscall(RT_SIGACTION, number, action, None, SET_BYTES)
     signal.pthread_sigmask(signal.SIG_SETMASK, {signal.SIGTERM, signal.SIGCHLD, signal.SIGUSR1})
     os.umask(0o077)
     os.chdir(desk.ROOT)
@@ -105,7 +120,6 @@ def started(before: Sequence[str], words: Sequence[str], seconds: float) -> tupl
 
 
 def inherits(count: Count) -> None:
-    ignored = sum(1 << (number - 1) for number in PYTHONS)
     account = pwd.getpwuid(os.getuid())
     for title, before in STARTS.items():
         with tempfile.TemporaryDirectory() as folder:
@@ -116,8 +130,9 @@ def inherits(count: Count) -> None:
                 continue
             seen = json.loads(said.splitlines()[-1])
             environment = seen.pop("environment")
+            seen["ignored"] &= ~signals(C_LIBRARYS)
             wanted = {
-                "ignored": ignored,
+                "ignored": signals(PYTHONS),
                 "blocked": 0,
                 "umask": 0o022,
                 "descriptors": ["0", "1", "2"],
