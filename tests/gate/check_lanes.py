@@ -199,6 +199,24 @@ def passing(count: Count) -> None:
     count.holds("none that is longer passes", ended.index("wide") < ended.index("long"), ended)
 
 
+def passing_late(count: Count) -> None:
+    """The same where the part that holds the other lane takes longer than it last took."""
+    with tempfile.TemporaryDirectory() as folder:
+        over = os.path.join(folder, "over")
+        waits = f"bash -c 'for _ in $(seq 300); do [ -e {over} ] && break; sleep 0.1; done'"
+        parts = [
+            Part("first", "sleep 3"),
+            Part("slow", waits),
+            Part("wide", WELL, cores=2, after="first"),
+            Part("short", f"touch {over}", after="first"),
+        ]
+        known = {"first": 0.05, "slow": 0.04, "wide": 0.03, "short": 0.01}
+        said: list[str] = []
+        Lanes(parts, 2, folder, known=known, say=said.append).run()
+    ended = [it.split()[3] for it in "".join(said).splitlines() if it.startswith("(")]
+    count.same("beside one that is late", ended, ["first", "short", "slow", "wide"])
+
+
 def apart(count: Count) -> None:
     """Each has a folder of its own, which is gone behind it, with what it left running."""
     parts = [Part(name, "bash -c 'echo at $TMPDIR; sleep 987.25 & disown'") for name in "ab"]
@@ -289,7 +307,7 @@ def ends(count: Count) -> None:
 
 def main() -> int:
     count = Count()
-    for part in (faults, order, side_by_side, passing, apart, planted, ends):
+    for part in (faults, order, side_by_side, passing, passing_late, apart, planted, ends):
         begun = time.monotonic()
         part(count)
         print(f"{part.__name__}: {time.monotonic() - begun:.1f} seconds", flush=True)
