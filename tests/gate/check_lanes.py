@@ -195,7 +195,7 @@ def passing(count: Count) -> None:
         parts = [it._replace(minutes=lasts[it.name]) for it in parts]
         said = ran(parts, 2)[1]
     ended = [it.split()[3] for it in said.splitlines() if it.startswith("(")]
-    count.same("the order of their ends", ended[:3], ["first", "short", "slow"])
+    count.holds("a short one passes", ended.index("short") < ended.index("wide"), ended)
     count.holds("none that is longer passes", ended.index("wide") < ended.index("long"), ended)
 
 
@@ -214,7 +214,8 @@ def passing_late(count: Count) -> None:
         said: list[str] = []
         Lanes(parts, 2, folder, known=known, say=said.append).run()
     ended = [it.split()[3] for it in "".join(said).splitlines() if it.startswith("(")]
-    count.same("beside one that is late", ended, ["first", "short", "slow", "wide"])
+    is_right = ended.index("short") < ended.index("wide")
+    count.holds("a short one passes one that waits for one that is late", is_right, ended)
 
 
 def apart(count: Count) -> None:
