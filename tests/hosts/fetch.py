@@ -23,7 +23,7 @@ OTHER_ROSTER, OTHER_BASE = "c" * 64, "d" * 64
 UNFIT = 3
 
 BOB = b"bob ALL = (root) ALL\n"
-# desk-host under a clock of that second (by `faketime`, Python's own sleeps and locks fail at times)
+# desk-host under a clock of that second (by `faketime`, what Python waits for fails at times)
 CLOCK = """\
 import runpy, sys, time
 time.time = lambda: {}
