@@ -3,16 +3,18 @@
 
 A store that is made is named. A file, a stream or an address that fails is named with its cause. A
 device without an end, a folder, a file past its limit and a line without an end take no memory.
-`rebuild` says which grants change, as desk-change-roster does. `desk-serve` takes another base at
-SIGHUP only where the desk would, and its --check names each fault of a site. `desk-audit` answers
-while its store is written without a pause. `python3 -m tests.peers.peers_site WORDS..` runs another
-program than build/desk; `--only PART..` before them tries some of the parts. desk-audit stands
-beside the program, or AUDIT names it.
+`rebuild` says which grants change, as desk-change-roster does. `desk-serve` takes another roster
+and another base at SIGHUP only where the desk would, and its --check names each fault of a site.
+`desk-audit` answers while its store is written without a pause.
+
+`python3 -m tests.peers.peers_site WORDS..` runs another program than build/desk; `--only PART..`
+before them tries some of the parts. desk-audit stands beside the program, or AUDIT names it.
 """
 
 from __future__ import annotations
 
 import contextlib
+import hashlib
 import json
 import os
 import random
@@ -458,6 +460,11 @@ class Served:
             return body if head.startswith(b"HTTP/1.1 200 ") else b""
         return b""
 
+    def post(self, body: str) -> None:
+        with desk.connected(self.address, PATIENCE) as peer:
+            peer.sendall(desk.posted(b"chat", body.encode()))
+            assert desk.received(peer).endswith(b"ack\n"), body
+
     def ask(self, word: str) -> tuple[str, int]:
         """What the program says with this word, and its status."""
         done = subprocess.run(
@@ -483,7 +490,7 @@ def site_of(words: list[str], folder: str) -> Iterator[Served]:
 
 def reloads(count: Count, words: list[str], folder: str) -> None:
     """At SIGHUP a base is taken that the desk takes; else the old one is served, and the log says
-    why. Another roster is not taken."""
+    why."""
     line = "dave db1 = (root) /usr/bin/true\n"
     with site_of(words, folder) as served:
         served.start()
@@ -508,10 +515,6 @@ def reloads(count: Count, words: list[str], folder: str) -> None:
         desk.write(os.path.dirname(served.base), "base.sudo", heavy)
         refused("a base past a limit", "K6 BaseTooLarge")
         desk.write(os.path.dirname(served.base), "base.sudo", text + line)
-        shown = desk.read("examples", "roster.toml")
-        desk.write(os.path.dirname(served.roster), "roster.toml", shown + "# later\n")
-        refused_roster(count, served, old)
-        desk.write(os.path.dirname(served.roster), "roster.toml", shown)
         count.same("a base that it takes: asked before", served.ask("--base"), ("", 0))
         served.hang_up()
         wanted = old + line.encode()
@@ -524,13 +527,86 @@ def reloads(count: Count, words: list[str], folder: str) -> None:
         count.same("it ends as before", served.end(), 0)
 
 
-def refused_roster(count: Count, served: Served, old: bytes) -> None:
-    begun = len(served.said())
-    served.hang_up()
-    told = "a new one is desk-change-roster's"
-    is_told = comes(lambda: told in served.said()[begun:], PATIENCE) is not None
-    count.holds("another roster: the log says what to do", is_told, served.said()[begun:])
-    count.same("another roster: the old desk is served", served.file(), old)
+ROSTERS = 40  # how many rosters a served desk is to take while it is asked
+
+
+def digest_of(text: str) -> str:
+    return hashlib.sha256(text.encode()).hexdigest()
+
+
+def takes_rosters(count: Count, words: list[str], folder: str) -> None:
+    """At SIGHUP a served desk takes another roster, and goes on: the same process, with the same
+    messages, answers by it. One that is none, or that is another one by the time the desk reads it,
+    is not taken."""
+    shown = desk.read("examples", "roster.toml")
+    with site_of(words, folder) as served:
+        room = os.path.dirname(served.roster)
+        served.start()
+        count.holds("it serves", comes(served.file, PATIENCE) is not None, served.said())
+        for body in (desk.request(), desk.approval()):
+            served.post(body)
+        granted = served.file()
+        count.holds("a grant is there", granted.count(b"ann") > 0, granted)
+
+        def takes(title: str, text: str, told: str) -> None:
+            begun = len(served.said())
+            desk.write(room, "roster.toml", text)
+            served.hang_up()
+            is_told = comes(lambda: told in served.said()[begun:], PATIENCE) is not None
+            count.holds(f"{title}: the log says so", is_told, served.said()[begun:])
+
+        def serves(text: str) -> str:
+            return f"serving 2 messages, roster {digest_of(text)}"
+
+        takes("a roster that is none", "=", "O1 NotToml")
+        count.same("a roster that is none: the old one is served", served.file(), granted)
+        later = shown + "# later\n"
+        takes("a comment more", later, serves(later))
+        count.same("a comment more: the same file", served.file(), granted)
+        short = shown.replace("longest = 7200", "longest = 60")
+        takes("a shorter window", short, serves(short))
+        count.holds("a shorter window: it lapses", b"ann" not in served.file(), served.file())
+        takes("the first roster again", shown, serves(shown))
+        count.same("the first roster again: the grant is back", served.file(), granted)
+        said = served.said()
+        count.same("one process served all the time", said.count("listening at"), 1)
+        count.same("it ends as before", served.end(), 0)
+        told = answer([*words, "print", served.roster, served.base, served.store, "db1"])
+        count.same("the store has the last roster", told, (granted.decode(), "", 0))
+
+
+def asks_meanwhile(count: Count, words: list[str], folder: str) -> None:
+    """While a served desk takes one roster after the other, each answer is by one of them, and none
+    is lost."""
+    shown = desk.read("examples", "roster.toml")
+    both = (shown, shown.replace("longest = 7200", "longest = 60"))
+    with site_of(words, folder) as served:
+        served.start()
+        comes(served.file, PATIENCE)
+        for body in (desk.request(), desk.approval()):
+            served.post(body)
+        wanted, found, ended = {served.file()}, set[bytes](), threading.Event()
+
+        def ask() -> None:
+            while not ended.is_set():
+                found.add(served.file())
+
+        asker = threading.Thread(target=ask)
+        asker.start()
+        for number in range(ROSTERS):
+            text = both[1 - number % 2]
+            begun = len(served.said())
+            desk.write(os.path.dirname(served.roster), "roster.toml", text)
+            served.hang_up()
+            told = f"roster {digest_of(text)}"
+            if comes(lambda at=begun, it=told: it in served.said()[at:], PATIENCE) is None:
+                count.holds(f"roster {number} is taken", False, served.said()[begun:])
+                break
+            if number == 0:
+                wanted.add(served.file())
+        ended.set()
+        asker.join()
+        count.same("each answer is by one of both rosters", found, wanted)
 
 
 ELSEWHERE = """
@@ -683,6 +759,8 @@ PARTS = (
     longer_and_shorter,
     struck_out,
     reloads,
+    takes_rosters,
+    asks_meanwhile,
     checks,
     syncs,
     audit_meanwhile,

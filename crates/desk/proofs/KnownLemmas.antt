@@ -163,3 +163,14 @@ pub up_where_counted : (Clean Up : Type 0) (known : Option Known) (count : Optio
 up_where_counted Clean Up None count n live nothing is =
     let wrong : ◌≡◌ {A = Option ℕ} (Some n) None = sym is ∙ nothing refl in absurd cc
 up_where_counted Clean Up (Some k) count n live nothing is = live
+
+-- the same is held, and what is known of it is known under another roster
+pub known_under : (f g : RosterFields Cmnd) (Up Later : Type 0) (S T : Message → Type 0) (old new : Option Known) → IsKnown f Up S old
+    → (Later → Up) → (Later → SameSet S T) → ((set : List Message) → IfSome old (IsKnownIn f set) → IfSome new (IsKnownIn g set))
+    → (old ≡ None → new ≡ None) → IsKnown g Later T new
+known_under f g Up Later S T None None known was same still nothing = tt
+known_under f g Up Later S T None (Some k) known was same still nothing =
+    let wrong : ◌≡◌ {A = Option Known} (Some k) None = nothing refl in absurd cc
+known_under f g Up Later S T (Some k) None known was same still nothing = tt
+known_under f g Up Later S T (Some k) (Some l) known was same still nothing = λ later.
+    let it = known (was later) in (it.0, lists_still S T it.0 (same later) it.1, still it.0 it.2)

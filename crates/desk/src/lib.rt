@@ -18,6 +18,7 @@ mod refusal;
 mod reopening;
 mod run_laws;
 mod stopping;
+mod taking;
 mod texts;
 
 pub use ack::Ack;

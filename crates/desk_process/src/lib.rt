@@ -13,12 +13,14 @@ mod connection;
 mod files;
 mod listener;
 mod log;
+mod orders;
 mod ready;
 mod service;
 mod serving;
 mod socket;
 mod stores;
 mod streams;
+mod taking;
 mod trouble;
 mod working;
 

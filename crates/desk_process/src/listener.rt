@@ -1,6 +1,6 @@
 //! Listening, and what is said as a service begins and ends.
 
-use crate::log::Log;
+use crate::log::{Log, Serving};
 use crate::service::{End, Service, events};
 use crate::socket::{At, listen};
 use crate::trouble::Trouble;
@@ -8,24 +8,15 @@ use desk::{Desk, Keeper};
 use desk_commands::Address;
 use std::{fmt, io};
 
-/// What is served, as a line.
+/// What the words of a service say.
 #[derive(Clone, Copy)]
-struct Serving<'a> {
-    roster: &'a str,
-    messages: Option<usize>,
-}
-
-impl fmt::Display for Serving<'_> {
-    fn fmt<W: fmt::Write>(&self, f: &mut fmt::Formatter<W>) -> fmt::Result {
-        match self.messages {
-            Some(messages) => write!(f, "serving {messages} messages, roster {}", self.roster),
-            None => write!(
-                f,
-                "serving messages that were not counted, roster {}",
-                self.roster
-            ),
-        }
-    }
+pub(crate) struct Words<'a> {
+    /// The path of the roster's file.
+    pub(crate) roster: &'a str,
+    /// Where it listens.
+    pub(crate) addr: &'a Address,
+    /// How many connections it serves; without a number, until the process ends.
+    pub(crate) requests: Option<u64>,
 }
 
 /// Who can reach an address and a port, as a line.
@@ -67,11 +58,6 @@ impl fmt::Display for Ended<'_> {
     }
 }
 
-/// How many messages the desk has, where memory and the storage allow counting them.
-fn count<K: Keeper>(desk: &mut Desk<K>) -> Option<usize> {
-    desk.count().ok()
-}
-
 /// The address without what says of which kind it is.
 fn text_of(addr: &Address) -> &str {
     match addr {
@@ -90,7 +76,8 @@ fn failed(rt: &HostRuntime, addr: &Address, error: io::Error) -> Trouble {
 /// made one after the other, each once its request is there.
 ///
 /// It prints `listening` and the address, once it listens there. On the standard error it says what
-/// it serves, with the digest of the roster; a warning where the address has a port; each 503
+/// it serves, with the digest of the roster, at first and once it takes another one; why it takes
+/// none; a warning where the address has a port; each 503
 /// that is answered; each connection that is let go before its response is out; and why it ended.
 /// It ends once the desk's storage is shut after a failure, since the desk would answer nothing any
 /// more. It fails where the address cannot be listened at, where nothing can be printed, and where
@@ -99,9 +86,9 @@ pub(crate) fn serve_at<K: Keeper>(
     rt: &HostRuntime,
     desk: &mut Desk<K>,
     roster: &str,
-    addr: &Address,
-    requests: Option<u64>,
+    words: Words<'_>,
 ) -> Result<End, Trouble> {
+    let Words { addr, requests, .. } = words;
     let (listener, at) = listen(rt, addr).map_err(|error| failed(rt, addr, error))?;
     let mut events = events(rt).map_err(|error| failed(rt, addr, error))?;
     let mut service = Service::new(rt, listener, requests.unwrap_or(u64::MAX)).map_err(
@@ -116,9 +103,8 @@ pub(crate) fn serve_at<K: Keeper>(
     if at.has_port() {
         log.say(rt, &Warning(&at));
     }
-    let messages = count(desk);
-    log.say(rt, &Serving { roster, messages });
-    let served = service.run(rt, desk, &mut log, &mut events);
+    log.say(rt, &Serving::now(desk, roster));
+    let served = service.run(rt, desk, words.roster, &mut log, &mut events);
     log.say(rt, &Ended(&served));
     served.map_err(|error| failed(rt, addr, error))
 }

@@ -1,9 +1,11 @@
 //! The connections of a service, and whose turn it is.
 
 use crate::connection::{Buffers, Connection, Next, Peer, Step};
-use crate::log::{Answered, Log};
+use crate::log::{Answered, Log, Serving};
+use crate::orders::{MOST_READ, Orders};
 use crate::ready::Ready;
 use crate::socket::{Listener, Stream};
+use crate::taking::{Stays, take};
 use desk::{Desk, Keeper, Refusal};
 use mio::event::Events;
 use mio::{Interest, Poll, Token};
@@ -36,6 +38,9 @@ const TO_END: u64 = 500;
 
 /// The token of the listener. A connection's is its place.
 const LISTENER: Token = Token(MOST_CONNECTIONS);
+
+/// The token of the orders.
+const ORDERS: Token = Token(MOST_CONNECTIONS + 1);
 
 /// The places of the connections whose requests are whole, each kind in the order in which they
 /// came.
@@ -76,6 +81,8 @@ pub(crate) struct Service {
     waiting: Ready,
     routes: Routes,
     buffers: Buffers,
+    /// What whoever started the service asks of it, if it is asked so.
+    orders: Option<Orders>,
     places: Vec<Option<Connection>>,
     queues: RequestQueues,
     /// The places of the connections whose responses went out since the last wait, of which the
@@ -146,6 +153,10 @@ impl Service {
         let poll = Poll::new(rt)?;
         listener.watch(poll.registry(), LISTENER)?;
         let waiting = Ready::new(rt, listener.descriptor(), Interest::READABLE)?;
+        let orders = Orders::of(rt);
+        if let Some(orders) = &orders {
+            orders.watch(poll.registry(), ORDERS)?;
+        }
         let (Ok(routes), Ok(buffers)) = (Routes::new(rt.alloc()), Buffers::new(rt.alloc())) else {
             return Err(io::Error::from(ErrorKind::OutOfMemory));
         };
@@ -155,6 +166,7 @@ impl Service {
             waiting,
             routes,
             buffers,
+            orders,
             places: Vec::new(rt.alloc()),
             queues: RequestQueues::new(rt.alloc()),
             lingering: VecDeque::new(rt.alloc()),
@@ -301,6 +313,59 @@ impl Service {
             Ok((peer, response)) => self.respond(rt, log, at, peer, response, now),
             Err(connection) => self.put(at, connection),
         }
+        Ok(())
+    }
+
+    /// Has the desk take the roster that an order names, and says what is served then, or why the
+    /// roster stays.
+    fn obey<K: Keeper>(
+        &mut self,
+        rt: &HostRuntime,
+        desk: &mut Desk<K>,
+        log: &mut Log,
+        path: &str,
+        order: &[u8],
+    ) -> io::Result<()> {
+        let began = Instant::now(rt)?;
+        let taken = take(rt, desk, path, order);
+        self.busy = self.busy.saturating_add(millis(began.elapsed(rt)?));
+        match &taken {
+            Ok(digest) => log.say(rt, &Serving::now(desk, digest.as_str())),
+            Err(why) => {
+                log.say(rt, &Stays { path, why });
+                if why.is_of_storage() {
+                    let now = self.now(rt)?;
+                    self.doubt(now);
+                }
+            }
+        }
+        Ok(())
+    }
+
+    /// Reads what has come of orders, and obeys each that is whole. Where no more can come, or none
+    /// can be read, none is awaited any more.
+    fn take_orders<K: Keeper>(
+        &mut self,
+        rt: &HostRuntime,
+        desk: &mut Desk<K>,
+        log: &mut Log,
+        path: &str,
+    ) -> io::Result<()> {
+        let Some(mut orders) = self.orders.take() else {
+            return Ok(());
+        };
+        let mut bytes = [0u8; MOST_READ];
+        let Some(count) = orders.read(rt, &mut bytes) else {
+            let _ = orders.unwatch(self.poll.registry());
+            return Ok(());
+        };
+        for byte in bytes.iter().take(count) {
+            if let Some(order) = orders.push(rt.alloc(), *byte) {
+                self.obey(rt, desk, log, path, order.as_slice())?;
+            }
+        }
+        orders.watch_again(self.poll.registry(), ORDERS)?;
+        self.orders = Some(orders);
         Ok(())
     }
 
@@ -542,12 +607,13 @@ impl Service {
 
     /// Waits until a peer is ready or a connection is due, reads what has come on all connections,
     /// and only then takes up new ones and answers; ends what was answered before, which no peer
-    /// waits for; and asks a desk whose storage failed. The clock is read once for all that has
-    /// come.
+    /// waits for; obeys orders, so none comes between what is answered; and asks a desk whose
+    /// storage failed. The clock is read once for all that has come.
     fn turn<K: Keeper>(
         &mut self,
         rt: &HostRuntime,
         desk: &mut Desk<K>,
+        roster: &str,
         log: &mut Log,
         events: &mut Events,
         now: u64,
@@ -557,9 +623,12 @@ impl Service {
         self.poll.poll(events, patience)?;
         let now = self.now(rt)?;
         let mut comes = self.more_wait;
+        let mut is_ordered = false;
         for event in events.iter() {
             if event.token() == LISTENER {
                 comes = true;
+            } else if event.token() == ORDERS {
+                is_ordered = true;
             } else {
                 self.go_on(rt, log, event.token().0, now);
             }
@@ -569,6 +638,9 @@ impl Service {
         }
         self.answer_some(rt, desk, log)?;
         self.end_lingering(rt, log, lingering, now);
+        if is_ordered {
+            self.take_orders(rt, desk, log, roster)?;
+        }
         self.ask_desk(rt, desk)?;
         self.let_due_go(rt, log, now);
         Ok(())
@@ -584,11 +656,12 @@ impl Service {
     }
 
     /// Serves until all the connections that it accepts have come and are over, or until the desk's
-    /// storage is shut.
+    /// storage is shut. Another roster, if one is ordered, is that of the file of this path.
     pub(crate) fn run<K: Keeper>(
         &mut self,
         rt: &HostRuntime,
         desk: &mut Desk<K>,
+        roster: &str,
         log: &mut Log,
         events: &mut Events,
     ) -> io::Result<End> {
@@ -597,7 +670,7 @@ impl Service {
             if let Some(end) = self.end_by(now) {
                 return Ok(end);
             }
-            self.turn(rt, desk, log, events, now)?;
+            self.turn(rt, desk, roster, log, events, now)?;
         }
         Ok(End::Served)
     }
