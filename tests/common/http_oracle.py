@@ -42,6 +42,7 @@ ROUTES = (
     (rb"/v1/parked", "GET", "parked"),
     (rb"/v1/hosts/([^/]+)/sudoers", "GET", "file"),
     (rb"/v1/hosts/([^/]+)/sudoers/([^/]+)", "GET", "file after"),
+    (rb"/v1/hosts/([^/]+)/at/([^/]+)", "GET", "file at"),
     (rb"/v1/reviews/([^/]+)", "GET", "report"),
 )
 
@@ -129,7 +130,7 @@ def asks(given: bytes) -> tuple[Asked, bool]:
         return (*fault, None), bare
     if what == "request" and not (NAME.fullmatch(found[1]) and NUMBER.fullmatch(found[2])):
         return ("404 Not Found", "T3 NoRoute", None), bare
-    dated = ("grants", "report", "file after", "requests after")
+    dated = ("grants", "report", "file after", "file at", "requests after")
     if what in dated and not is_moment(found[found.re.groups]):
         return ("400 Bad Request", "T8 BadMoment", None), bare
     return (what, found[1] if found.groups() else None), bare

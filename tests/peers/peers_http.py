@@ -130,6 +130,16 @@ ASKED: list[tuple[list[str | bytes], tuple[str, bytes]]] = [
     (["/v1/hosts/db1/sudoers/"], ("404 Not Found", b"T3 NoRoute\n")),
     (["/v1/hosts/db1/sudoers/20260105110000Z/"], ("404 Not Found", b"T3 NoRoute\n")),
     (["/v1/hosts//sudoers/20260105110000Z"], ("404 Not Found", b"T3 NoRoute\n")),
+    (["--head", "/v1/hosts/db1/at/20260105110000Z"], ("200 OK", b"")),
+    (["/v1/hosts/db9/at/20260105110000Z"], ("404 Not Found", b"P2 UnknownHost\n")),
+    (["/v1/hosts/DB1/at/20260105110000Z"], ("404 Not Found", b"P2 UnknownHost\n")),
+    (["/v1/hosts/db1/at/20260105"], ("400 Bad Request", b"T8 BadMoment\n")),
+    (["/v1/hosts/db1/at/"], ("404 Not Found", b"T3 NoRoute\n")),
+    (["/v1/hosts/db1/at"], ("404 Not Found", b"T3 NoRoute\n")),
+    (
+        ["-X", "DELETE", "/v1/hosts/db1/at/20260105110000Z"],
+        ("405 Method Not Allowed", b"T4 BadMethod\n"),
+    ),
     (
         ["-X", "DELETE", "/v1/hosts/db1/sudoers/20260105"],
         ("405 Method Not Allowed", b"T4 BadMethod\n"),
@@ -726,8 +736,9 @@ def check_file(address: str) -> Counts:
 
 def ask_later_files(address: str) -> Counts:
     """The host's file after a moment: a grant's line is there up to the last moment of its window,
-    and not after it; all else stays."""
+    and not after it; all else stays. The same comes behind the line of the count."""
     _, _, whole = reply_of(by_curl(address, ["/v1/hosts/db1/sudoers"]))
+    _, _, count = reply_of(by_curl(address, ["/v1/count"]))
     wrong, rows = 0, [
         ("19700101000000Z", whole),
         ("20260105110000Z", whole),
@@ -740,7 +751,12 @@ def ask_later_files(address: str) -> Counts:
             by_curl(address, [f"/v1/hosts/db1/sudoers/{moment}"]),
             ("200 OK", wanted),
         )
-    return len(rows), wrong
+        wrong += not check(
+            f"the count and the file after {moment}",
+            by_curl(address, [f"/v1/hosts/db1/at/{moment}"]),
+            ("200 OK", count + wanted),
+        )
+    return 2 * len(rows), wrong
 
 
 def fetch(words: Sequence[str], file: str) -> tuple[int, str]:

@@ -14,7 +14,7 @@ use Rattle.desk_store.specs.Keeping.{HasFailed}
 use Rattle.desk_store.specs.Serving.{IsServed}
 use Rattle.desk_store.proofs.ServingLemmas.{served_as}
 use Rattle.relay_http.specs.Request.{Action, Request, deliver, all_messages, count, grants, parked, host_file, host_file_after, report, refused}
-use Rattle.relay_http.specs.Request.{requests, requests_after, named_request}
+use Rattle.relay_http.specs.Request.{requests, requests_after, named_request, host_at}
 use Rattle.relay_http.specs.Counting.{most_failures, one_failure}
 use Rattle.relay_http.specs.Exchange.{IsAcknowledged, IsExchange, IsPost, WritesServerFailure}
 use Rattle.relay_http.specs.Responses.{Leaves, Response}
@@ -56,6 +56,7 @@ dated_delivery (deliver r b) relay body e =
       | parked ↦ parked
       | host_file host ↦ parked
       | host_file_after host at ↦ parked
+      | host_at host at ↦ parked
       | report at ↦ parked
       | refused fault ↦ parked
     ] in
@@ -75,6 +76,9 @@ dated_delivery (host_file host) relay body e = absurd cc
 dated_delivery (host_file_after host at) relay body (inl x) =
     absurd (let wrong : ◌≡◌ {A = Action ℕ} (deliver relay body) (host_file_after host x.0) = x.2 in cc)
 dated_delivery (host_file_after host at) relay body (inr x) = absurd (let wrong = x.1 in cc)
+dated_delivery (host_at host at) relay body (inl x) =
+    absurd (let wrong : ◌≡◌ {A = Action ℕ} (deliver relay body) (host_at host x.0) = x.2 in cc)
+dated_delivery (host_at host at) relay body (inr x) = absurd (let wrong = x.1 in cc)
 dated_delivery (report at) relay body (inl x) = absurd (let wrong : ◌≡◌ {A = Action ℕ} (deliver relay body) (report x.0) = x.2 in cc)
 dated_delivery (report at) relay body (inr x) = absurd (let wrong = x.1 in cc)
 dated_delivery (refused fault) relay body e = absurd cc
@@ -124,6 +128,7 @@ only_done_leaves Same old new (grants at) response left = inl left
 only_done_leaves Same old new parked response left = inl left
 only_done_leaves Same old new (host_file host) response left = inl left
 only_done_leaves Same old new (host_file_after host at) response left = inl left
+only_done_leaves Same old new (host_at host at) response left = inl left
 only_done_leaves Same old new (report at) response left = inl left
 only_done_leaves Same old new (refused fault) response left = inl left
 

@@ -6,7 +6,7 @@ use Rattle.relay_http.specs.declared.action.Action.TheVariants.{Deliver, AllMess
 use Rattle.relay_http.specs.declared.action.Action.TheVariants.{Count, Parked, HostFile}
 use Rattle.relay_http.specs.declared.action.Action.TheVariants.{HostFileAfter, Report, Refused}
 use Rattle.relay_http.specs.declared.action.Action.TheVariants.{Requests, RequestsAfter}
-use Rattle.relay_http.specs.declared.action.Action.TheVariants.{NamedRequest}
+use Rattle.relay_http.specs.declared.action.Action.TheVariants.{NamedRequest, HostAt}
 use Rattle.relay_http.specs.declared.action.HttpRequest.{HttpRequest}
 
 -- A delivery by a relay, a query, or the first fault that applies. `At` is the type of a moment and
@@ -22,6 +22,7 @@ pub data Action (At : Type 0) : Type 0 where
   parked : Action At
   host_file : (host : List ℕ) → Action At
   host_file_after : (host : List ℕ) → (at : At) → Action At
+  host_at : (host : List ℕ) → (at : At) → Action At
   report : (at : At) → Action At
   refused : RequestFault → Action At
 
@@ -43,6 +44,7 @@ action_of (Grants at) = grants at
 action_of Parked = parked
 action_of (HostFile host) = host_file host.now
 action_of (HostFileAfter host at) = host_file_after host.now at
+action_of (HostAt host at) = host_at host.now at
 action_of (Report at) = report at
 action_of (Refused fault) = refused fault
 

@@ -3,7 +3,7 @@
 ghost use Rattle.std.specs.Prelude.{◌≡◌, ℕ, List, IfSome, Some, codes, map};
 ghost use Rattle.httparse.specs.Grammar.{RequestHead};
 ghost use Rattle.relay_http.specs.Request.{Request, action_of, grants};
-ghost use Rattle.relay_http.specs.Request.{host_file_after, named_request, report};
+ghost use Rattle.relay_http.specs.Request.{host_at, host_file_after, named_request, report};
 ghost use Rattle.relay_http.specs.Request.{request_of, requests_after};
 ghost use Rattle.relay_http.specs.Fields as head_fields;
 ghost use Rattle.relay_http.specs.Fields.{Fields, values};
@@ -51,6 +51,16 @@ fn host_file_after<'b>(host: &'b str, at: &str) -> Action<'b>
 {
     match Moment::read_stamp(at) {
         Some(moment) => Action::HostFileAfter(host, moment),
+        None => Action::Refused(RequestFault::BadMoment),
+    }
+}
+
+/// The count, and the host's file after the moment of this text.
+fn host_at<'b>(host: &'b str, at: &str) -> Action<'b>
+    ensures { Dates (host_at host.now at.now) (action_of result) }
+{
+    match Moment::read_stamp(at) {
+        Some(moment) => Action::HostAt(host, moment),
         None => Action::Refused(RequestFault::BadMoment),
     }
 }
@@ -153,6 +163,7 @@ fn by_method<'b>(
         Route::Parked => Action::Parked,
         Route::HostFile => Action::HostFile(taken),
         Route::HostFileAfter => host_file_after(taken, second),
+        Route::HostAt => host_at(taken, second),
         Route::Report => report_at(taken),
     }
 }

@@ -23,6 +23,8 @@ pub enum Route {
     HostFile,
     /// The sudoers file of a host after a moment.
     HostFileAfter,
+    /// The same behind the count.
+    HostAt,
     /// The report at a moment.
     Report,
 }
@@ -46,6 +48,7 @@ impl Route {
             | Route::Parked
             | Route::HostFile
             | Route::HostFileAfter
+            | Route::HostAt
             | Route::Report => Methods::GetOrHead,
         }
     }

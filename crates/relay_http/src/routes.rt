@@ -93,6 +93,7 @@ fn router(alloc: Global) -> Result<Router<Route>, NoMemory>
         "/v1/requests/{asker}/{no}",
         Route::NamedRequest,
     )?;
+    add(&mut router, "/v1/hosts/{host}/at/{at}", Route::HostAt)?;
     Ok(router)
 }
 
@@ -105,7 +106,7 @@ fn parameter(route: Route) -> &'static str
         Route::Grants | Route::Report | Route::RequestsAfter => "at",
         Route::AllMessages | Route::Count | Route::Requests | Route::Parked => "",
         Route::NamedRequest => "asker",
-        Route::HostFile | Route::HostFileAfter => "host",
+        Route::HostFile | Route::HostFileAfter | Route::HostAt => "host",
     }
 }
 
@@ -114,7 +115,7 @@ fn second_parameter(route: Route) -> &'static str
     ensures { result.now ≡ second_parameter route }
 {
     match route {
-        Route::HostFileAfter => "at",
+        Route::HostFileAfter | Route::HostAt => "at",
         Route::NamedRequest => "no",
         Route::Messages
         | Route::AllMessages
