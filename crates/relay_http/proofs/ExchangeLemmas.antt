@@ -14,7 +14,7 @@ use Rattle.desk_store.specs.Keeping.{HasFailed}
 use Rattle.desk_store.specs.Serving.{IsServed}
 use Rattle.desk_store.proofs.ServingLemmas.{served_as}
 use Rattle.relay_http.specs.Request.{Action, Request, deliver, all_messages, count, grants, parked, host_file, host_file_after, report, refused}
-use Rattle.relay_http.specs.Request.{requests, requests_after, named_request, host_at}
+use Rattle.relay_http.specs.Request.{requests, requests_after, named_request, host_at, open_requests}
 use Rattle.relay_http.specs.Counting.{most_failures, one_failure}
 use Rattle.relay_http.specs.Exchange.{IsAcknowledged, IsExchange, IsPost, WritesServerFailure}
 use Rattle.relay_http.specs.Responses.{Leaves, Response}
@@ -58,6 +58,7 @@ dated_delivery (deliver r b) relay body e =
       | host_file_after host at ↦ parked
       | host_at host at ↦ parked
       | report at ↦ parked
+      | open_requests at ↦ parked
       | refused fault ↦ parked
     ] in
     sym (ap texts e)
@@ -81,6 +82,8 @@ dated_delivery (host_at host at) relay body (inl x) =
 dated_delivery (host_at host at) relay body (inr x) = absurd (let wrong = x.1 in cc)
 dated_delivery (report at) relay body (inl x) = absurd (let wrong : ◌≡◌ {A = Action ℕ} (deliver relay body) (report x.0) = x.2 in cc)
 dated_delivery (report at) relay body (inr x) = absurd (let wrong = x.1 in cc)
+dated_delivery (open_requests at) relay body (inl x) = absurd (let wrong : ◌≡◌ {A = Action ℕ} (deliver relay body) (open_requests x.0) = x.2 in cc)
+dated_delivery (open_requests at) relay body (inr x) = absurd (let wrong = x.1 in cc)
 dated_delivery (refused fault) relay body e = absurd cc
 
 delivery_is_post : (bytes : List ℕ) (request : Request ℕ) (relay body : List ℕ) → IsHttpRequest bytes request → request.action ≡ deliver relay body
@@ -130,6 +133,7 @@ only_done_leaves Same old new (host_file host) response left = inl left
 only_done_leaves Same old new (host_file_after host at) response left = inl left
 only_done_leaves Same old new (host_at host at) response left = inl left
 only_done_leaves Same old new (report at) response left = inl left
+only_done_leaves Same old new (open_requests at) response left = inl left
 only_done_leaves Same old new (refused fault) response left = inl left
 
 module _ (roster : Reading) (base : List Entry) (IsUp : Type 0) (old new : Message

@@ -33,10 +33,11 @@ use Rattle.desk.specs.declared.refusal.Refusal.TheVariants.{NoMemory, BaseTooLar
 use Rattle.review.specs.Report.{IsReport}
 use Rattle.findings.specs.Picks.{all, after}
 use Rattle.findings.specs.Terminal.{name_text}
-use Rattle.desk_audit.specs.Documents.{IsAuditText, IsNameText}
+use Rattle.desk_audit.specs.Documents.{IsAuditText, IsNameText, IsOpenText}
 use Rattle.relay_http.specs.Request.{Action, deliver, all_messages, count, grants, parked}
 use Rattle.relay_http.specs.Request.{host_file, host_file_after, report, refused}
 use Rattle.relay_http.specs.Request.{requests, requests_after, named_request, host_at}
+use Rattle.relay_http.specs.Request.{open_requests}
 use Rattle.relay_http.specs.Response.{fault_line, status_of}
 use Rattle.relay_http.specs.declared.status.ResponseStatus.{ResponseStatus}
 use Rattle.relay_http.specs.declared.status.ResponseStatus.TheVariants as status
@@ -158,6 +159,8 @@ IsResponse r base set (host_at host at) response =
     IsCountedFileResponse r base set host at response
 IsResponse r base set (report at) response =
     (text : List ℕ) × IsReport r.says base set at text × (response ≡ done text)
+IsResponse r base set (open_requests at) response =
+    (text : List ℕ) × IsOpenText r.says set at text × (response ≡ done text)
 IsResponse r base set (refused fault) response = response ≡ record {
   status = status_of fault;
   body = fault_line fault;
@@ -195,4 +198,5 @@ Leaves Same old new (host_file host) response = Same
 Leaves Same old new (host_file_after host at) response = Same
 Leaves Same old new (host_at host at) response = Same
 Leaves Same old new (report at) response = Same
+Leaves Same old new (open_requests at) response = Same
 Leaves Same old new (refused fault) response = Same

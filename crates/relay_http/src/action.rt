@@ -30,6 +30,8 @@ pub enum Action<'b> {
     HostAt(&'b str, Moment),
     /// The report at the moment.
     Report(Moment),
+    /// What became of the requests that do not end before the moment, and who may approve then.
+    OpenRequests(Moment),
     /// None: the first fault that applies.
     Refused(RequestFault),
 }

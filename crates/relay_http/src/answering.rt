@@ -9,7 +9,7 @@ ghost use Rattle.desk.specs.Refusals.{IsWant};
 ghost use Rattle.desk.specs.Serving.{KeepsSettings, OnlyAsks};
 ghost use Rattle.relay_http.specs.Request.{all_messages, action_of, count, deliver, grants};
 ghost use Rattle.relay_http.specs.Request.{host_at, host_file, host_file_after, named_request};
-ghost use Rattle.relay_http.specs.Request.{parked, report, requests, requests_after};
+ghost use Rattle.relay_http.specs.Request.{parked, report, requests, requests_after, open_requests};
 ghost use Rattle.relay_http.specs.Exchange.{IsAnswered};
 ghost use Rattle.relay_http.specs.Lasting.{Lasts};
 ghost use Rattle.relay_http.specs.Prepared.{IsCountText, IsJoined, response_of, to_question};
@@ -267,6 +267,19 @@ fn report<K: Keeper>(desk: &mut Desk<K>, at: Moment) -> Result<String, Refusal>
     review::report(desk, at)
 }
 
+/// What became of the requests that are open at the moment, and who may approve then.
+fn open_requests<K: Keeper>(desk: &mut Desk<K>, at: Moment) -> Result<String, Refusal>
+    ensures answered { IsAnswered desk.old.roster desk.old.base
+        (K.is_up desk.new.keeper) (K.holds desk.old.keeper) (K.holds desk.new.keeper)
+        (K.is_same desk.old.keeper desk.new.keeper)
+        (Serves K.Keeper desk.old.keeper desk.new.keeper) (open_requests at) (to_question result) }
+    ensures lasts { Lasts K.Keeper desk.old.roster.says desk.old.roster.text
+        desk.old.keeper desk.new.keeper (open_requests at) (to_question result) }
+    ensures settings { KeepsSettings desk.old desk.new }
+{
+    desk_audit::open_document(desk, at)
+}
+
 /// The answer of the desk to an action.
 pub fn answered<K: Keeper>(
     alloc: Global,
@@ -296,6 +309,7 @@ pub fn answered<K: Keeper>(
         Action::HostFileAfter(host, at) => to_question(host_file_after(alloc, desk, host, at)),
         Action::HostAt(host, at) => to_question(host_at(alloc, desk, host, at)),
         Action::Report(at) => to_question(report(desk, at)),
+        Action::OpenRequests(at) => to_question(open_requests(desk, at)),
         Action::Refused(fault) => to_fault(fault),
     }
 }

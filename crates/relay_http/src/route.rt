@@ -27,6 +27,8 @@ pub enum Route {
     HostAt,
     /// The report at a moment.
     Report,
+    /// What became of the requests that are open at a moment.
+    OpenRequests,
 }
 
 impl Route {
@@ -49,7 +51,8 @@ impl Route {
             | Route::HostFile
             | Route::HostFileAfter
             | Route::HostAt
-            | Route::Report => Methods::GetOrHead,
+            | Route::Report
+            | Route::OpenRequests => Methods::GetOrHead,
         }
     }
 }

@@ -94,6 +94,7 @@ fn router(alloc: Global) -> Result<Router<Route>, NoMemory>
         Route::NamedRequest,
     )?;
     add(&mut router, "/v1/hosts/{host}/at/{at}", Route::HostAt)?;
+    add(&mut router, "/v1/open/{at}", Route::OpenRequests)?;
     Ok(router)
 }
 
@@ -103,7 +104,7 @@ fn parameter(route: Route) -> &'static str
 {
     match route {
         Route::Messages => "relay",
-        Route::Grants | Route::Report | Route::RequestsAfter => "at",
+        Route::Grants | Route::Report | Route::RequestsAfter | Route::OpenRequests => "at",
         Route::AllMessages | Route::Count | Route::Requests | Route::Parked => "",
         Route::NamedRequest => "asker",
         Route::HostFile | Route::HostFileAfter | Route::HostAt => "host",
@@ -125,7 +126,8 @@ fn second_parameter(route: Route) -> &'static str
         | Route::Grants
         | Route::Parked
         | Route::HostFile
-        | Route::Report => "",
+        | Route::Report
+        | Route::OpenRequests => "",
     }
 }
 

@@ -5,6 +5,7 @@ ghost use Rattle.std.specs.Prelude.{◌≡◌, ◌++◌, ◌∷◌, [], codes, f
 ghost use Rattle.relay_http.specs.Request.{all_messages, count, deliver, grants, host_file};
 ghost use Rattle.relay_http.specs.Request.{host_at, host_file_after, named_request, parked};
 ghost use Rattle.relay_http.specs.Request.{refused, report, requests, requests_after};
+ghost use Rattle.relay_http.specs.Request.{open_requests};
 ghost use Rattle.relay_http.specs.Response.{fault_line, status_of, written};
 ghost use Rattle.relay_http.specs.RequestBytes.{IsHttpRequest};
 ghost use Rattle.relay_http.specs.Worked.{approval_body, head_with_host, lines, posted};
@@ -19,7 +20,7 @@ ghost use Rattle.relay_http.specs.declared.status.ResponseStatus.TheVariants as 
 /// Requests that are answered by the desk: a delivery, one with zeros before its length, all
 /// messages, how many there are, what became of every request, of those after a moment and of one,
 /// the grants of a moment by HEAD, a host's file, the same after a moment and behind the count, the
-/// report at a moment, and a query of HTTP/1.0 without Host.
+/// report at a moment, what is open then, and a query of HTTP/1.0 without Host.
 pub fn worked_requests()
     ensures delivery { IsHttpRequest (posted (codes "70"))
         (record { with_body = true; action = deliver (codes "web") approval_body }) }
@@ -51,6 +52,9 @@ pub fn worked_requests()
     ensures report { IsHttpRequest
         (head_with_host (codes "GET /v1/reviews/20260105093000Z HTTP/1.1"))
         (record { with_body = true; action = report 1_767_605_400 }) }
+    ensures open_requests { IsHttpRequest
+        (head_with_host (codes "GET /v1/open/20260105093000Z HTTP/1.1"))
+        (record { with_body = true; action = open_requests 1_767_605_400 }) }
     ensures old { IsHttpRequest (lines (codes "GET /v1/parked HTTP/1.0" ∷ [] ∷ []))
         (record { with_body = true; action = parked }) }
 {}

@@ -55,7 +55,8 @@ returns-in-Ok-clause-lasts g c =
     let asks = c.in-Ok.ensures.asks in
     let file = c.host_file_after.result in
     let told = c.host_file_after.ensures in
-    let lasts = subst (λ (r : Reading). Lasts K r.says r.text mid.keeper new.keeper (host_file_after host at) (to_question file)) asks.settings.roster told.lasts in
+    let P : Reading → Type 0 = λ r. Lasts K r.says r.text mid.keeper new.keeper (host_file_after host at) (to_question file) in
+    let lasts = subst P asks.settings.roster told.lasts in
     joined_lasts K old.roster.says old.roster.text old.keeper mid.keeper new.keeper host at c.in-Ok.line file c.joined.result c.joined.ensures
     told.answered.served.was_clean asks.leaves lasts
 

@@ -1,5 +1,5 @@
 use Rattle.std.proofs.Common.{◌≡◌, ℕ, List, sym, subst, ap, ◌∙◌, cond, Bool, true, codes, Result, Ok, Err}
-use Rattle.relay_http.specs.Request.{Action, action_of, grants, host_at, host_file_after, named_request, refused, report, requests_after}
+use Rattle.relay_http.specs.Request.{Action, action_of, grants, host_at, host_file_after, named_request, refused, report, requests_after, open_requests}
 use Rattle.relay_http.specs.Content.{content_by_fields}
 use Rattle.relay_http.specs.Fields.{Fields}
 use Rattle.relay_http.specs.Routes.{second_parameter, parameter}
@@ -47,6 +47,20 @@ returns-in-Report c =
     (sym c.in-Report.is)
     (λ named takes _ fields _. action_at (λ at. report at) (allow GetOrHead method)
     (named (codes "at")) c.args.taken.now action allowed takes c.report_at.ensures)
+
+pub returns-in-OpenRequests : goal.returns-in-OpenRequests
+returns-in-OpenRequests c =
+    let method = c.args.method.now in
+    let action = action_of c.open_at.result in
+    let allowed : allow GetOrHead method ≡ true =
+    ap (λ (p : Route). allow (methods_of p) method) (sym c.in-OpenRequests.is)
+    ∙ ap (λ (m : Methods). allow m method) (sym c.methods.ensures)
+    ∙ sym c.if-not-allow.ensures in
+    subst (λ (p : Route). (named : List ℕ → List ℕ) → named (parameter p) ≡ c.args.taken.now → named (second_parameter p) ≡ c.args.second.now
+    → (fields : Fields) → c.args.size ≡ size_of fields → Dates (by_method p method named fields c.args.rest.now) action)
+    (sym c.in-OpenRequests.is)
+    (λ named takes _ fields _. action_at (λ at. open_requests at) (allow GetOrHead method)
+    (named (codes "at")) c.args.taken.now action allowed takes c.open_at.ensures)
 
 pub returns-in-HostFileAfter : goal.returns-in-HostFileAfter
 returns-in-HostFileAfter c =

@@ -41,5 +41,8 @@ returns c = record {
   report =
       worked (spelled (codes "GET") (codes "/v1/reviews/20260105093000Z") 1 ((codes "Host", codes "desk") ∷ [])) []
       _ _ refl refl refl refl (refl, inl (1_767_605_400, stamped_at_half_past_nine, refl));
+  open_requests =
+      worked (spelled (codes "GET") (codes "/v1/open/20260105093000Z") 1 ((codes "Host", codes "desk") ∷ [])) []
+      _ _ refl refl refl refl (refl, inl (1_767_605_400, stamped_at_half_past_nine, refl));
   old = worked (spelled (codes "GET") (codes "/v1/parked") 0 []) [] _ _ refl refl refl refl (refl, refl);
 }
