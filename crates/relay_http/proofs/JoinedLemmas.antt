@@ -54,6 +54,14 @@ module _ (r : Reading) (base : List Entry) (set : List Message) where
         | inr failed ↦ inr failed
       ])
 
+-- the answers to the two questions over one set are the one answer
+pub both_in_one : (r : Reading) (base : List Entry) (set : List Message) (host : List ℕ) (at : ℕ) (line : Response) (file : List ℕ)
+    → IsResponse r base set count line → IsResponse r base set (host_file_after host at) (done file)
+    → IsResponse r base set (host_at host at) (done (line.body ++ file))
+both_in_one r base set host at line file x y =
+    let behind = append_assoc (count_line x.0 r.text base) (newline ∷ []) file in
+    inl (x.0, file, x.1, y, ap done (ap (λ (l : Response). l.body ++ file) x.2 ∙ behind))
+
 -- ---- what storage did
 
 joined_cause : (line : String Global) (file x : Result (String Global) Refusal) → IsJoined line file x → to_question x ≡ refusal Storage
