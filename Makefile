@@ -24,6 +24,7 @@ cases: desk
 	python3 -m tests.cases.decisions
 	python3 -m tests.cases.random_reports
 	python3 -m tests.cases.audit
+	python3 -m tests.cases.serve
 	/usr/bin/python3 -m tests.cases.random_audits
 
 # The whole gate (docs/change/GATE.md): `rt ci`, which proves everything from nothing, tries the edits that must be refused and runs the tests; then,
