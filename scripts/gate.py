@@ -59,6 +59,7 @@ PARTS = (
     Part("cases/decisions", "python3 -m tests.cases.decisions", CASES),
     Part("cases/random_reports", "python3 -m tests.cases.random_reports", CASES, 1),
     Part("cases/audit", "python3 -m tests.cases.audit", CASES),
+    Part("cases/serve", "python3 -m tests.cases.serve", CASES),
     Part("cases/random_audits", "/usr/bin/python3 -m tests.cases.random_audits", CASES, 1),
     Part("peers/sudo", "python3 -m tests.peers.sudo", PEERS),
     Part("peers/policies", "python3 -m tests.peers.policies", PEERS),

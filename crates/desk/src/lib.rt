@@ -7,6 +7,7 @@ mod answer_laws;
 mod counting;
 mod delivery;
 mod desk;
+mod digests;
 mod holdings;
 pub mod laws;
 mod loading;

@@ -47,11 +47,13 @@ impl<K: Keeper> Desk<K> {
         ensures durable { K.is_up self.new.keeper → LeavesOnly (K.may_leave self.new.keeper)
             (IsDeskOf self.new.roster.text (K.holds self.new.keeper)) }
     {
-        // What is known stays only where the roster is recorded.
+        // What is known stays only where the roster is recorded. The digests are those of the roster
+        // before, so the next question makes them anew.
         let known = self.known.take();
         match self.keeper.replace(roster.text()) {
             Ok(()) => {
                 self.known = under_another(known);
+                self.digests = None;
                 self.roster = roster;
                 Ok(())
             }

@@ -14,7 +14,7 @@ use Rattle.desk_store.specs.Serves.{Serves}
 use Rattle.desk_store.specs.declared.keeper.Keeper.{Ghosts}
 use Rattle.desk_store.proofs.ServingLemmas.{served_as}
 use Rattle.relay_http.specs.Request.{Action, Request, deliver, all_messages, count, grants, parked, host_file, host_file_after, report, refused}
-use Rattle.relay_http.specs.Request.{requests, requests_after, named_request}
+use Rattle.relay_http.specs.Request.{requests, requests_after, named_request, host_at, open_requests}
 use Rattle.relay_http.specs.Counting.{most_failures, one_failure}
 use Rattle.relay_http.specs.Exchange.{IsAcknowledged, IsExchange, IsPost, WritesServerFailure}
 use Rattle.relay_http.specs.Responses.{Leaves, Response}
@@ -56,7 +56,9 @@ dated_delivery (deliver r b) relay body e =
       | parked ↦ parked
       | host_file host ↦ parked
       | host_file_after host at ↦ parked
+      | host_at host at ↦ parked
       | report at ↦ parked
+      | open_requests at ↦ parked
       | refused fault ↦ parked
     ] in
     sym (ap texts e)
@@ -75,8 +77,13 @@ dated_delivery (host_file host) relay body e = absurd cc
 dated_delivery (host_file_after host at) relay body (inl x) =
     absurd (let wrong : ◌≡◌ {A = Action ℕ} (deliver relay body) (host_file_after host x.0) = x.2 in cc)
 dated_delivery (host_file_after host at) relay body (inr x) = absurd (let wrong = x.1 in cc)
+dated_delivery (host_at host at) relay body (inl x) =
+    absurd (let wrong : ◌≡◌ {A = Action ℕ} (deliver relay body) (host_at host x.0) = x.2 in cc)
+dated_delivery (host_at host at) relay body (inr x) = absurd (let wrong = x.1 in cc)
 dated_delivery (report at) relay body (inl x) = absurd (let wrong : ◌≡◌ {A = Action ℕ} (deliver relay body) (report x.0) = x.2 in cc)
 dated_delivery (report at) relay body (inr x) = absurd (let wrong = x.1 in cc)
+dated_delivery (open_requests at) relay body (inl x) = absurd (let wrong : ◌≡◌ {A = Action ℕ} (deliver relay body) (open_requests x.0) = x.2 in cc)
+dated_delivery (open_requests at) relay body (inr x) = absurd (let wrong = x.1 in cc)
 dated_delivery (refused fault) relay body e = absurd cc
 
 delivery_is_post : (bytes : List ℕ) (request : Request ℕ) (relay body : List ℕ) → IsHttpRequest bytes request → request.action ≡ deliver relay body
@@ -124,7 +131,9 @@ only_done_leaves Same old new (grants at) response left = inl left
 only_done_leaves Same old new parked response left = inl left
 only_done_leaves Same old new (host_file host) response left = inl left
 only_done_leaves Same old new (host_file_after host at) response left = inl left
+only_done_leaves Same old new (host_at host at) response left = inl left
 only_done_leaves Same old new (report at) response left = inl left
+only_done_leaves Same old new (open_requests at) response left = inl left
 only_done_leaves Same old new (refused fault) response left = inl left
 
 module _ {K : Type 0} (g : Ghosts K) (roster : Reading) (base : List Entry) (before after : K) (Wrote : List ℕ → Type 0) where

@@ -7,7 +7,7 @@ use Rattle.std.proofs.lemmas.Slice.Eq.{bytes_eq-Decides}
 use Rattle.matchit.specs.Router.{RouteOf}
 use Rattle.matchit.specs.Seek.{first}
 use Rattle.relay_http.specs.Request.{Action, Request, deliver, all_messages, count, grants, parked, host_file, host_file_after, report, refused}
-use Rattle.relay_http.specs.Request.{requests, requests_after, named_request}
+use Rattle.relay_http.specs.Request.{requests, requests_after, named_request, host_at, open_requests}
 use Rattle.relay_http.specs.Content.{by_lengths, content, content_by_fields, is_length, most_content, sized}
 use Rattle.relay_http.specs.Fields.{Fields, values, is_bad_host}
 use Rattle.relay_http.specs.Routes.{routes, part}
@@ -17,7 +17,7 @@ use Rattle.relay_http.specs.declared.fault.RequestFault.{RequestFault}
 use Rattle.relay_http.specs.declared.fault.RequestFault.TheVariants.{BadHead, BadLength, BadMethod, BadTarget, ShortBody, TooLong}
 use Rattle.relay_http.specs.declared.route.Route.{Route}
 use Rattle.relay_http.specs.declared.route.Route.TheVariants.{Messages, AllMessages, Count, Grants, Parked, HostFile, HostFileAfter, Report}
-use Rattle.relay_http.specs.declared.route.Route.TheVariants.{Requests, RequestsAfter, NamedRequest}
+use Rattle.relay_http.specs.declared.route.Route.TheVariants.{Requests, RequestsAfter, NamedRequest, HostAt, OpenRequests}
 use Rattle.relay_http.proofs.SettleLemmas.{kept}
 
 pub rest_ignored : (bytes more : List ℕ) (request : Request ℕ) → IsHttpRequestByHead bytes request
@@ -37,7 +37,9 @@ head_at Grants named fields rest = refl
 head_at Parked named fields rest = refl
 head_at HostFile named fields rest = refl
 head_at HostFileAfter named fields rest = refl
+head_at HostAt named fields rest = refl
 head_at Report named fields rest = refl
+head_at OpenRequests named fields rest = refl
 
 head_on : (route : Option (RouteOf Route)) (target : List ℕ) (fields : Fields) (rest : List ℕ)
     → on_route route (codes "HEAD") target fields rest ≡ on_route route (codes "GET") target fields rest
@@ -62,7 +64,9 @@ IsPosted method rest (grants at) = Unit {0}
 IsPosted method rest parked = Unit {0}
 IsPosted method rest (host_file host) = Unit {0}
 IsPosted method rest (host_file_after host at) = Unit {0}
+IsPosted method rest (host_at host at) = Unit {0}
 IsPosted method rest (report at) = Unit {0}
+IsPosted method rest (open_requests at) = Unit {0}
 IsPosted method rest (refused fault) = Unit {0}
 
 abbrev IsContent : (rest : List ℕ) → Result (List ℕ) RequestFault → Type 0
@@ -118,7 +122,9 @@ module _ (rest : List ℕ) where
       by Parked true e = tt
       by HostFile true e = tt
       by HostFileAfter true e = tt
+      by HostAt true e = tt
       by Report true e = tt
+      by OpenRequests true e = tt
 
   posted_on : (route : Option (RouteOf Route)) (method target : List ℕ) (fields : Fields) → IsPosted method rest (on_route route method target fields rest)
   posted_on None method target fields = tt
@@ -151,7 +157,9 @@ IsOfMessages found (grants at) = Unit {0}
 IsOfMessages found parked = Unit {0}
 IsOfMessages found (host_file host) = Unit {0}
 IsOfMessages found (host_file_after host at) = Unit {0}
+IsOfMessages found (host_at host at) = Unit {0}
 IsOfMessages found (report at) = Unit {0}
+IsOfMessages found (open_requests at) = Unit {0}
 IsOfMessages found (refused fault) = Unit {0}
 
 messages_delivered : (route : RouteOf Route) (relay : List ℕ) → route.value ≡ Messages → (found : Result (List ℕ) RequestFault)
@@ -173,7 +181,9 @@ module _ (method target rest : List ℕ) (fields : Fields) where
   messages_at route named Parked is true = tt
   messages_at route named HostFile is true = tt
   messages_at route named HostFileAfter is true = tt
+  messages_at route named HostAt is true = tt
   messages_at route named Report is true = tt
+  messages_at route named OpenRequests is true = tt
 
   messages_on : (found : Option (RouteOf Route)) → IsOfMessages found (on_route found method target fields rest)
   messages_on None = tt

@@ -20,7 +20,7 @@ use Rattle.httparse.proofs.GrammarLemmas.{request_unique}
 use Rattle.sudo_words.proofs.MomentLemmas.{stamp_is, stamp_only, stamp_spells}
 use Rattle.sudo_words.proofs.MomentTexts.{one_spelled}
 use Rattle.relay_http.specs.Request.{Action, Request, deliver, all_messages, count, grants, parked, host_file, host_file_after, report, refused}
-use Rattle.relay_http.specs.Request.{requests, requests_after, named_request}
+use Rattle.relay_http.specs.Request.{requests, requests_after, named_request, host_at, open_requests}
 use Rattle.relay_http.specs.declared.fault.RequestFault.TheVariants.{BadMoment, NoRoute}
 use Rattle.relay_http.specs.RequestBytes.{IsHttpRequest, IsHttpRequestByHead, Dates, DatesAt, DatesRequest, IsNumber, Numbers, front, request_by, request_from}
 
@@ -98,7 +98,9 @@ one_dated (grants at) a b x y = one_dated_at grants at a b x y
 one_dated parked a b x y = x ∙ sym y
 one_dated (host_file host) a b x y = x ∙ sym y
 one_dated (host_file_after host at) a b x y = one_dated_at (λ t. host_file_after host t) at a b x y
+one_dated (host_at host at) a b x y = one_dated_at (λ t. host_at host t) at a b x y
 one_dated (report at) a b x y = one_dated_at report at a b x y
+one_dated (open_requests at) a b x y = one_dated_at open_requests at a b x y
 one_dated (refused fault) a b x y = x ∙ sym y
 
 pub one_dated_request : (r : Request (List ℕ)) (a b : Request ℕ) → DatesRequest r a → DatesRequest r b → a ≡ b
@@ -198,7 +200,9 @@ some_dated (grants at) = some_dated_at grants at
 some_dated parked = (parked, refl)
 some_dated (host_file host) = (host_file host, refl)
 some_dated (host_file_after host at) = some_dated_at (λ t. host_file_after host t) at
+some_dated (host_at host at) = some_dated_at (λ t. host_at host t) at
 some_dated (report at) = some_dated_at report at
+some_dated (open_requests at) = some_dated_at open_requests at
 some_dated (refused fault) = (refused fault, refl)
 
 pub some_request : (r : Request (List ℕ)) → (request : Request ℕ) × DatesRequest r request

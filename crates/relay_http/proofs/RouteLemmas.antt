@@ -10,7 +10,7 @@ use Rattle.matchit.specs.declared.error.InsertError.TheVariants.{Conflict, Inval
 use Rattle.matchit.proofs.RenameLemmas.{first-rename}
 use Rattle.relay_http.specs.declared.route.Route.{Route}
 use Rattle.relay_http.specs.declared.route.Route.TheVariants.{Messages, AllMessages, Count, Grants, Parked, HostFile, HostFileAfter, Report}
-use Rattle.relay_http.specs.declared.route.Route.TheVariants.{Requests, RequestsAfter, NamedRequest}
+use Rattle.relay_http.specs.declared.route.Route.TheVariants.{Requests, RequestsAfter, NamedRequest, HostAt, OpenRequests}
 use Rattle.relay_http.specs.Routes.{IsFreeRoute, routes, added, with_route}
 use Rattle.relay_http.specs.Target.{is_plain, is_plain_byte}
 use Rattle.matchit.specs.Route.{parse_route}
@@ -117,6 +117,33 @@ pub free_named_request : IsFreeRoute (parse_route (codes "/v1/requests/{asker}/{
 unfolding scan
 free_named_request = refl
 
+pub free_host_at : IsFreeRoute (parse_route (codes "/v1/hosts/{host}/at/{at}"))
+    (with_route (codes "/v1/requests/{asker}/{no}") NamedRequest
+    (with_route (codes "/v1/requests/after/{at}") RequestsAfter
+    (with_route (codes "/v1/requests") Requests
+    (with_route (codes "/v1/count") Count
+    (with_route (codes "/v1/messages") AllMessages
+    (with_route (codes "/v1/hosts/{host}/sudoers/{at}") HostFileAfter
+    (with_route (codes "/v1/reviews/{at}") Report (with_route (codes "/v1/hosts/{host}/sudoers") HostFile
+    (with_route (codes "/v1/parked") Parked (with_route (codes "/v1/grants/{at}") Grants
+    (with_route (codes "/v1/relays/{relay}/messages") Messages [])))))))))))
+unfolding scan
+free_host_at = refl
+
+pub free_open_requests : IsFreeRoute (parse_route (codes "/v1/open/{at}"))
+    (with_route (codes "/v1/hosts/{host}/at/{at}") HostAt
+    (with_route (codes "/v1/requests/{asker}/{no}") NamedRequest
+    (with_route (codes "/v1/requests/after/{at}") RequestsAfter
+    (with_route (codes "/v1/requests") Requests
+    (with_route (codes "/v1/count") Count
+    (with_route (codes "/v1/messages") AllMessages
+    (with_route (codes "/v1/hosts/{host}/sudoers/{at}") HostFileAfter
+    (with_route (codes "/v1/reviews/{at}") Report (with_route (codes "/v1/hosts/{host}/sudoers") HostFile
+    (with_route (codes "/v1/parked") Parked (with_route (codes "/v1/grants/{at}") Grants
+    (with_route (codes "/v1/relays/{relay}/messages") Messages []))))))))))))
+unfolding scan
+free_open_requests = refl
+
 and_true_left : (a b : Bool) → (a && b) ≡ true → a ≡ true
 and_true_left true b h = refl
 and_true_left false b h = h
@@ -149,7 +176,9 @@ text_for Grants = codes "/v1/grants/{at}"
 text_for Parked = codes "/v1/parked"
 text_for HostFile = codes "/v1/hosts/{host}/sudoers"
 text_for HostFileAfter = codes "/v1/hosts/{host}/sudoers/{at}"
+text_for HostAt = codes "/v1/hosts/{host}/at/{at}"
 text_for Report = codes "/v1/reviews/{at}"
+text_for OpenRequests = codes "/v1/open/{at}"
 
 abbrev pub from_scan : Result Scan InsertError → Route → RouteOf Route
 from_scan (Ok s) route = route_from s route
@@ -196,7 +225,9 @@ text_ascii Grants = below_ascii (route_for Grants).text refl
 text_ascii Parked = below_ascii (route_for Parked).text refl
 text_ascii HostFile = below_ascii (route_for HostFile).text refl
 text_ascii HostFileAfter = below_ascii (route_for HostFileAfter).text refl
+text_ascii HostAt = below_ascii (route_for HostAt).text refl
 text_ascii Report = below_ascii (route_for Report).text refl
+text_ascii OpenRequests = below_ascii (route_for OpenRequests).text refl
 
 pub texts : (target : List ℕ) (e : RouteOf Route) → first routes target ≡ Some e → IsTrue (is_plain target)
     → AllText (walk e.pattern e.text target e.names 0 0)

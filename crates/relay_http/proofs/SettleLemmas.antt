@@ -21,7 +21,7 @@ use Rattle.relay_http.specs.declared.fault.RequestFault.{RequestFault}
 use Rattle.relay_http.specs.declared.fault.RequestFault.TheVariants.{BadHead, BadLength, BadMethod, BadTarget, ShortBody, TooLong}
 use Rattle.relay_http.specs.declared.route.Route.{Route}
 use Rattle.relay_http.specs.declared.route.Route.TheVariants.{Messages, AllMessages, Count, Grants, Parked, HostFile, HostFileAfter, Report}
-use Rattle.relay_http.specs.declared.route.Route.TheVariants.{Requests, RequestsAfter, NamedRequest}
+use Rattle.relay_http.specs.declared.route.Route.TheVariants.{Requests, RequestsAfter, NamedRequest, HostAt, OpenRequests}
 
 -- the content is there, or as many bytes as any content may have
 abbrev pub Enough : Result (List ℕ) RequestFault → List ℕ → Type 0
@@ -77,7 +77,9 @@ module _ (rest more : List ℕ) where
   sought_more Parked named fields h = refl
   sought_more HostFile named fields h = refl
   sought_more HostFileAfter named fields h = refl
+  sought_more HostAt named fields h = refl
   sought_more Report named fields h = refl
+  sought_more OpenRequests named fields h = refl
 
   method_more : (route : Route) (method : List ℕ) (named : List ℕ → List ℕ) (fields : Fields) → EnoughForAction (by_method route method named fields rest) rest
       → by_method route method named fields (rest ++ more) ≡ by_method route method named fields rest

@@ -14,7 +14,7 @@ use Rattle.httparse.proofs.GrammarLemmas.{ReadsRequest-append, request_unique}
 use Rattle.matchit.specs.Router.{RouteOf}
 use Rattle.matchit.specs.Seek.{first}
 use Rattle.relay_http.specs.Request.{Action, Request, deliver, all_messages, count, grants, parked, host_file, host_file_after, report, refused}
-use Rattle.relay_http.specs.Request.{requests, requests_after, named_request}
+use Rattle.relay_http.specs.Request.{requests, requests_after, named_request, host_at, open_requests}
 use Rattle.relay_http.specs.Content.{content, content_by_fields, by_lengths, is_length, most_content, sized}
 use Rattle.relay_http.specs.Fields.{Fields, values, is_bad_host}
 use Rattle.relay_http.specs.Needs.{HasNoHead, IsSettled, LacksContent}
@@ -34,7 +34,7 @@ use Rattle.relay_http.specs.declared.head_scan.HeadScan.{HeadScan}
 use Rattle.relay_http.specs.declared.head_scan.HeadScan.TheVariants.{Blank, Ended}
 use Rattle.relay_http.specs.declared.route.Route.{Route}
 use Rattle.relay_http.specs.declared.route.Route.TheVariants.{Messages, AllMessages, Count, Grants, Parked, HostFile, HostFileAfter, Report}
-use Rattle.relay_http.specs.declared.route.Route.TheVariants.{Requests, RequestsAfter, NamedRequest}
+use Rattle.relay_http.specs.declared.route.Route.TheVariants.{Requests, RequestsAfter, NamedRequest, HostAt, OpenRequests}
 use Rattle.relay_http.proofs.ScanLemmas.{ended_behind, ended_is_head, scanned-append}
 use Rattle.relay_http.proofs.SettleLemmas.{has_more, head_fits, headless_more, whole_more}
 use Rattle.relay_http.proofs.RequestLemmas.{one_request, some_request, take_rest}
@@ -168,7 +168,9 @@ sought_short Grants named fields rest e = absurd cc
 sought_short Parked named fields rest e = absurd cc
 sought_short HostFile named fields rest e = absurd cc
 sought_short HostFileAfter named fields rest e = absurd cc
+sought_short HostAt named fields rest e = absurd cc
 sought_short Report named fields rest e = absurd cc
+sought_short OpenRequests named fields rest e = absurd cc
 
 method_short : (route : Route) (method : List ℕ) (named : List ℕ → List ℕ) (fields : Fields) (rest : List ℕ)
     → by_method route method named fields rest ≡ refused ShortBody → Posts (λ other. by_method route method named fields other) fields rest
@@ -218,7 +220,9 @@ lacks_is (grants at) e = absurd cc
 lacks_is parked e = absurd cc
 lacks_is (host_file host) e = absurd cc
 lacks_is (host_file_after host at) e = absurd cc
+lacks_is (host_at host at) e = absurd cc
 lacks_is (report at) e = absurd cc
+lacks_is (open_requests at) e = absurd cc
 lacks_is (refused fault) e = ap (λ (f : RequestFault). refused f) (short_is fault e)
 
 dated_short : (action : Action (List ℕ)) → Dates action (refused ShortBody) → action ≡ refused ShortBody
@@ -236,8 +240,12 @@ dated_short parked e = absurd cc
 dated_short (host_file host) e = absurd cc
 dated_short (host_file_after host at) (inl x) = absurd (let wrong : ◌≡◌ {A = Action ℕ} (refused ShortBody) (host_file_after host x.0) = x.2 in cc)
 dated_short (host_file_after host at) (inr x) = absurd (let wrong = x.1 in cc)
+dated_short (host_at host at) (inl x) = absurd (let wrong : ◌≡◌ {A = Action ℕ} (refused ShortBody) (host_at host x.0) = x.2 in cc)
+dated_short (host_at host at) (inr x) = absurd (let wrong = x.1 in cc)
 dated_short (report at) (inl x) = absurd (let wrong : ◌≡◌ {A = Action ℕ} (refused ShortBody) (report x.0) = x.2 in cc)
 dated_short (report at) (inr x) = absurd (let wrong = x.1 in cc)
+dated_short (open_requests at) (inl x) = absurd (let wrong : ◌≡◌ {A = Action ℕ} (refused ShortBody) (open_requests x.0) = x.2 in cc)
+dated_short (open_requests at) (inr x) = absurd (let wrong = x.1 in cc)
 dated_short (refused fault) e = let same : fault ≡ ShortBody = cc in ap (λ (f : RequestFault). refused f) same
 
 sized_short : (n : ℕ) (rest : List ℕ) → n ≤ 16384 → length rest < n → sized n rest ≡ Err ShortBody

@@ -11,7 +11,8 @@ use Rattle.sudo_words.specs.Word.{is_name}
 use Rattle.messages.specs.Fields.{IsNumbered}
 use Rattle.relay_http.specs.Request.{Action, Request, deliver, all_messages, count, grants}
 use Rattle.relay_http.specs.Request.{parked, host_file, host_file_after, report, refused}
-use Rattle.relay_http.specs.Request.{requests, requests_after, named_request}
+use Rattle.relay_http.specs.Request.{requests, requests_after, named_request, host_at}
+use Rattle.relay_http.specs.Request.{open_requests}
 use Rattle.relay_http.specs.Fields.{Fields, values, is_bad_host}
 use Rattle.relay_http.specs.Content.{content_by_fields}
 use Rattle.relay_http.specs.Target.{is_plain}
@@ -24,6 +25,7 @@ use Rattle.relay_http.specs.declared.route.Route.TheVariants.{Messages, AllMessa
 use Rattle.relay_http.specs.declared.route.Route.TheVariants.{Parked, HostFile, HostFileAfter}
 use Rattle.relay_http.specs.declared.route.Route.TheVariants.{Report, Requests}
 use Rattle.relay_http.specs.declared.route.Route.TheVariants.{RequestsAfter, NamedRequest}
+use Rattle.relay_http.specs.declared.route.Route.TheVariants.{HostAt, OpenRequests}
 use Rattle.relay_http.specs.declared.route.Methods.{Methods}
 use Rattle.relay_http.specs.declared.route.Methods.TheVariants.{Post, GetOrHead}
 
@@ -49,7 +51,9 @@ methods_of Grants = GetOrHead
 methods_of Parked = GetOrHead
 methods_of HostFile = GetOrHead
 methods_of HostFileAfter = GetOrHead
+methods_of HostAt = GetOrHead
 methods_of Report = GetOrHead
+methods_of OpenRequests = GetOrHead
 
 -- methods are compared with case (RFC 9110, section 9.1)
 abbrev pub allow : Methods → (method : List ℕ) → Bool
@@ -76,7 +80,10 @@ sought Parked part_named fields rest = parked
 sought HostFile part_named fields rest = host_file (part_named (codes "host"))
 sought HostFileAfter part_named fields rest =
     host_file_after (part_named (codes "host")) (part_named (codes "at"))
+sought HostAt part_named fields rest =
+    host_at (part_named (codes "host")) (part_named (codes "at"))
 sought Report part_named fields rest = report (part_named (codes "at"))
+sought OpenRequests part_named fields rest = open_requests (part_named (codes "at"))
 
 -- the action at a route by a method
 abbrev pub by_method : Route → (method : List ℕ)
@@ -144,7 +151,9 @@ Dates (grants at) action = DatesAt grants at action
 Dates parked action = action ≡ parked
 Dates (host_file host) action = action ≡ host_file host
 Dates (host_file_after host at) action = DatesAt (λ t. host_file_after host t) at action
+Dates (host_at host at) action = DatesAt (λ t. host_at host t) at action
 Dates (report at) action = DatesAt report at action
+Dates (open_requests at) action = DatesAt open_requests at action
 Dates (refused fault) action = action ≡ refused fault
 
 -- the same of a request

@@ -12,6 +12,7 @@ use Rattle.relay_http.specs.declared.route.Route.TheVariants.{Messages, AllMessa
 use Rattle.relay_http.specs.declared.route.Route.TheVariants.{Parked, HostFile, HostFileAfter}
 use Rattle.relay_http.specs.declared.route.Route.TheVariants.{Report, Requests}
 use Rattle.relay_http.specs.declared.route.Route.TheVariants.{RequestsAfter, NamedRequest}
+use Rattle.relay_http.specs.declared.route.Route.TheVariants.{HostAt, OpenRequests}
 
 -- the routes with one more
 abbrev pub added : Result Scan InsertError → Route → RowsOf (RouteOf Route) → RowsOf (RouteOf Route)
@@ -31,7 +32,9 @@ IsFreeRoute (Err e) rows = ⊥
 -- where no such route has the rest of the target.
 unfoldable pub routes : RowsOf (RouteOf Route)
 routes =
-    with_route (codes "/v1/requests/{asker}/{no}") NamedRequest
+    with_route (codes "/v1/open/{at}") OpenRequests
+    (with_route (codes "/v1/hosts/{host}/at/{at}") HostAt
+    (with_route (codes "/v1/requests/{asker}/{no}") NamedRequest
     (with_route (codes "/v1/requests/after/{at}") RequestsAfter
     (with_route (codes "/v1/requests") Requests
     (with_route (codes "/v1/count") Count
@@ -41,7 +44,7 @@ routes =
     (with_route (codes "/v1/hosts/{host}/sudoers") HostFile
     (with_route (codes "/v1/parked") Parked
     (with_route (codes "/v1/grants/{at}") Grants
-    (with_route (codes "/v1/relays/{relay}/messages") Messages []))))))))))
+    (with_route (codes "/v1/relays/{relay}/messages") Messages []))))))))))))
 
 -- the part of the target that the route's parameter of this name takes
 unfoldable pub part : List ℕ → RouteOf Route → List ℕ → List ℕ
@@ -60,7 +63,9 @@ parameter Grants = codes "at"
 parameter Parked = []
 parameter HostFile = codes "host"
 parameter HostFileAfter = codes "host"
+parameter HostAt = codes "host"
 parameter Report = codes "at"
+parameter OpenRequests = codes "at"
 
 -- the name of the second
 abbrev pub second_parameter : Route → List ℕ
@@ -74,7 +79,9 @@ second_parameter Grants = []
 second_parameter Parked = []
 second_parameter HostFile = []
 second_parameter HostFileAfter = codes "at"
+second_parameter HostAt = codes "at"
 second_parameter Report = []
+second_parameter OpenRequests = []
 
 -- the value is the route's, and the bytes are what its parameters took
 abbrev pub RouteTakes : Option (RouteOf Route) → List ℕ → Option (Route × List ℕ × List ℕ) → Type 0

@@ -26,8 +26,12 @@ pub enum Action<'b> {
     HostFile(&'b str),
     /// The same without the lines that end before the moment.
     HostFileAfter(&'b str, Moment),
+    /// The same behind the count: what it is made of, and the file.
+    HostAt(&'b str, Moment),
     /// The report at the moment.
     Report(Moment),
+    /// What became of the requests that do not end before the moment, and who may approve then.
+    OpenRequests(Moment),
     /// None: the first fault that applies.
     Refused(RequestFault),
 }

@@ -8,10 +8,12 @@ ghost use Rattle.matchit.specs.Seek.{first};
 ghost use Rattle.sudo_policy.specs.declared.entry.Entry.{Entry};
 ghost use Rattle.messages.specs.declared.message.Message.{Message};
 ghost use Rattle.roster.specs.Fields.{Reading};
+ghost use Rattle.desk.specs.declared.refusal.Refusal.{Refusal};
 ghost use Rattle.relay_http.specs.Receiving.{HasCome, HasReceived};
-ghost use Rattle.relay_http.specs.Request.{Action, Request, deliver, refused};
+ghost use Rattle.relay_http.specs.Request.{Action, Request, count, deliver, host_at};
+ghost use Rattle.relay_http.specs.Request.{host_file_after, refused};
 ghost use Rattle.relay_http.specs.Fields.{Fields};
-ghost use Rattle.relay_http.specs.Responses.{Response, IsResponse};
+ghost use Rattle.relay_http.specs.Responses.{Response, IsResponse, done, refusal};
 ghost use Rattle.relay_http.specs.Response.{written};
 ghost use Rattle.relay_http.specs.Routes.{routes};
 ghost use Rattle.relay_http.specs.RequestBytes.{IsHttpRequest, IsHttpRequestByHead};
@@ -92,4 +94,19 @@ pub fn steps_are_one()
     ensures sent { (a b c : Option (List ℕ)) (response rest : List ℕ)
         (result : Result Sending ServeFault) → IsSending a b response (Ok (Waits rest))
         → IsSending b c rest result → IsSending a c response result }
+{}
+
+/// The answers to who asks for the count and then for a host's file after a moment, over one set of
+/// messages, are the one answer to who asks for both: the line with the file behind it, or the
+/// file's refusal.
+pub fn both_in_one()
+    ensures file { (roster : Reading) (base : List Entry) (set : List Message)
+        (host : List ℕ) (at : ℕ) (line : Response) (file : List ℕ)
+        → IsResponse roster base set count line
+        → IsResponse roster base set (host_file_after host at) (done file)
+        → IsResponse roster base set (host_at host at) (done (line.body ++ file)) }
+    ensures refused { (roster : Reading) (base : List Entry) (set : List Message)
+        (host : List ℕ) (at : ℕ) (e : Refusal)
+        → IsResponse roster base set (host_file_after host at) (refusal e)
+        → IsResponse roster base set (host_at host at) (refusal e) }
 {}

@@ -3,8 +3,8 @@
 ghost use Rattle.std.specs.Prelude.{◌≡◌, ℕ, List, IfSome, Some, codes, map};
 ghost use Rattle.httparse.specs.Grammar.{RequestHead};
 ghost use Rattle.relay_http.specs.Request.{Request, action_of, grants};
-ghost use Rattle.relay_http.specs.Request.{host_file_after, named_request, report};
-ghost use Rattle.relay_http.specs.Request.{request_of, requests_after};
+ghost use Rattle.relay_http.specs.Request.{host_at, host_file_after, named_request, report};
+ghost use Rattle.relay_http.specs.Request.{request_of, requests_after, open_requests};
 ghost use Rattle.relay_http.specs.Fields as head_fields;
 ghost use Rattle.relay_http.specs.Fields.{Fields, values};
 ghost use Rattle.relay_http.specs.Routes.{second_parameter, parameter};
@@ -55,12 +55,32 @@ fn host_file_after<'b>(host: &'b str, at: &str) -> Action<'b>
     }
 }
 
+/// The count, and the host's file after the moment of this text.
+fn host_at<'b>(host: &'b str, at: &str) -> Action<'b>
+    ensures { Dates (host_at host.now at.now) (action_of result) }
+{
+    match Moment::read_stamp(at) {
+        Some(moment) => Action::HostAt(host, moment),
+        None => Action::Refused(RequestFault::BadMoment),
+    }
+}
+
 /// The report at the moment of this text.
 fn report_at<'b>(at: &str) -> Action<'b>
     ensures { Dates (report at.now) (action_of result) }
 {
     match Moment::read_stamp(at) {
         Some(moment) => Action::Report(moment),
+        None => Action::Refused(RequestFault::BadMoment),
+    }
+}
+
+/// The requests that are open at the moment of this text.
+fn open_at<'b>(at: &str) -> Action<'b>
+    ensures { Dates (open_requests at.now) (action_of result) }
+{
+    match Moment::read_stamp(at) {
+        Some(moment) => Action::OpenRequests(moment),
         None => Action::Refused(RequestFault::BadMoment),
     }
 }
@@ -153,7 +173,9 @@ fn by_method<'b>(
         Route::Parked => Action::Parked,
         Route::HostFile => Action::HostFile(taken),
         Route::HostFileAfter => host_file_after(taken, second),
+        Route::HostAt => host_at(taken, second),
         Route::Report => report_at(taken),
+        Route::OpenRequests => open_at(taken),
     }
 }
 

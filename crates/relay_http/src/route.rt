@@ -23,8 +23,12 @@ pub enum Route {
     HostFile,
     /// The sudoers file of a host after a moment.
     HostFileAfter,
+    /// The same behind the count.
+    HostAt,
     /// The report at a moment.
     Report,
+    /// What became of the requests that are open at a moment.
+    OpenRequests,
 }
 
 impl Route {
@@ -46,7 +50,9 @@ impl Route {
             | Route::Parked
             | Route::HostFile
             | Route::HostFileAfter
-            | Route::Report => Methods::GetOrHead,
+            | Route::HostAt
+            | Route::Report
+            | Route::OpenRequests => Methods::GetOrHead,
         }
     }
 }

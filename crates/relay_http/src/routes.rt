@@ -93,6 +93,8 @@ fn router(alloc: Global) -> Result<Router<Route>, NoMemory>
         "/v1/requests/{asker}/{no}",
         Route::NamedRequest,
     )?;
+    add(&mut router, "/v1/hosts/{host}/at/{at}", Route::HostAt)?;
+    add(&mut router, "/v1/open/{at}", Route::OpenRequests)?;
     Ok(router)
 }
 
@@ -102,10 +104,10 @@ fn parameter(route: Route) -> &'static str
 {
     match route {
         Route::Messages => "relay",
-        Route::Grants | Route::Report | Route::RequestsAfter => "at",
+        Route::Grants | Route::Report | Route::RequestsAfter | Route::OpenRequests => "at",
         Route::AllMessages | Route::Count | Route::Requests | Route::Parked => "",
         Route::NamedRequest => "asker",
-        Route::HostFile | Route::HostFileAfter => "host",
+        Route::HostFile | Route::HostFileAfter | Route::HostAt => "host",
     }
 }
 
@@ -114,7 +116,7 @@ fn second_parameter(route: Route) -> &'static str
     ensures { result.now ≡ second_parameter route }
 {
     match route {
-        Route::HostFileAfter => "at",
+        Route::HostFileAfter | Route::HostAt => "at",
         Route::NamedRequest => "no",
         Route::Messages
         | Route::AllMessages
@@ -124,7 +126,8 @@ fn second_parameter(route: Route) -> &'static str
         | Route::Grants
         | Route::Parked
         | Route::HostFile
-        | Route::Report => "",
+        | Route::Report
+        | Route::OpenRequests => "",
     }
 }
 

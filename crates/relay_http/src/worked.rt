@@ -3,8 +3,9 @@
 
 ghost use Rattle.std.specs.Prelude.{◌≡◌, ◌++◌, ◌∷◌, [], codes, false, true};
 ghost use Rattle.relay_http.specs.Request.{all_messages, count, deliver, grants, host_file};
-ghost use Rattle.relay_http.specs.Request.{host_file_after, named_request, parked, refused};
-ghost use Rattle.relay_http.specs.Request.{report, requests, requests_after};
+ghost use Rattle.relay_http.specs.Request.{host_at, host_file_after, named_request, parked};
+ghost use Rattle.relay_http.specs.Request.{refused, report, requests, requests_after};
+ghost use Rattle.relay_http.specs.Request.{open_requests};
 ghost use Rattle.relay_http.specs.Response.{fault_line, status_of, written};
 ghost use Rattle.relay_http.specs.RequestBytes.{IsHttpRequest};
 ghost use Rattle.relay_http.specs.Worked.{approval_body, head_with_host, lines, posted};
@@ -18,8 +19,8 @@ ghost use Rattle.relay_http.specs.declared.status.ResponseStatus.TheVariants as 
 
 /// Requests that are answered by the desk: a delivery, one with zeros before its length, all
 /// messages, how many there are, what became of every request, of those after a moment and of one,
-/// the grants of a moment by HEAD, a host's file, the same after a moment, the report at a moment,
-/// and a query of HTTP/1.0 without Host.
+/// the grants of a moment by HEAD, a host's file, the same after a moment and behind the count, the
+/// report at a moment, what is open then, and a query of HTTP/1.0 without Host.
 pub fn worked_requests()
     ensures delivery { IsHttpRequest (posted (codes "70"))
         (record { with_body = true; action = deliver (codes "web") approval_body }) }
@@ -45,9 +46,15 @@ pub fn worked_requests()
     ensures host_file_after { IsHttpRequest
         (head_with_host (codes "GET /v1/hosts/db9/sudoers/20260105093000Z HTTP/1.1"))
         (record { with_body = true; action = host_file_after (codes "db9") 1_767_605_400 }) }
+    ensures host_at { IsHttpRequest
+        (head_with_host (codes "GET /v1/hosts/db9/at/20260105093000Z HTTP/1.1"))
+        (record { with_body = true; action = host_at (codes "db9") 1_767_605_400 }) }
     ensures report { IsHttpRequest
         (head_with_host (codes "GET /v1/reviews/20260105093000Z HTTP/1.1"))
         (record { with_body = true; action = report 1_767_605_400 }) }
+    ensures open_requests { IsHttpRequest
+        (head_with_host (codes "GET /v1/open/20260105093000Z HTTP/1.1"))
+        (record { with_body = true; action = open_requests 1_767_605_400 }) }
     ensures old { IsHttpRequest (lines (codes "GET /v1/parked HTTP/1.0" ∷ [] ∷ []))
         (record { with_body = true; action = parked }) }
 {}

@@ -35,8 +35,14 @@ returns c = record {
   host_file_after =
       worked (spelled (codes "GET") (codes "/v1/hosts/db9/sudoers/20260105093000Z") 1 ((codes "Host", codes "desk") ∷ [])) []
       _ _ refl refl refl refl (refl, inl (1_767_605_400, stamped_at_half_past_nine, refl));
+  host_at =
+      worked (spelled (codes "GET") (codes "/v1/hosts/db9/at/20260105093000Z") 1 ((codes "Host", codes "desk") ∷ [])) []
+      _ _ refl refl refl refl (refl, inl (1_767_605_400, stamped_at_half_past_nine, refl));
   report =
       worked (spelled (codes "GET") (codes "/v1/reviews/20260105093000Z") 1 ((codes "Host", codes "desk") ∷ [])) []
+      _ _ refl refl refl refl (refl, inl (1_767_605_400, stamped_at_half_past_nine, refl));
+  open_requests =
+      worked (spelled (codes "GET") (codes "/v1/open/20260105093000Z") 1 ((codes "Host", codes "desk") ∷ [])) []
       _ _ refl refl refl refl (refl, inl (1_767_605_400, stamped_at_half_past_nine, refl));
   old = worked (spelled (codes "GET") (codes "/v1/parked") 0 []) [] _ _ refl refl refl refl (refl, refl);
 }

@@ -31,6 +31,7 @@ invariant_of-self g c =
           c.replace.ensures.served.was_up (λ up. c.in-Ok.ensures.held up) (λ set. c.under_another.ensures.still f c.args.roster.says set)
           c.under_another.ensures.nothing,
       known_of_up (K.is_clean new) (K.is_up new) c.under_another.result (λ clean. c.in-Ok.ensures.live clean),
+      tt,
     )
 
 pub returns-in-Ok-clause-served : goal.returns-in-Ok-clause-served
@@ -71,6 +72,7 @@ invariant_of-self-in-Err g c =
       λ up left may. (c.replace.ensures.durable up left may).desk (laws.stays_desk old new (c.in-Err.ensures.unchanged up) (c.self.invariant.1 (was up))),
       subst (IsKnown f (K.is_up new) (K.holds new)) none tt,
       subst (IsKnownOfUp (K.is_clean new) (K.is_up new)) none tt,
+      c.self.invariant.6,
     )
 
 pub returns-in-Err-clause-err : goal.returns-in-Err-clause-err
