@@ -57,8 +57,8 @@ fn replace_today<S: Alter>(conn: &mut Connection<S>, roster: &str) -> Result<(),
     replace(conn, roster)
 }
 
-/// Replaces the roster's text of a desk of an older form, whose contents these are. It becomes one
-/// of today.
+/// Replaces the roster's text of a desk of an older form, whose contents these are. The desk
+/// becomes one of today.
 fn replace_older<S: Alter>(
     alloc: Global,
     conn: &mut Connection<S>,
