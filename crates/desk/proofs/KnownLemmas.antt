@@ -165,7 +165,7 @@ up_where_counted Clean Up None count n live nothing is =
     let wrong : ◌≡◌ {A = Option ℕ} (Some n) None = sym is ∙ nothing refl in absurd cc
 up_where_counted Clean Up (Some k) count n live nothing is = live
 
--- the same is held, and what is known of it is known under another roster
+-- what is known of a set of messages is known of the same set under another roster
 pub known_under : (f g : RosterFields Cmnd) (Up Later : Type 0) (S T : Message → Type 0) (old new : Option Known) → IsKnown f Up S old
     → (Later → Up) → (Later → SameSet S T) → ((set : List Message) → IfSome old (IsKnownIn f set) → IfSome new (IsKnownIn g set))
     → (old ≡ None → new ≡ None) → IsKnown g Later T new

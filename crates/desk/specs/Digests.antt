@@ -1,4 +1,4 @@
--- The digests by which a roster and a base are known.
+-- The digests that name a roster and a base.
 use Rattle.std.specs.Prelude.{ℕ, List, [], ◌∷◌, ◌++◌}
 use Rattle.hex.specs.Hex.{encode_lower}
 use Rattle.sha2.specs.Sha256.{sha256}

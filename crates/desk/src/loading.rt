@@ -165,8 +165,8 @@ pub(crate) fn with_count(known: Option<Known>, count: usize) -> Option<Known>
     Some(known)
 }
 
-/// What is known of the messages under another roster: all but the suspects, for which the next
-/// report looks anew.
+/// What is known of the messages under another roster. The suspects depend on the roster, so they
+/// are dropped, and the next report looks for them anew.
 pub(crate) fn under_another(known: Option<Known>) -> Option<Known>
     ensures still { (f g : RosterFields AnyCmnd) (set : List AnyMessage)
         → IfSome known (IsKnownIn f set) → IfSome result (IsKnownIn g set) }

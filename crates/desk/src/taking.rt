@@ -18,8 +18,8 @@ impl<K: Keeper> Desk<K> {
     /// the roster does not admit: after Ok each answer is that of the same set under the new
     /// roster.
     ///
-    /// It is refused only for want of memory or of the storage, and then the roster and what is
-    /// kept are as they were.
+    /// The call is refused only for want of memory or of the storage, and then the roster and what
+    /// is kept are as they were.
     ///
     /// Whenever the call ends, a crash leaves the whole desk as it was, or the whole desk with the
     /// new roster's text; after Ok only the latter.
@@ -58,8 +58,8 @@ impl<K: Keeper> Desk<K> {
                 Ok(())
             }
             Err(error) => {
-                // They are dropped by calls: at an exit that drops them in line, each of their
-                // fields would be proved again.
+                // What is known and the roster are dropped by calls: at an exit that drops them in
+                // line, each of their fields would be proved again.
                 drop(known);
                 drop(roster);
                 Err(Refusal::from(error))

@@ -1,5 +1,5 @@
 -- What an audit tells of a set of messages, as one JSON document: of the names that are asked
--- about, or of one name.
+-- about, of one name, or of the requests that are open at a moment.
 use Rattle.std.specs.Prelude.{◌≡◌, ◌⊎◌, ◌&&◌, ◌==◌, ℕ, Bool, List, [], ◌∷◌, Contains, filter}
 use Rattle.std.specs.Str.{bytes_eq}
 use Rattle.sudo_words.specs.declared.cmnd.Cmnd.{Cmnd}

@@ -104,7 +104,7 @@ abbrev pub EndsMaking : (roster_file base_file : List ℕ) → AroundJob → Job
 EndsMaking roster_file base_file k reason =
     EndsWith roster_file base_file (EndsOpening roster_file base_file k) reason
 
--- An open desk may take no roster of the file for this: the file's fault, or want of memory or of
+-- Why an open desk does not take the roster of the file: the file's fault, or want of memory or of
 -- the storage.
 abbrev pub EndsTakingFile : List ℕ → JobRefusal → Type 0
 EndsTakingFile file reasons.FileFailed = ⊥

@@ -8,14 +8,14 @@ use desk::{Desk, Keeper};
 use desk_commands::Address;
 use std::{fmt, io};
 
-/// What the words of a service say.
+/// What the words of the command line say about a service.
 #[derive(Clone, Copy)]
 pub(crate) struct Words<'a> {
     /// The path of the roster's file.
     pub(crate) roster: &'a str,
-    /// Where it listens.
+    /// Where the service listens.
     pub(crate) addr: &'a Address,
-    /// How many connections it serves; without a number, until the process ends.
+    /// How many connections the service takes; without a number, as many as come.
     pub(crate) requests: Option<u64>,
 }
 

@@ -54,7 +54,7 @@ pub(crate) struct Serving<'a> {
 
 impl<'a> Serving<'a> {
     /// What the desk serves now: how many messages it has, where memory and the storage allow
-    /// counting them, and the digest of its roster.
+    /// counting them, and the digest of its roster, which is given.
     pub(crate) fn now<K: Keeper>(desk: &mut Desk<K>, roster: &'a str) -> Serving<'a> {
         Serving {
             roster,

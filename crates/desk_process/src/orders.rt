@@ -1,4 +1,4 @@
-//! What whoever started a service asks of it while it serves, on the standard input.
+//! Orders to a service while it serves: lines on the standard input, by whoever started it.
 
 use mio::unix::SourceFd;
 use mio::{Interest, Registry, Token};
@@ -10,10 +10,10 @@ use std::{env, mem, str};
 /// The standard input.
 const STANDARD_INPUT: RawFd = 0;
 
-/// The variable of the environment that says where orders come from.
+/// The variable of the environment that says whether the service takes orders, and from where.
 const ORDERS_FROM: &str = "DESK_ORDERS";
 
-/// Its value that says that they come on the standard input.
+/// The value of that variable with which orders come on the standard input.
 const ON_STANDARD_INPUT: &str = "stdin";
 
 /// The most bytes of an order.
@@ -22,7 +22,7 @@ const MOST_ORDER: usize = 128;
 /// The most bytes that are read at once.
 pub(crate) const MOST_READ: usize = 256;
 
-/// What is before the digest in an order to take the roster's file.
+/// The beginning of an order to take the roster's file. The digest of the file follows.
 const TAKE_ROSTER: &str = "roster ";
 
 /// The lines of the standard input as they come, each an order.
@@ -31,7 +31,7 @@ pub(crate) struct Orders {
     line: Vec<u8>,
 }
 
-/// The digest of the roster's file that an order wants to be taken, if it is one.
+/// The digest that an order to take the roster's file names; none where the line is no such order.
 pub(crate) fn wanted_in(line: &[u8]) -> Option<&str> {
     match str::from_utf8(line) {
         Ok(text) => text.strip_prefix(TAKE_ROSTER),
@@ -40,8 +40,8 @@ pub(crate) fn wanted_in(line: &[u8]) -> Option<&str> {
 }
 
 impl Orders {
-    /// The orders of this service, where its environment says that there are any: without that the
-    /// standard input may be somebody else's.
+    /// The orders of this service, where its environment says that it takes any. Otherwise the
+    /// standard input may be somebody else's, and is left alone.
     pub(crate) fn of(rt: &HostRuntime) -> Option<Orders> {
         match env::var(rt, ORDERS_FROM) {
             Ok(from) if from.as_str() == ON_STANDARD_INPUT => Some(Orders::new(rt.alloc())),
@@ -55,13 +55,12 @@ impl Orders {
         }
     }
 
-    /// Has the poll tell when something comes. To register again has it tell once more what it told
-    /// before.
+    /// Has the poll tell when something comes.
     pub(crate) fn watch(&self, registry: &Registry, token: Token) -> io::Result<()> {
         registry.register(&mut SourceFd(&STANDARD_INPUT), token, Interest::READABLE)
     }
 
-    /// The same again.
+    /// Has the poll tell once more where some bytes are left, of which it told before.
     pub(crate) fn watch_again(&self, registry: &Registry, token: Token) -> io::Result<()> {
         registry.reregister(&mut SourceFd(&STANDARD_INPUT), token, Interest::READABLE)
     }
@@ -71,7 +70,8 @@ impl Orders {
         registry.deregister(&mut SourceFd(&STANDARD_INPUT))
     }
 
-    /// How many bytes have come, where the poll told that some have; none where no more can come.
+    /// Reads what has come, once the poll told that something has: how many bytes, or none where no
+    /// more can come.
     pub(crate) fn read(&self, rt: &HostRuntime, bytes: &mut [u8]) -> Option<usize> {
         let mut input = rt.stdin();
         match input.read(bytes) {
@@ -84,8 +84,8 @@ impl Orders {
         }
     }
 
-    /// The line that ends with this byte, if one does. Of one that is too long nothing is kept past
-    /// the most: it is no order.
+    /// The line that ends with this byte, if one does. A line that is longer than an order is cut
+    /// off one byte past the most, so it is no order.
     pub(crate) fn push(&mut self, alloc: Global, byte: u8) -> Option<Vec<u8>> {
         if byte == b'\n' {
             let whole = mem::replace(&mut self.line, Vec::new(alloc));

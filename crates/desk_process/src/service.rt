@@ -81,7 +81,7 @@ pub(crate) struct Service {
     waiting: Ready,
     routes: Routes,
     buffers: Buffers,
-    /// What whoever started the service asks of it, if it is asked so.
+    /// The orders of whoever started the service, if it takes orders.
     orders: Option<Orders>,
     places: Vec<Option<Connection>>,
     queues: RequestQueues,
@@ -342,8 +342,8 @@ impl Service {
         Ok(())
     }
 
-    /// Reads what has come of orders, and obeys each that is whole. Where no more can come, or none
-    /// can be read, none is awaited any more.
+    /// Reads what has come of orders, and obeys each order that is whole. Where no more can come, or
+    /// none can be read, the service awaits no more orders.
     fn take_orders<K: Keeper>(
         &mut self,
         rt: &HostRuntime,
@@ -657,7 +657,7 @@ impl Service {
     }
 
     /// Serves until all the connections that it accepts have come and are over, or until the desk's
-    /// storage is shut. Another roster, if one is ordered, is that of the file of this path.
+    /// storage is shut. An order to take another roster means the file at the path `roster`.
     pub(crate) fn run<K: Keeper>(
         &mut self,
         rt: &HostRuntime,

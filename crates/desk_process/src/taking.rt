@@ -7,7 +7,7 @@ use desk::{Desk, Keeper, Refusal};
 use desk_commands::{JobRefusal, take_file};
 use std::{fmt, io};
 
-/// Why a desk has the roster that it had.
+/// Why a desk did not take a roster.
 #[derive(Drop)]
 pub(crate) enum Why {
     /// The line is no order.
@@ -33,7 +33,7 @@ impl From<JobRefusal> for Why {
     }
 }
 
-/// That a desk has the roster that it had, and why, as a line.
+/// The line which says that the desk's roster stays, and why.
 #[derive(Clone, Copy)]
 pub(crate) struct Stays<'a> {
     pub(crate) path: &'a str,
@@ -57,8 +57,9 @@ impl fmt::Display for Stays<'_> {
     }
 }
 
-/// Has the desk take the roster of the file, if its digest is the one that the order names: what
-/// somebody has judged, and not what has been written there since. Answers the digest.
+/// Has the desk take the roster of the file, if the file's digest is the one that the order names:
+/// whoever ordered it has judged that text, and nobody has judged what was written there since.
+/// Answers the digest.
 pub(crate) fn take<K: Keeper>(
     rt: &HostRuntime,
     desk: &mut Desk<K>,

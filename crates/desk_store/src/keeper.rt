@@ -154,8 +154,8 @@ pub trait Keeper {
             → LeavesOnly (may_leave self.new) (IsDeskOf (roster self.new) (holds self.new)) };
 
     /// Replaces the desk's roster text, in one commit. The messages stay, and so does what is kept
-    /// beside them, which does not depend on the roster; a desk of an older form becomes one of
-    /// today's, for which that is made from its messages.
+    /// beside them, which does not depend on the roster. A desk of an older form becomes one of
+    /// today's: what is kept beside the messages is then made from them.
     fn replace(&mut self, text: &str) -> Result<(), KeeperError>
         requires { is_up self.old → is_desk self.old ⊎ is_old self.old }
         ensures desk { is_up self.new → OnOk result (is_desk self.new) }

@@ -38,7 +38,7 @@ fn shape_in<S: Alter>(conn: &Connection<S>) -> Shape
     shape_of(conn.schema())
 }
 
-/// Whether these are the tables of a desk of today.
+/// Whether the schema has the tables of a desk of today.
 fn is_of_today(shape: Shape) -> bool
     ensures { IsTrue result → IsOfToday shape }
 {
@@ -89,7 +89,7 @@ pub(crate) fn replace_in<S: Alter>(
     requires kept { IsUp (state S.Store conn.old) → IsEither (state S.Store conn.old).now }
     ensures { Replaces roster.now (state S.Store conn.old) (state S.Store conn.new) result }
 {
-    // What its rows are is known of a desk, so its schema alone tells of which form it is.
+    // The database is known to be a desk's, so its schema alone tells of which form the desk is.
     if is_of_today(shape_in(conn)) {
         return replace_today(conn, roster);
     }

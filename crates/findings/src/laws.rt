@@ -54,8 +54,8 @@ pub fn no_word_is_lost()
         ≡ terminal.ink heading ++ flat_map terminal.ink words }
 {}
 
-/// A grant is open up to its window's last moment, that one included, and verdicts on what nobody
-/// asks are never.
+/// A grant is open up to its window's last moment, that one included. Verdicts on what nobody asks
+/// are never open.
 pub fn open_to_the_end()
     ensures granted { (name : RequestName) (about : About) (w : Window) (at : ℕ) → is_open at
         (record { name = name; about = about; status = Some (statuses.Granted w) })

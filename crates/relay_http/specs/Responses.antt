@@ -120,7 +120,7 @@ IsFileResponse left f base set host response =
     ⊎ ((is_known_host f host ≡ true) × ((lines : List Line) → AreLines f set host lines
     → most_lines < length (left lines)) × (response ≡ refusal TooManyRules))
 
--- The response to who asks for a host's file after a moment and what it is made of: the line of the
+-- The response to a question for the count with a host's file after a moment: the line of the
 -- count, and then exactly the file, both of one set; or the file's refusal.
 abbrev pub IsCountedFileResponse : Reading → (base : List Entry)
     → List Message → (host : List ℕ) → (at : ℕ) → Response → Type 0

@@ -26,7 +26,7 @@ pub enum Action<'b> {
     HostFile(&'b str),
     /// The sudoers file of a host without the lines that end before the moment.
     HostFileAfter(&'b str, Moment),
-    /// The same behind the count: what it is made of, and the file.
+    /// The line of the count, with that file behind it.
     HostAt(&'b str, Moment),
     /// The report at the moment.
     Report(Moment),

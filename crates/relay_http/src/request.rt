@@ -55,7 +55,7 @@ fn host_file_after<'b>(host: &'b str, at: &str) -> Action<'b>
     }
 }
 
-/// The count, and the host's file after the moment of this text.
+/// The count, with the host's file after the moment of this text behind it.
 fn host_at<'b>(host: &'b str, at: &str) -> Action<'b>
     ensures { Dates (host_at host.now at.now) (action_of result) }
 {

@@ -23,7 +23,7 @@ pub enum Route {
     HostFile,
     /// The sudoers file of a host after a moment.
     HostFileAfter,
-    /// The same behind the count.
+    /// The count, with the sudoers file of a host after a moment behind it.
     HostAt,
     /// The report at a moment.
     Report,
