@@ -16,7 +16,7 @@ use Rattle.desk.specs.Refusals.{IsWant}
 use Rattle.desk.specs.declared.refusal.Refusal.{Refusal}
 use Rattle.desk.specs.declared.refusal.Refusal.TheVariants.{Storage, NoMemory}
 use Rattle.desk_audit.proofs.AuditLemmas.{adds_both}
-use Rattle.relay_http.specs.Request.{Action, count, host_at, host_file_after}
+use Rattle.relay_http.specs.Request.{count, host_at, host_file_after}
 use Rattle.relay_http.specs.Lasting.{Lasts}
 use Rattle.relay_http.specs.Prepared.{IsCountText, IsJoined, to_question}
 use Rattle.relay_http.specs.Responses.{IsResponse, IsServerFailure, Response, count_line, done, refusal}

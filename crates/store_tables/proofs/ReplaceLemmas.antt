@@ -13,7 +13,7 @@ use Rattle.messages.specs.Wire.{wire}
 use Rattle.messages.specs.declared.message.Message.{Message}
 use Rattle.store_tables.specs.Rows.{AreRows, IsRow}
 use Rattle.store_tables.specs.Sets.{Lists, SameSet}
-use Rattle.store_tables.specs.Stored.{IsListedAs, Texts, content_of, is_stray, recorded, recorded_before, row_texts, with_roster}
+use Rattle.store_tables.specs.Stored.{IsListedAs, Texts, content_of, is_stray, recorded_before, row_texts, with_roster}
 use Rattle.store_tables.specs.Kept.{HasRows, Holds, IsDeskDatabase, Spares, table_in}
 use Rattle.store_tables.specs.SqliteStates.{IsUp, Rests}
 use Rattle.store_tables.specs.Steps.{IsStep}

@@ -16,7 +16,7 @@ use Rattle.sqlite.specs.Listing.{understood}
 use Rattle.sqlite.specs.State.{State, Executes, Shown}
 use Rattle.sqlite.proofs.Callers.{statement_of, reads_as, runs_as}
 use Rattle.messages.specs.declared.request_name.RequestName.{RequestName}
-use Rattle.store_tables.specs.DeskTables.{messages, names, verdicts, parked, names_at, verdicts_at, parked_at}
+use Rattle.store_tables.specs.DeskTables.{messages, names, verdicts, parked}
 use Rattle.store_tables.specs.Rows.{RowSet, IsRow, OfName}
 use Rattle.store_tables.specs.Stored.{Finds, HasDesk, is_stray, row_texts, tree_of}
 use Rattle.store_tables.specs.Kept.{IsKeyed, IsNeat, IsNoReal, IsTidy, table_in}

@@ -40,7 +40,7 @@ use Rattle.sqlite_ast.specs.declared.Select.{Select, out-Select}
 use Rattle.sqlite_ast.specs.declared.Core.{out-Core}
 use Rattle.sqlite_ast.specs.declared.Source.{Source, out-Source}
 use Rattle.sqlite_ast.specs.declared.Origin.TheVariants as origin
-use Rattle.store_tables.specs.DeskTables.{column_of, desk_at, names_at, parked_at, verdicts_at}
+use Rattle.store_tables.specs.DeskTables.{column_of, desk_at, names_at, parked_at}
 use Rattle.store_tables.specs.Stored.{Finds}
 use Rattle.store_tables.proofs.Layers.{compiled_is, read_is, named_is, body_is, whole_page, IsAlone, query_one}
 use Rattle.store_tables.proofs.Layers.{parts_is, bounds_one, matching_one, find_one, lower_column, result_one}

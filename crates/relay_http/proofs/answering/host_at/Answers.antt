@@ -1,9 +1,7 @@
-use Rattle.std.proofs.Common.{◌⊎◌, List, Result, Err, String, subst, inr}
-use Rattle.std.specs.declared.alloc.Global.{Global}
+use Rattle.std.proofs.Common.{◌⊎◌, List, Err, subst, inr}
 use Rattle.sudo_policy.specs.declared.entry.Entry.{Entry}
 use Rattle.roster.specs.Fields.{Reading}
 use Rattle.desk_store.proofs.ServingLemmas.{served_then}
-use Rattle.desk.specs.declared.refusal.Refusal.{Refusal}
 use Rattle.desk_audit.proofs.AuditLemmas.{lists_same}
 use Rattle.relay_http.specs.Request.{host_at, host_file_after}
 use Rattle.relay_http.specs.Lasting.{Lasts}
