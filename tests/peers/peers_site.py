@@ -528,6 +528,7 @@ def reloads(count: Count, words: list[str], folder: str) -> None:
 
 
 ROSTERS = 40  # how many rosters a served desk is to take while it is asked
+PAIRS = 10  # how often one roster is to follow right behind another
 
 
 def digest_of(text: str) -> str:
@@ -573,6 +574,37 @@ def takes_rosters(count: Count, words: list[str], folder: str) -> None:
         count.same("it ends as before", served.end(), 0)
         told = answer([*words, "print", served.roster, served.base, served.store, "db1"])
         count.same("the store has the last roster", told, (granted.decode(), "", 0))
+
+
+def takes_both(count: Count, words: list[str], folder: str) -> None:
+    """Where roster and base have changed, both are taken; where a roster follows right behind
+    another one, the last one is."""
+    shown, text = (desk.read("examples", name) for name in ("roster.toml", "site.sudo"))
+    line, last = "dave db1 = (root) /usr/bin/true\n", shown + "# with a base\n"
+    with site_of(words, folder) as served:
+        room = os.path.dirname(served.roster)
+        served.start()
+        count.holds("it serves", comes(served.file, PATIENCE) is not None, served.said())
+        wanted = served.file() + line.encode()
+        desk.write(room, "roster.toml", last)
+        desk.write(room, "base.sudo", text + line)
+        served.hang_up()
+        took = comes(lambda: served.file() == wanted, PATIENCE)
+        count.holds("a roster and a base: the base is served", took is not None, served.said())
+        count.holds("and the roster", f"roster {digest_of(last)}" in served.said(), served.said())
+        for number in range(PAIRS):
+            begun = len(served.said())
+            for place in (1, 2):
+                last = f"{shown}# {number}, {place}\n"
+                desk.write(room, "roster.toml", last)
+                served.hang_up()
+            told = f"serving 0 messages, roster {digest_of(last)}"
+            took = comes(lambda at=begun, it=told: it in served.said()[at:], PATIENCE)
+            count.holds("the second of two is served", took is not None, served.said()[begun:])
+        count.same("it was opened again for the base", served.said().count("listening at"), 2)
+        count.same("it ends as before", served.end(), 0)
+        status = answer([*words, "print", served.roster, served.base, served.store, "db1"])[2]
+        count.same("the store has the last roster", status, 0)
 
 
 def asks_meanwhile(count: Count, words: list[str], folder: str) -> None:
@@ -760,6 +792,7 @@ PARTS = (
     struck_out,
     reloads,
     takes_rosters,
+    takes_both,
     asks_meanwhile,
     checks,
     syncs,
