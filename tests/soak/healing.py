@@ -3,9 +3,10 @@
 
 The package's `desk-serve` runs the desk. While peers post and ask, a call on the store's file fails
 (a write, a read, a sync), once or for a while; another program locks the file while the desk is
-opened again; the file is gone; the desk is to take another roster meanwhile. Each time the desk
-answers posts and questions again at most 5 s after the fault's end, without what a busy machine
-adds, and what it acknowledged is there. A store that is gone is never begun anew.
+opened again; the file is gone; the desk is to take another roster meanwhile, or is killed then and
+started again. Each time the desk answers posts and questions again at most 5 s after the fault's
+end, without what a busy machine adds, and what it acknowledged is there. A store that is gone is
+never begun anew.
 
 `python3 -m tests.soak.healing WORDS..` runs another program than build/desk; `--only PART..` before
 them tries some of the parts, and `--whole` more places.
@@ -35,6 +36,8 @@ LISTED = desk.asked(b"GET", b"/v1/messages")
 ACK = b"\r\n\r\nack\n"
 MOST = 5.0 * max(1.0, PATIENCE / 60)  # seconds after a fault's end
 LASTS = 1.5  # seconds of a fault
+KILLS = 40  # of a desk, each a millisecond later after an order to take a roster
+ORDER = "has the desk take the roster "  # what desk-serve says as it orders
 
 
 class Service:
@@ -50,13 +53,13 @@ class Service:
         name = desk.write(folder, "failing-desk", text)
         os.chmod(name, 0o755)
         held_by = {"DESK": name, "ROSTER": roster, "BASE": desk.BASE}
+        self.environment = {**os.environ, **held_by, "STORE": self.store, "ADDR": self.address}
         self.log = open(os.path.join(folder, "log"), "w+", encoding="utf-8")
-        self.process = subprocess.Popen(
-            [SERVE],
-            env={**os.environ, **held_by, "STORE": self.store, "ADDR": self.address},
-            stdout=self.log,
-            stderr=subprocess.STDOUT,
-        )
+        self.process = self.started()
+
+    def started(self) -> subprocess.Popen[bytes]:
+        out, err = self.log, subprocess.STDOUT
+        return subprocess.Popen([SERVE], env=self.environment, stdout=out, stderr=err)
 
     def ask(self, given: bytes) -> bytes:
         """The reply; nothing where nobody answers."""
@@ -278,7 +281,32 @@ def ordered(count: Count, words: list[str], step: int) -> None:
             count.same("the service ends", service.end(), 0)
 
 
-PARTS = (fail_calls, lock, gone, ordered)
+def killed(count: Count, words: list[str], step: int) -> None:
+    """The desk is killed while it takes another roster, and its service is started again, as
+    systemd does that: the desk has the roster, and nobody has to rebuild the store."""
+    shown = desk.read("examples", "roster.toml")
+    with tempfile.TemporaryDirectory(dir=desk.MEMORY) as room:
+        roster = desk.write(room, "roster.toml", shown)
+        with serving(words, roster) as service:
+            acked = [begin(count, service)]
+            for number in range(0, KILLS, step):
+                text, begun = f"{shown}# {number}\n", len(service.said())
+                desk.write(room, "roster.toml", text)
+                service.process.send_signal(signal.SIGHUP)
+                comes(lambda at=begun: ORDER in service.said()[at:], PATIENCE)
+                time.sleep(number / 1000)
+                for child in children(service.process.pid):
+                    with contextlib.suppress(ProcessLookupError):
+                        os.kill(child, signal.SIGKILL)
+                title = f"killed {number} ms after an order"
+                count.same(title, service.process.wait(PATIENCE), 128 + signal.SIGKILL)
+                service.process = service.started()
+                heals(count, title, service, acked, 600 + number)
+                told = f", roster {hashlib.sha256(text.encode()).hexdigest()}"
+                count.holds(f"{title}: it serves the roster", told in service.said(), told)
+
+
+PARTS = (fail_calls, lock, gone, ordered, killed)
 
 
 def main() -> int:
