@@ -47,8 +47,8 @@ impl<K: Keeper> Desk<K> {
         ensures durable { K.is_up self.new.keeper → LeavesOnly (K.may_leave self.new.keeper)
             (IsDeskOf self.new.roster.text (K.holds self.new.keeper)) }
     {
-        // What is known stays only where the roster is recorded. The digests are those of the roster
-        // before, so the next question makes them anew.
+        // What is known stays only where the roster is recorded. The digests name the roster that
+        // was there before, so the next question makes them anew.
         let known = self.known.take();
         match self.keeper.replace(roster.text()) {
             Ok(()) => {

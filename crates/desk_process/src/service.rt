@@ -342,8 +342,8 @@ impl Service {
         Ok(())
     }
 
-    /// Reads what has come of orders, and obeys each order that is whole. Where no more can come, or
-    /// none can be read, the service awaits no more orders.
+    /// Reads what has come of orders, and obeys each order that is whole. Where no more can come,
+    /// or none can be read, the service awaits no orders from then on.
     fn take_orders<K: Keeper>(
         &mut self,
         rt: &HostRuntime,

@@ -96,9 +96,9 @@ pub fn steps_are_one()
         → IsSending b c rest result → IsSending a c response result }
 {}
 
-/// Over one set of messages, the answers to two questions, for the count and for a host's file after
-/// a moment, are the answer to the one question for both: the line with the file behind it, or the
-/// file's refusal.
+/// Over one set of messages, the answers to two questions, for the count and for a host's file
+/// after a moment, are the answer to the one question for both: the line with the file behind it,
+/// or the file's refusal.
 pub fn both_in_one()
     ensures file { (roster : Reading) (base : List Entry) (set : List Message)
         (host : List ℕ) (at : ℕ) (line : Response) (file : List ℕ)

@@ -139,7 +139,7 @@ fn rebuilt_over<K: Keeper>(alloc: Global, rules: Rules, keeper: K) -> (Result<En
     }
 }
 
-/// Opens the desk that the keeper keeps with the roster that it has, and has the desk take this one.
+/// Opens the desk that the keeper keeps with the roster that it has, and has it take another one.
 fn taken_over<K: Keeper>(
     alloc: Global,
     rules: Rules,
