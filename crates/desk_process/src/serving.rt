@@ -25,11 +25,11 @@ fn status_of(served: Result<End, Trouble>) -> Result<ExitStatus, Trouble> {
     }
 }
 
-/// Serves the desk that the files make over what the keeper keeps, at the address, and hands the
-/// keeper on. Where the keeper keeps nothing yet, `new` is the path of the store that is made: it
+/// Serves the desk that the files make over what the keeper keeps, at the address, and at another
+/// for questions alone if there is one, and hands the keeper on. Where the keeper keeps nothing yet, `new` is the path of the store that is made: it
 /// is told at once.
 ///
-/// It is refused where the files make no desk, where it cannot listen at the address or accept from
+/// It is refused where the files make no desk, where it cannot listen at an address or accept from
 /// it, and where the desk's storage failed so that it has to be opened again.
 pub(crate) fn serve<K: Keeper>(
     rt: &HostRuntime,
@@ -37,6 +37,7 @@ pub(crate) fn serve<K: Keeper>(
     keeper: K,
     new: Option<&str>,
     addr: &Address,
+    questions: Option<&Address>,
     requests: Option<u64>,
 ) -> (Result<ExitStatus, Trouble>, K) {
     let [roster, base, ..] = files else {
@@ -51,7 +52,7 @@ pub(crate) fn serve<K: Keeper>(
             if let Some(path) = new {
                 tell_new(rt, path);
             }
-            let served = serve_at(rt, &mut desk, digest.as_str(), addr, requests);
+            let served = serve_at(rt, &mut desk, digest.as_str(), addr, questions, requests);
             (status_of(served), desk.into_keeper())
         }
         Err((refusal, keeper)) => (Err(Trouble::from(refusal)), keeper),

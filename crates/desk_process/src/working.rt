@@ -49,7 +49,12 @@ fn work_over<K: Keeper + Drop>(
     new: Option<&str>,
 ) -> (Result<ExitStatus, Trouble>, K) {
     match job {
-        Job::Serve { addr, requests, .. } => serve(rt, files, keeper, new, addr, *requests),
+        Job::Serve {
+            addr,
+            questions,
+            requests,
+            ..
+        } => serve(rt, files, keeper, new, addr, questions.as_ref(), *requests),
         _ => run_on_streams(rt, job, files, keeper),
     }
 }
