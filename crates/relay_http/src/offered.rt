@@ -16,7 +16,7 @@ impl Offered {
     ghost use Rattle.relay_http.specs.Routes.{offers};
 
     /// Whether a socket has the route.
-    pub fn has(self, route: Route) -> bool
+    pub(crate) fn has(self, route: Route) -> bool
         ensures { result ≡ offers self route }
     {
         match self {
