@@ -709,6 +709,7 @@ PARTS = (
     reloads,
     checks,
     syncs,
+    questions,
     audit_meanwhile,
 )
 
