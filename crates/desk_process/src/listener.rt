@@ -103,7 +103,7 @@ fn count<K: Keeper>(desk: &mut Desk<K>) -> Option<usize> {
     desk.count().ok()
 }
 
-/// The address without what says of which kind it is.
+/// The text of the address, without the `unix:` before a path.
 fn text_of(addr: &Address) -> &str {
     match addr {
         Address::Tcp(place) => place.as_str(),
@@ -147,15 +147,16 @@ fn tell(rt: &HostRuntime, log: &mut Log, at: &At<'_>, offered: Offered) -> Resul
 
 /// Serves the desk at the address, `HOST:PORT` with port 0 for any free one, or `unix:` and a path;
 /// and at another such address for questions alone, if there is one: no message is taken there.
-/// It serves so many connections; without a number, until the process ends. Their exchanges are
-/// made one after the other, each once its request is there.
+/// The service takes so many connections; without a number, as many as come. The exchanges are made
+/// one after the other, each once its request is there.
 ///
-/// It prints `listening` and the address, and a line for the other address, once it listens at
-/// both. On the standard error it says what it serves, with the digest of the roster; a warning
-/// where an address has a port; each 503 that is answered; each connection that is let go before
-/// its response is out; and why it ended. It ends once the desk's storage is shut after a failure,
-/// since the desk would answer nothing any more. It fails where an address cannot be listened at,
-/// where nothing can be printed, and where a connection cannot be accepted though no other is open.
+/// The service prints `listening` and the address, and a line for the other address, once it listens
+/// at both. On the standard error it says what it serves, with the digest of the roster; a warning
+/// where an address has a port; each 503 that is answered; each connection that is let go before its
+/// response is out; and why it ended. The service ends once the desk's storage is shut after a
+/// failure, since the desk would answer nothing any more. It fails where it cannot listen at an
+/// address, where nothing can be printed, and where a connection cannot be accepted though no other
+/// is open.
 pub(crate) fn serve_at<K: Keeper>(
     rt: &HostRuntime,
     desk: &mut Desk<K>,

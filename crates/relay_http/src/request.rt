@@ -250,7 +250,7 @@ pub fn is_cut_short(routes: &Routes, offered: Offered, head: &Head, bytes: &[u8]
     so_far(routes, offered, head, bytes).is_short
 }
 
-/// The request that the bytes of a connection to a socket are. It takes no memory.
+/// The request that the bytes of a connection to a socket are. Reading it takes no memory.
 pub fn request_in<'b>(routes: &Routes, offered: Offered, bytes: &'b [u8]) -> HttpRequest<'b>
     ensures found { IsHttpRequest offered bytes.now (request_of result) }
     ensures only { (request : Request ℕ) → IsHttpRequest offered bytes.now request
