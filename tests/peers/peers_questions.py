@@ -220,7 +220,7 @@ def what_ends_it(count: Count, folder: str) -> None:
 
 
 def what_ports_say(count: Count) -> None:
-    """An address with a port: what is said of it, and that the other one's routes are not there."""
+    """Two addresses with ports: what the desk warns of, and that the second takes no message."""
     words = [*desk.named(), "serve", desk.ROSTER, desk.BASE, "-", "127.0.0.1:0"]
     words += ["--questions", "127.0.0.1:0", "--requests", "2"]
     process = subprocess.Popen(words, stdout=subprocess.PIPE, stderr=subprocess.PIPE, text=True)

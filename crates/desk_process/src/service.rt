@@ -157,7 +157,7 @@ impl Service {
         })
     }
 
-    /// Has it listen at one more socket.
+    /// Has the service listen at one more socket.
     pub(crate) fn listen_at(&mut self, mut socket: Listening) -> io::Result<()> {
         let at = self.sockets.len();
         if at >= MOST_SOCKETS {

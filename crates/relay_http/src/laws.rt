@@ -18,7 +18,7 @@ ghost use Rattle.relay_http.specs.RequestBytes.{IsHttpRequest, IsHttpRequestByHe
 ghost use Rattle.relay_http.specs.RequestBytes.{action_by, front};
 ghost use Rattle.relay_http.specs.Sending.{IsSending};
 ghost use Rattle.relay_http.specs.declared.fault.RequestFault.TheVariants.{ShortBody};
-ghost use Rattle.relay_http.specs.declared.offered.Offered.{Offered as Which};
+ghost use Rattle.relay_http.specs.declared.offered.Offered.{Offered};
 ghost use Rattle.relay_http.specs.declared.offered.Offered.TheVariants as socket;
 ghost use Rattle.relay_http.specs.declared.received.Received.{Received};
 ghost use Rattle.relay_http.specs.declared.route.Route.{Route};
@@ -34,7 +34,7 @@ pub use crate::worked::{worked_questions, worked_refusals, worked_requests, work
 /// Bytes are at most one request at a socket.
 #[tactic(auto, using(crate::proofs::RequestLemmas::one_request))]
 pub fn one_request()
-    ensures { (offered : Which) (bytes : List ℕ) (a b : Request ℕ) → IsHttpRequest offered bytes a
+    ensures { (offered : Offered) (bytes : List ℕ) (a b : Request ℕ) → IsHttpRequest offered bytes a
         → IsHttpRequest offered bytes b → a ≡ b }
 {}
 
@@ -46,14 +46,14 @@ pub fn one_head()
 
 /// Bytes that follow a head, and its content where the head asks for one, change nothing.
 pub fn rest_ignored()
-    ensures { (offered : Which) (bytes more : List ℕ) (request : Request ℕ)
+    ensures { (offered : Offered) (bytes more : List ℕ) (request : Request ℕ)
         → IsHttpRequestByHead offered bytes request
         → (request.action ≡ refused ShortBody → ⊥) → IsHttpRequest offered (bytes ++ more) request }
 {}
 
 /// HEAD asks for what GET does, and the response to HEAD is that to GET without the body.
 pub fn head_is_get()
-    ensures asks { (offered : Which) (target : List ℕ) (minor : ℕ) (fields : Fields)
+    ensures asks { (offered : Offered) (target : List ℕ) (minor : ℕ) (fields : Fields)
         (rest : List ℕ) → action_by offered (codes "HEAD") target minor fields rest
         ≡ action_by offered (codes "GET") target minor fields rest }
     ensures response { (s : ResponseStatus) (body : List ℕ)
@@ -63,15 +63,15 @@ pub fn head_is_get()
 /// Only a POST to the route of a relay's messages delivers, at a socket that has all routes, and
 /// what it delivers is a beginning of the bytes after the head, of at most 16,384 bytes.
 pub fn only_post_delivers()
-    ensures content { (offered : Which) (method target : List ℕ) (minor : ℕ) (fields : Fields)
+    ensures content { (offered : Offered) (method target : List ℕ) (minor : ℕ) (fields : Fields)
         (rest relay body : List ℕ)
         → action_by offered method target minor fields rest ≡ deliver relay body
         → (method ≡ codes "POST") × (length body ≤ 16384) × (body ≡ take (length body) rest) }
-    ensures route { (offered : Which) (method target : List ℕ) (minor : ℕ) (fields : Fields)
+    ensures route { (offered : Offered) (method target : List ℕ) (minor : ℕ) (fields : Fields)
         (rest relay body : List ℕ)
         → action_by offered method target minor fields rest ≡ deliver relay body
         → (route : RouteOf Route) × (first routes target ≡ Some route) × (route.value ≡ Messages) }
-    ensures all_routes { (offered : Which) (method target : List ℕ) (minor : ℕ) (fields : Fields)
+    ensures all_routes { (offered : Offered) (method target : List ℕ) (minor : ℕ) (fields : Fields)
         (rest relay body : List ℕ)
         → action_by offered method target minor fields rest ≡ deliver relay body
         → offered ≡ socket.All }
@@ -91,7 +91,7 @@ pub fn routes_of_sockets()
 
 /// The first 24,576 bytes, which are the longest head and the longest content, decide the request.
 pub fn first_bytes_decide()
-    ensures { (offered : Which) (bytes more : List ℕ) (request : Request ℕ)
+    ensures { (offered : Offered) (bytes more : List ℕ) (request : Request ℕ)
         → 24576 ≤ length bytes → IsHttpRequest offered bytes request
         → IsHttpRequest offered (bytes ++ more) request }
 {}
