@@ -66,6 +66,7 @@ PARTS = (
     Part("peers/requests", "python3 -m tests.peers.peers_requests", PEERS),
     Part("peers/http", "python3 -m tests.peers.peers_http", PEERS, 1.5),
     Part("peers/socket", "python3 -m tests.peers.peers_socket", PEERS),
+    Part("peers/questions", "python3 -m tests.peers.peers_questions", PEERS),
     Part("peers/patience", "python3 -m tests.peers.patience", PEERS, 2),
     Part("peers/crowd", "python3 -m tests.peers.crowd", PEERS, alone=True),
     Part("peers/store", "python3 -m tests.peers.store", PEERS),

@@ -17,7 +17,7 @@ CONFIG = "/etc/desk/door.toml"
 TEXTS = {
     "site": "",
     "signing": "yes",
-    "desk": "unix:/run/desk/desk.sock",
+    "desk": "unix:/run/desk-posts/desk.sock",
     "questions": "",
     "listen": "unix:/run/desk-door/desk.sock",
     "root": "unix:/run/desk-door/root/desk.sock",

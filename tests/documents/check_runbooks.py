@@ -42,6 +42,7 @@ STAND_INS = {
     # the service, started as its unit starts it; INSTANCE, STORE and ADDR make a second one
     "systemctl": """#!/bin/bash
 pid=/run/${INSTANCE:-desk}.pid log=/run/${INSTANCE:-desk}.log
+door=/etc/systemd/system/desk.service.d/door.conf
 state() { sed -n 's/^State:\\s*//p' "/proc/$1/status" 2> /dev/null | cut -c 1; }
 runs() { case $(state "$1") in '' | Z) return 1 ;; esac; }
 stop() {
@@ -53,8 +54,11 @@ stop() {
 start() {
     : > "$log"
     [ -d /run/desk ] || install -d -o desk -g desk-front -m 0750 /run/desk
+    [ -n "$ADDR" ] || [ ! -e /etc/desk/serve.conf ] || . /etc/desk/serve.conf
+    [ ! -e "$door" ] || $(sed -n 's/^ExecStartPre=+//p' "$door")
     setsid setpriv --reuid desk --regid desk-front --groups desk env "PATH=$PATH" \\
-        "STORE=$STORE" "ADDR=$ADDR" /usr/local/bin/desk-serve > "$log" 2>&1 < /dev/null &
+        "STORE=$STORE" "ADDR=$ADDR" "QUESTIONS=$QUESTIONS" \\
+        /usr/local/bin/desk-serve > "$log" 2>&1 < /dev/null &
     echo $! > "$pid"
     for _ in $(seq 1200); do
         grep -q 'listening at' "$log" && return 0

@@ -712,6 +712,10 @@ def checks(count: Count, words: list[str], folder: str) -> None:
     site("no number of syncs", "F2 BadWord: ADDR, SYNC", SYNC="thrice")
     site("a site that syncs twice", SYNC="twice")
     site("a socket in no folder", "F1 FileFailed: there is no folder", ADDR="unix:/none/desk.sock")
+    site("no form of an address for questions", "F2 BadWord: ADDR", QUESTIONS="nowhere")
+    told = "F1 FileFailed: there is no folder /none for the socket of QUESTIONS"
+    site("a socket for questions in no folder", told, QUESTIONS="unix:/none/desk.sock")
+    site("a folder that is made at the start", QUESTIONS="unix:/run/desk-posts/desk.sock")
     with contextlib.closing(socket.create_server(("127.0.0.1", free_port()))) as other:
         address = f"127.0.0.1:{other.getsockname()[1]}"
         site("an address that is taken", f"F1 FileFailed: the address {address}", ADDR=address)
@@ -723,6 +727,7 @@ def checks(count: Count, words: list[str], folder: str) -> None:
         other.listen()
         told = f"F1 FileFailed: the address unix:{place}"
         site("a socket that is taken", told, ADDR=f"unix:{place}")
+        site("a socket for questions that is taken", told, QUESTIONS=f"unix:{place}")
     site("a socket that nobody has", ADDR=f"unix:{place}")
     store = made_store(words, os.path.join(folder, "locked.db"), desk.request().encode())
     with store_files.taken(store):
@@ -749,6 +754,25 @@ def syncs(count: Count, words: list[str], folder: str) -> None:
             count.holds(f"it serves with {given}", is_up, served.said())
             last = desk.read(said).splitlines()[-1]
             count.holds(f"as {given} says", last.endswith(f" --sync {wanted}"), last)
+
+
+def questions(count: Count, words: list[str], folder: str) -> None:
+    """`desk-serve` has the desk answer questions where QUESTIONS says, and take no message there."""
+    with site_of(words, folder) as served:
+        place = f"unix:{os.path.dirname(served.base)}/questions.sock"
+        served.environment["QUESTIONS"] = place
+        served.start()
+        is_up = comes(served.file, PATIENCE) is not None
+        count.holds("it serves with QUESTIONS", is_up, served.said())
+        is_told = f"desk: listening at {place} for questions\n" in served.said()
+        count.holds("it says where", is_told, served.said())
+        file, served.address = served.file(), place
+        count.same("the same file at both", served.file(), file)
+        with desk.connected(place, PATIENCE) as peer:
+            peer.sendall(desk.posted(b"chat", desk.request().encode()))
+            said = desk.received(peer)
+        count.holds("no message", said.endswith(b"\r\n\r\nT3 NoRoute\n"), said)
+        count.same("it ends", served.end(), 0)
 
 
 # ---- desk-audit beside a desk that is written to
@@ -796,6 +820,7 @@ PARTS = (
     asks_meanwhile,
     checks,
     syncs,
+    questions,
     audit_meanwhile,
 )
 

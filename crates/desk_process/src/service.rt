@@ -1,15 +1,15 @@
 //! The connections of a service, and whose turn it is.
 
 use crate::connection::{Buffers, Connection, Next, Peer, Step};
+use crate::listening::Listening;
 use crate::log::{Answered, Log, Serving};
 use crate::orders::{MOST_READ, Orders};
-use crate::ready::Ready;
-use crate::socket::{Listener, Stream};
+use crate::socket::Stream;
 use crate::taking::{Stays, take};
 use desk::{Desk, Keeper, Refusal};
 use mio::event::Events;
-use mio::{Interest, Poll, Token};
-use relay_http::{HttpResponse, Received, Routes, ServeFault};
+use mio::{Poll, Token};
+use relay_http::{HttpResponse, Offered, Received, Routes, ServeFault};
 use std::alloc::{AllocFailed, Global};
 use std::collections::VecDeque;
 use std::io::{self, ErrorKind};
@@ -19,8 +19,8 @@ use sudo_words::Moment;
 /// The most connections that are kept at once.
 const MOST_CONNECTIONS: usize = 4_096;
 
-/// The most connections that are accepted in one turn, the most questions that are answered, and
-/// the most connections that are read once more before one is let go.
+/// The most connections that are accepted at one socket in one turn, the most questions that are
+/// answered, and the most connections that are read once more before one is let go.
 const MOST_AT_ONCE: usize = 64;
 
 /// The milliseconds after which no further question is answered in one turn.
@@ -36,11 +36,11 @@ const TO_LINGER: u64 = 10;
 /// The milliseconds that responses still have to go out, once the storage is shut.
 const TO_END: u64 = 500;
 
-/// The token of the listener. The token of a connection is its place.
-const LISTENER: Token = Token(MOST_CONNECTIONS);
+/// The most sockets that are listened at.
+const MOST_SOCKETS: usize = 2;
 
-/// The token of the orders.
-const ORDERS: Token = Token(MOST_CONNECTIONS + 1);
+/// The token of the orders, behind those of the sockets.
+const ORDERS: Token = Token(MOST_CONNECTIONS + MOST_SOCKETS);
 
 /// The places of the connections whose requests are whole, each kind in the order in which they
 /// came.
@@ -72,13 +72,13 @@ enum Storage {
     Shut { end_at: u64 },
 }
 
-/// A listener with its connections.
+/// The sockets that are listened at, with their connections.
 #[derive(Drop)]
 pub(crate) struct Service {
     poll: Poll,
-    listener: Listener,
-    /// Whether a peer waits to be accepted.
-    waiting: Ready,
+    /// In the order in which they are accepted from. The poll's token of a socket is its place
+    /// here behind all places of connections, and that of a connection its place.
+    sockets: Vec<Listening>,
     routes: Routes,
     buffers: Buffers,
     /// The orders of whoever started the service, if it takes orders.
@@ -94,8 +94,6 @@ pub(crate) struct Service {
     open: usize,
     /// How many connections are still to be accepted.
     left: u64,
-    /// Whether more peers may wait to be accepted.
-    more_wait: bool,
     began: Instant,
     /// The milliseconds that exchanges took, which count against no peer.
     busy: u64,
@@ -144,15 +142,9 @@ impl RequestQueues {
 }
 
 impl Service {
-    /// A service that accepts so many connections.
-    pub(crate) fn new(
-        rt: &HostRuntime,
-        mut listener: Listener,
-        requests: u64,
-    ) -> io::Result<Service> {
+    /// A service that accepts so many connections, and listens nowhere yet.
+    pub(crate) fn new(rt: &HostRuntime, requests: u64) -> io::Result<Service> {
         let poll = Poll::new(rt)?;
-        listener.watch(poll.registry(), LISTENER)?;
-        let waiting = Ready::new(rt, listener.descriptor(), Interest::READABLE)?;
         let orders = Orders::of(rt);
         if let Some(orders) = &orders {
             orders.watch(poll.registry(), ORDERS)?;
@@ -162,8 +154,7 @@ impl Service {
         };
         Ok(Service {
             poll,
-            listener,
-            waiting,
+            sockets: Vec::new(rt.alloc()),
             routes,
             buffers,
             orders,
@@ -173,11 +164,23 @@ impl Service {
             arrivals: 0,
             open: 0,
             left: requests,
-            more_wait: false,
             began: Instant::now(rt)?,
             busy: 0,
             storage: Storage::Answers,
         })
+    }
+
+    /// Has the service listen at one more socket.
+    pub(crate) fn listen_at(&mut self, mut socket: Listening) -> io::Result<()> {
+        let at = self.sockets.len();
+        if at >= MOST_SOCKETS {
+            return Err(io::Error::from(ErrorKind::InvalidInput));
+        }
+        socket.watch(self.poll.registry(), Token(MOST_CONNECTIONS + at))?;
+        match self.sockets.push(socket) {
+            Ok(()) => Ok(()),
+            Err(_) => Err(io::Error::from(ErrorKind::OutOfMemory)),
+        }
     }
 
     /// The milliseconds since the beginning in which no exchange ran.
@@ -494,9 +497,16 @@ impl Service {
         false
     }
 
-    /// Takes up a connection that was just accepted. Where there is no place for it, the slowest is
-    /// let go.
-    fn admit(&mut self, rt: &HostRuntime, log: &mut Log, stream: Stream, now: u64) {
+    /// Takes up a connection that was just accepted at a socket with these routes. Where there is
+    /// no place for it, the slowest is let go.
+    fn admit(
+        &mut self,
+        rt: &HostRuntime,
+        log: &mut Log,
+        stream: Stream,
+        offered: Offered,
+        now: u64,
+    ) {
         self.left = self.left.saturating_sub(1);
         let place = match self.free_place() {
             Some(at) => Some(at),
@@ -509,7 +519,8 @@ impl Service {
             log.say(rt, &ServeFault::NoMemory);
             return;
         };
-        self.put(at, Connection::new(rt.alloc(), stream, self.arrivals, now));
+        let connection = Connection::new(rt.alloc(), stream, offered, self.arrivals, now);
+        self.put(at, connection);
         self.arrivals = self.arrivals.saturating_add(1);
         self.open = self.open.saturating_add(1);
         self.go_on(rt, log, at, now);
@@ -520,13 +531,40 @@ impl Service {
         self.left == 0 || matches!(self.storage, Storage::Shut { .. })
     }
 
-    /// Accepts peers that have connected. While no connection may be let go for another, none is
-    /// accepted past the most. A connection that cannot be accepted is an error if none is open.
+    /// Notes whether more may wait to be accepted at a socket.
+    fn note(&mut self, socket: usize, more_wait: bool) {
+        if socket < self.sockets.len() {
+            self.sockets[socket].note(more_wait);
+        }
+    }
+
+    /// Whether a peer waits to be accepted at a socket.
+    fn has_waiting(&mut self, socket: usize) -> bool {
+        socket < self.sockets.len() && self.sockets[socket].has_waiting()
+    }
+
+    /// The next peer at a socket, or `WouldBlock` where none waits.
+    fn next_at(&self, socket: usize) -> io::Result<(Stream, Offered)> {
+        match self.sockets.get(socket) {
+            Some(listening) => listening.accept(),
+            None => Err(io::Error::from(ErrorKind::WouldBlock)),
+        }
+    }
+
+    /// Accepts peers that have connected to a socket. While no connection may be let go for
+    /// another, none is accepted past the most. A connection that cannot be accepted is an error
+    /// if none is open.
     ///
     /// To accept where nobody waits costs the system a socket that it makes and drops, and fails
     /// for want of a descriptor first: so the service first asks whether another peer waits.
-    fn accept(&mut self, rt: &HostRuntime, log: &mut Log, now: u64) -> io::Result<()> {
-        self.more_wait = false;
+    fn accept_at(
+        &mut self,
+        rt: &HostRuntime,
+        log: &mut Log,
+        socket: usize,
+        now: u64,
+    ) -> io::Result<()> {
+        self.note(socket, false);
         for _ in 0..MOST_AT_ONCE {
             if self.is_closed() {
                 return Ok(());
@@ -534,8 +572,8 @@ impl Service {
             if self.queues.len() >= MOST_CONNECTIONS {
                 break;
             }
-            match self.listener.accept() {
-                Ok(stream) => self.admit(rt, log, stream, now),
+            match self.next_at(socket) {
+                Ok((stream, offered)) => self.admit(rt, log, stream, offered, now),
                 Err(error) => match error.kind() {
                     ErrorKind::WouldBlock => return Ok(()),
                     ErrorKind::ConnectionAborted | ErrorKind::Interrupted => {}
@@ -544,11 +582,34 @@ impl Service {
                     _ => return Err(error),
                 },
             }
-            if !self.waiting.is_ready().unwrap_or(true) {
+            if !self.has_waiting(socket) {
                 return Ok(());
             }
         }
-        self.more_wait = true;
+        self.note(socket, true);
+        Ok(())
+    }
+
+    /// Whether more may wait to be accepted at a socket.
+    fn may_wait(&self, socket: usize) -> bool {
+        match self.sockets.get(socket) {
+            Some(listening) => listening.may_wait(),
+            None => false,
+        }
+    }
+
+    /// Whether more may wait to be accepted at any socket.
+    fn more_wait(&self) -> bool {
+        self.sockets.iter().any(|socket| socket.may_wait())
+    }
+
+    /// Accepts what has connected, socket after socket.
+    fn accept(&mut self, rt: &HostRuntime, log: &mut Log, now: u64) -> io::Result<()> {
+        for socket in 0..self.sockets.len() {
+            if self.may_wait(socket) {
+                self.accept_at(rt, log, socket, now)?;
+            }
+        }
         Ok(())
     }
 
@@ -578,7 +639,7 @@ impl Service {
     /// may wait to be accepted. Else the wait lasts until a connection is due or to be looked at
     /// again, or the storage is due; it has no end where nothing is due.
     fn patience(&self, now: u64) -> Option<Duration> {
-        if self.more_wait || !self.queues.is_empty() {
+        if self.more_wait() || !self.queues.is_empty() {
             return Some(Duration::ZERO);
         }
         let mut first = self.storage_due();
@@ -623,20 +684,18 @@ impl Service {
         let lingering = self.lingering.len();
         self.poll.poll(events, patience)?;
         let now = self.now(rt)?;
-        let mut comes = self.more_wait;
         let mut is_ordered = false;
         for event in events.iter() {
-            if event.token() == LISTENER {
-                comes = true;
-            } else if event.token() == ORDERS {
+            let at = event.token().0;
+            if event.token() == ORDERS {
                 is_ordered = true;
+            } else if at >= MOST_CONNECTIONS {
+                self.note(at - MOST_CONNECTIONS, true);
             } else {
-                self.go_on(rt, log, event.token().0, now);
+                self.go_on(rt, log, at, now);
             }
         }
-        if comes {
-            self.accept(rt, log, now)?;
-        }
+        self.accept(rt, log, now)?;
         self.answer_some(rt, desk, log)?;
         self.end_lingering(rt, log, lingering, now);
         if is_ordered {

@@ -29,7 +29,7 @@ fn status_of(served: Result<End, Trouble>) -> Result<ExitStatus, Trouble> {
 /// keeper on. Where the keeper keeps nothing yet, `new` is the path of the store that is made:
 /// that path is said at once.
 ///
-/// The command is refused where the files make no desk, where it cannot listen at the address or
+/// The command is refused where the files make no desk, where it cannot listen at an address or
 /// accept connections there, and where the desk's storage failed and has to be opened again.
 pub(crate) fn serve<K: Keeper>(
     rt: &HostRuntime,

@@ -53,11 +53,13 @@ fn work_over<K: Keeper + Drop>(
         Job::Serve {
             places,
             addr,
+            questions,
             requests,
         } => {
             let words = Words {
                 roster: places.roster.as_str(),
                 addr,
+                questions: questions.as_ref(),
                 requests: *requests,
             };
             serve(rt, files, keeper, new, words)

@@ -1,12 +1,15 @@
 -- The routes of the desk, and what a route's parameter takes of a target.
-use Rattle.std.specs.Prelude.{◌≡◌, ℕ, List, [], Option, Some, None}
-use Rattle.std.specs.Prelude.{Result, Ok, Err, codes, unwrap_or}
+use Rattle.std.specs.Prelude.{◌≡◌, ℕ, List, [], Option, Some, None, Bool, true, false}
+use Rattle.std.specs.Prelude.{Result, Ok, Err, codes, unwrap_or, if◌then◌else◌}
 use Rattle.matchit.specs.Rows.{RowsOf}
 use Rattle.matchit.specs.Order.{placed}
 use Rattle.matchit.specs.Route.{Scan, parse_route}
 use Rattle.matchit.specs.Router.{RouteOf, nearest, route_from}
 use Rattle.matchit.specs.Params.{walk, named}
+use Rattle.matchit.specs.Seek.{first}
 use Rattle.matchit.specs.declared.error.InsertError.{InsertError}
+use Rattle.relay_http.specs.declared.offered.Offered.{Offered}
+use Rattle.relay_http.specs.declared.offered.Offered.TheVariants as socket
 use Rattle.relay_http.specs.declared.route.Route.{Route}
 use Rattle.relay_http.specs.declared.route.Route.TheVariants.{Messages, AllMessages, Count, Grants}
 use Rattle.relay_http.specs.declared.route.Route.TheVariants.{Parked, HostFile, HostFileAfter}
@@ -45,6 +48,36 @@ routes =
     (with_route (codes "/v1/parked") Parked
     (with_route (codes "/v1/grants/{at}") Grants
     (with_route (codes "/v1/relays/{relay}/messages") Messages []))))))))))))
+
+-- a route by which something is asked, and no message is taken
+abbrev pub is_question : Route → Bool
+is_question Messages = false
+is_question AllMessages = true
+is_question Count = true
+is_question Requests = true
+is_question RequestsAfter = true
+is_question NamedRequest = true
+is_question Grants = true
+is_question Parked = true
+is_question HostFile = true
+is_question HostFileAfter = true
+is_question HostAt = true
+is_question Report = true
+is_question OpenRequests = true
+
+-- A socket has all routes, or those of questions alone.
+abbrev pub offers : Offered → Route → Bool
+offers socket.All route = true
+offers socket.Questions route = is_question route
+
+-- the route, if the socket has it
+abbrev pub if_offered : Offered → Option (RouteOf Route) → Option (RouteOf Route)
+if_offered offered None = None
+if_offered offered (Some route) = if offers offered route.value then Some route else None
+
+-- the route that a target has at a socket
+unfoldable pub route_at : Offered → (target : List ℕ) → Option (RouteOf Route)
+route_at offered target = if_offered offered (first routes target)
 
 -- the part of the target that the route's parameter of this name takes
 unfoldable pub part : List ℕ → RouteOf Route → List ℕ → List ℕ

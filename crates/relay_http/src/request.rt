@@ -19,6 +19,7 @@ use crate::content::content;
 use crate::fault::RequestFault;
 use crate::head::{Head, Looked, look};
 use crate::methods::{allow, is_head};
+use crate::offered::Offered;
 use crate::route::Route;
 use crate::routes::Routes;
 use crate::target::is_plain;
@@ -179,9 +180,10 @@ fn by_method<'b>(
     }
 }
 
-/// The action of a head, by its parts and the bytes after it.
+/// The action of a head at a socket, by the head's parts and the bytes after it.
 fn action_by<'b>(
     routes: &Routes,
+    offered: Offered,
     method: &[u8],
     target: &'b str,
     is_bad_host: bool,
@@ -191,7 +193,8 @@ fn action_by<'b>(
     ensures { (minor : ℕ) (fields : Fields)
         → is_bad_host ≡ head_fields.is_bad_host minor (values (codes "host") fields)
         → size ≡ size_of fields
-        → Dates (action_by method.now target.now minor fields rest.now) (action_of result) }
+        → Dates (action_by offered method.now target.now minor fields rest.now)
+        (action_of result) }
 {
     if is_bad_host {
         return Action::Refused(RequestFault::BadHead);
@@ -199,24 +202,37 @@ fn action_by<'b>(
     if !is_plain(target.as_bytes()) {
         return Action::Refused(RequestFault::BadTarget);
     }
-    match routes.find(target) {
+    match routes.find(offered, target) {
         Some((route, taken, second)) => by_method(route, taken, second, method, size, rest),
         None => Action::Refused(RequestFault::NoRoute),
     }
 }
 
-/// The request that the bytes are, by their head.
-pub fn request_from<'b>(routes: &Routes, head: &Head, bytes: &'b [u8]) -> HttpRequest<'b>
+/// The request that the bytes are at a socket, by their head.
+pub fn request_from<'b>(
+    routes: &Routes,
+    offered: Offered,
+    head: &Head,
+    bytes: &'b [u8],
+) -> HttpRequest<'b>
     requires { IsFoundHead bytes.now head.now }
     ensures { (h : RequestHead) → IsHeadAt bytes.now head.now h
-        → DatesRequest (request_from h bytes.now) (request_of result) }
+        → DatesRequest (request_from offered h bytes.now) (request_of result) }
 {
     let method = head.method.of(bytes);
     let rest = &bytes[head.len..];
     match from_utf8(head.target.of(bytes)) {
         Ok(target) => HttpRequest {
             with_body: !is_head(method),
-            action: action_by(routes, method, target, head.is_bad_host, head.size, rest),
+            action: action_by(
+                routes,
+                offered,
+                method,
+                target,
+                head.is_bad_host,
+                head.size,
+                rest,
+            ),
         },
         Err(_) => NO_HEAD,
     }
@@ -236,34 +252,34 @@ struct SoFar<'b> {
     is_short: bool,
 }
 
-fn so_far<'b>(routes: &Routes, head: &Head, bytes: &'b [u8]) -> SoFar<'b>
+fn so_far<'b>(routes: &Routes, offered: Offered, head: &Head, bytes: &'b [u8]) -> SoFar<'b>
     requires { IsFoundHead bytes.now head.now }
     ensures request { (h : RequestHead) → IsHeadAt bytes.now head.now h
-        → DatesRequest (request_from h bytes.now) (request_of result.request) }
+        → DatesRequest (request_from offered h bytes.now) (request_of result.request) }
     ensures short { result.is_short ≡ is_short (request_of result.request) }
 {
-    let request = request_from(routes, head, bytes);
+    let request = request_from(routes, offered, head, bytes);
     let is_short = is_short(&request);
     SoFar { request, is_short }
 }
 
-/// Whether the head asks for more content than is there.
-pub fn is_cut_short(routes: &Routes, head: &Head, bytes: &[u8]) -> bool
+/// Whether the head asks for more content than is there, at a socket.
+pub fn is_cut_short(routes: &Routes, offered: Offered, head: &Head, bytes: &[u8]) -> bool
     requires { IsFoundHead bytes.now head.now }
     ensures { (request : Request ℕ) × ((h : RequestHead) → IsHeadAt bytes.now head.now h
-        → DatesRequest (request_from h bytes.now) request) × (result ≡ is_short request) }
+        → DatesRequest (request_from offered h bytes.now) request) × (result ≡ is_short request) }
 {
-    so_far(routes, head, bytes).is_short
+    so_far(routes, offered, head, bytes).is_short
 }
 
-/// The request that the bytes of a connection are. Reading it takes no memory.
-pub fn request_in<'b>(routes: &Routes, bytes: &'b [u8]) -> HttpRequest<'b>
-    ensures found { IsHttpRequest bytes.now (request_of result) }
-    ensures only { (request : Request ℕ) → IsHttpRequest bytes.now request
+/// The request that the bytes of a connection to a socket are. Reading it takes no memory.
+pub fn request_in<'b>(routes: &Routes, offered: Offered, bytes: &'b [u8]) -> HttpRequest<'b>
+    ensures found { IsHttpRequest offered bytes.now (request_of result) }
+    ensures only { (request : Request ℕ) → IsHttpRequest offered bytes.now request
         → request ≡ request_of result }
 {
     match look(bytes) {
-        Looked::Found(head) => request_from(routes, &head, bytes),
+        Looked::Found(head) => request_from(routes, offered, &head, bytes),
         Looked::Partial | Looked::Never => NO_HEAD,
     }
 }

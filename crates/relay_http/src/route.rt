@@ -34,6 +34,7 @@ pub enum Route {
 impl Route {
     ghost use Rattle.std.specs.Prelude.{◌≡◌};
     ghost use Rattle.relay_http.specs.RequestBytes.{methods_of};
+    ghost use Rattle.relay_http.specs.Routes.{is_question};
 
     /// The methods of the route.
     pub fn methods(self) -> Methods
@@ -53,6 +54,27 @@ impl Route {
             | Route::HostAt
             | Route::Report
             | Route::OpenRequests => Methods::GetOrHead,
+        }
+    }
+
+    /// Whether the route asks for something, and takes no message.
+    pub fn is_question(self) -> bool
+        ensures { result ≡ is_question self }
+    {
+        match self {
+            Route::Messages => false,
+            Route::AllMessages
+            | Route::Count
+            | Route::Requests
+            | Route::RequestsAfter
+            | Route::NamedRequest
+            | Route::Grants
+            | Route::Parked
+            | Route::HostFile
+            | Route::HostFileAfter
+            | Route::HostAt
+            | Route::Report
+            | Route::OpenRequests => true,
         }
     }
 }

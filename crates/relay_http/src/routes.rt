@@ -5,9 +5,10 @@ ghost use Rattle.matchit.specs.Params.{AllText, named, walk};
 ghost use Rattle.matchit.specs.Route.{parse_route};
 ghost use Rattle.matchit.specs.Seek.{first};
 ghost use Rattle.relay_http.specs.Routes.{IsFreeRoute, RouteTakes, second_parameter};
-ghost use Rattle.relay_http.specs.Routes.{parameter, routes, with_route};
+ghost use Rattle.relay_http.specs.Routes.{parameter, route_at, routes, with_route};
 ghost use Rattle.relay_http.specs.Target.{is_plain};
 
+use crate::offered::Offered;
 use crate::route::Route;
 use matchit::{InsertError, Params, Router};
 use std::alloc::Global;
@@ -39,8 +40,8 @@ impl Routes {
         })
     }
 
-    /// The route that a target has, with what the route's two parameters took.
-    pub(crate) fn find<'b>(&self, target: &'b str) -> Option<(Route, &'b str, &'b str)>
+    /// The route that a target has where all routes are, with what the route's two parameters took.
+    fn find_any<'b>(&self, target: &'b str) -> Option<(Route, &'b str, &'b str)>
         requires { IsTrue (is_plain target.now) }
         ensures { RouteTakes (first routes target.now) target.now
             (option_map (λ x. (x.0, x.1.now, x.2.now)) result) }
@@ -52,6 +53,28 @@ impl Routes {
                 second_taken(*found.value, &found.params),
             )),
             Err(_) => None,
+        }
+    }
+
+    /// The route that a target has at a socket, with what the route's two parameters took.
+    pub(crate) fn find<'b>(
+        &self,
+        offered: Offered,
+        target: &'b str,
+    ) -> Option<(Route, &'b str, &'b str)>
+        requires { IsTrue (is_plain target.now) }
+        ensures { RouteTakes (route_at offered target.now) target.now
+            (option_map (λ x. (x.0, x.1.now, x.2.now)) result) }
+    {
+        match self.find_any(target) {
+            Some(found) => {
+                if offered.has(found.0) {
+                    Some(found)
+                } else {
+                    None
+                }
+            }
+            None => None,
         }
     }
 }
