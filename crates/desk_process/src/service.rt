@@ -37,6 +37,9 @@ const TO_END: u64 = 500;
 /// The most sockets that are listened at.
 const MOST_SOCKETS: usize = 2;
 
+/// The places that whole requests at a socket for questions leave to messages.
+const KEPT_FOR_MESSAGES: usize = 64;
+
 /// The places of the connections whose requests are whole, each kind in the order in which they
 /// came.
 #[derive(Drop)]
@@ -485,6 +488,14 @@ impl Service {
         }
     }
 
+    /// The most requests that may wait for their turn while peers at a socket are accepted.
+    fn most_waiting(&self, socket: usize) -> usize {
+        match self.sockets.get(socket) {
+            Some(listening) if listening.takes_messages() => MOST_CONNECTIONS,
+            _ => MOST_CONNECTIONS - KEPT_FOR_MESSAGES,
+        }
+    }
+
     /// Accepts peers that have connected to a socket. While no connection may be let go for
     /// another, none is accepted past the most. A connection that cannot be accepted is an error
     /// if none is open.
@@ -503,7 +514,7 @@ impl Service {
             if self.is_closed() {
                 return Ok(());
             }
-            if self.queues.len() >= MOST_CONNECTIONS {
+            if self.queues.len() >= self.most_waiting(socket) {
                 break;
             }
             match self.next_at(socket) {
