@@ -1,5 +1,5 @@
-"""A desk with a socket for questions beside the one that takes messages: the door brings messages to
-this one, and asks at that; so does everybody else."""
+"""A desk with a socket for questions beside the one that takes messages: the door brings messages
+to this one, and asks at that; so does everybody else."""
 
 from collections.abc import Iterator
 from pathlib import Path

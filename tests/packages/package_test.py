@@ -756,7 +756,7 @@ def behind_a_door(trial: Trial) -> None:
         group = trial.run("id", "-gn", account).stdout.strip()
         becomes = ["setpriv", "--reuid", account, "--regid", group, "--init-groups"]
         status, posts = 0 if is_open else 7, asking(SOCKET[5:], "/v1/relays/chat/messages")
-        trial.does(f"{account} where the desk takes messages", *becomes, *asking(AT_POSTS), status=7)
+        trial.does(f"{account} at the socket for messages", *becomes, *asking(AT_POSTS), status=7)
         trial.does(f"{account} at the desk", *becomes, *asking(SOCKET[5:]), status=status)
         trial.does(f"{account} at the door", *becomes, *asking(AT_DOOR), status=status)
         said = "^T3 NoRoute$" if is_open else ""

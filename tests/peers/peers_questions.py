@@ -225,8 +225,8 @@ def what_ports_say(count: Count) -> None:
     words += ["--questions", "127.0.0.1:0", "--requests", "2"]
     process = subprocess.Popen(words, stdout=subprocess.PIPE, stderr=subprocess.PIPE, text=True)
     assert process.stdout is not None
-    first = process.stdout.readline().removeprefix("listening ").strip()
-    second = process.stdout.readline().removeprefix("listening at ").removesuffix(" for questions\n")
+    first = process.stdout.readline().split()[1]
+    second = process.stdout.readline().split()[2]
     given = desk.posted(b"web", desk.request().encode())
     said = exchange(first, given), exchange(second, given)
     is_so = said[0].endswith(b"ack\n") and said[1] == NO_ROUTE + b"T3 NoRoute\n"

@@ -757,7 +757,7 @@ def syncs(count: Count, words: list[str], folder: str) -> None:
 
 
 def questions(count: Count, words: list[str], folder: str) -> None:
-    """`desk-serve` has the desk answer questions where QUESTIONS says, and take no message there."""
+    """`desk-serve` has the desk answer questions where QUESTIONS says, and no message is taken."""
     with site_of(words, folder) as served:
         place = f"unix:{os.path.dirname(served.base)}/questions.sock"
         served.environment["QUESTIONS"] = place

@@ -48,23 +48,27 @@ impl fmt::Display for Listens<'_> {
 
 impl fmt::Display for Warning<'_> {
     fn fmt<W: fmt::Write>(&self, f: &mut fmt::Formatter<W>) -> fmt::Result {
-        match (self.offered, self.at.is_loopback()) {
-            (Offered::All, true) => write!(
-                f,
-                "WARNING: EVERY ACCOUNT OF THIS MACHINE CAN POST AT {} AS ANY RELAY AND READ EVERY FILE, AND TAKE THE PORT WHILE NOBODY LISTENS",
-                self.at
-            ),
-            (Offered::All, false) => write!(
+        if self.at.is_loopback() {
+            return match self.offered {
+                Offered::All => write!(
+                    f,
+                    "WARNING: EVERY ACCOUNT OF THIS MACHINE CAN POST AT {} AS ANY RELAY AND READ EVERY FILE, AND TAKE THE PORT WHILE NOBODY LISTENS",
+                    self.at
+                ),
+                Offered::Questions => write!(
+                    f,
+                    "WARNING: EVERY ACCOUNT OF THIS MACHINE CAN READ EVERY FILE AT {}, AND TAKE THE PORT WHILE NOBODY LISTENS",
+                    self.at
+                ),
+            };
+        }
+        match self.offered {
+            Offered::All => write!(
                 f,
                 "WARNING: {} IS NOT LOOPBACK. WHOEVER REACHES IT CAN POST AS ANY RELAY AND READ EVERY FILE",
                 self.at
             ),
-            (Offered::Questions, true) => write!(
-                f,
-                "WARNING: EVERY ACCOUNT OF THIS MACHINE CAN READ EVERY FILE AT {}, AND TAKE THE PORT WHILE NOBODY LISTENS",
-                self.at
-            ),
-            (Offered::Questions, false) => write!(
+            Offered::Questions => write!(
                 f,
                 "WARNING: {} IS NOT LOOPBACK. WHOEVER REACHES IT CAN READ EVERY FILE",
                 self.at

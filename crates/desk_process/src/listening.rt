@@ -44,6 +44,11 @@ impl Listening {
         Ok((self.listener.accept()?, self.offered))
     }
 
+    /// Whether messages are taken here.
+    pub(crate) fn takes_messages(&self) -> bool {
+        matches!(self.offered, Offered::All)
+    }
+
     /// Whether more may wait to be accepted.
     pub(crate) fn may_wait(&self) -> bool {
         self.more_wait

@@ -42,6 +42,9 @@ const MOST_SOCKETS: usize = 2;
 /// The token of the orders, behind those of the sockets.
 const ORDERS: Token = Token(MOST_CONNECTIONS + MOST_SOCKETS);
 
+/// The places that whole requests at a socket for questions leave to messages.
+const KEPT_FOR_MESSAGES: usize = 64;
+
 /// The places of the connections whose requests are whole, each kind in the order in which they
 /// came.
 #[derive(Drop)]
@@ -551,6 +554,14 @@ impl Service {
         }
     }
 
+    /// The most requests that may wait for their turn while peers at a socket are accepted.
+    fn most_waiting(&self, socket: usize) -> usize {
+        match self.sockets.get(socket) {
+            Some(listening) if listening.takes_messages() => MOST_CONNECTIONS,
+            _ => MOST_CONNECTIONS - KEPT_FOR_MESSAGES,
+        }
+    }
+
     /// Accepts peers that have connected to a socket. While no connection may be let go for
     /// another, none is accepted past the most. A connection that cannot be accepted is an error
     /// if none is open.
@@ -569,7 +580,7 @@ impl Service {
             if self.is_closed() {
                 return Ok(());
             }
-            if self.queues.len() >= MOST_CONNECTIONS {
+            if self.queues.len() >= self.most_waiting(socket) {
                 break;
             }
             match self.next_at(socket) {
