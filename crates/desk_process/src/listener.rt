@@ -149,18 +149,18 @@ fn tell(rt: &HostRuntime, log: &mut Log, at: &At<'_>, offered: Offered) -> Resul
     Ok(())
 }
 
-/// Serves the desk at the address, `HOST:PORT` with port 0 for any free one, or `unix:` and a path;
-/// and at another such address for questions alone, if there is one: no message is taken there.
-/// The service takes so many connections; without a number, as many as come. The exchanges are made
-/// one after the other, each once its request is there.
+/// Serves the desk at the address, `HOST:PORT` with port 0 for any free one, or `unix:` and a
+/// path; and at another such address for questions alone, if there is one: no message is taken
+/// there. The service takes so many connections; without a number, as many as come. The exchanges
+/// are made one after the other, each once its request is there.
 ///
-/// The service prints `listening` and the address, and a line for the other address, once it listens
-/// at both. On the standard error it says what it serves, with the digest of the roster; a warning
-/// where an address has a port; each 503 that is answered; each connection that is let go before its
-/// response is out; and why it ended. The service ends once the desk's storage is shut after a
-/// failure, since the desk would answer nothing any more. It fails where it cannot listen at an
-/// address, where nothing can be printed, and where a connection cannot be accepted though no other
-/// is open.
+/// The service prints `listening` and the address, and a line for the other address, once it
+/// listens at both. On the standard error it says what it serves, with the digest of the roster; a
+/// warning where an address has a port; each 503 that is answered; each connection that is let go
+/// before its response is out; and why it ended. The service ends once the desk's storage is shut
+/// after a failure, since the desk would answer nothing any more. It fails where it cannot listen
+/// at an address, where nothing can be printed, and where a connection cannot be accepted though
+/// no other is open.
 pub(crate) fn serve_at<K: Keeper>(
     rt: &HostRuntime,
     desk: &mut Desk<K>,
