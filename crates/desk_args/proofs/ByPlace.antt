@@ -177,7 +177,8 @@ said program words (Rebuild places) all is =
 said program words (Serve places addr questions requests) all is =
     let (store, text, says, listens, same, alone, none) = is in
     subst (λ ws. list_all is_operand ws ≡ true → IsCommandLine (program ∷ ws) (Serve places addr questions requests)) (sym same)
-    (λ operands. subst (λ r. IsCommandLine (program ∷ codes "serve" ∷ places.roster ∷ places.base ∷ store ∷ text ∷ []) (Serve places addr questions r)) (sym none)
+    (λ operands. subst (λ r. IsCommandLine (program ∷ codes "serve" ∷ places.roster ∷ places.base ∷ store ∷ text ∷ []) (Serve places addr questions r))
+    (sym none)
     (subst (λ q. IsCommandLine (program ∷ codes "serve" ∷ places.roster ∷ places.base ∷ store ∷ text ∷ []) (Serve places addr q None)) (sym alone)
     (line program (codes "serve") (nth 7) (places.roster ∷ places.base ∷ store ∷ text ∷ []) _ (Serve places addr None None)
     (serves places.roster places.base store text operands)

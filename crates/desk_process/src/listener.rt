@@ -137,10 +137,10 @@ fn tell(rt: &HostRuntime, log: &mut Log, at: &At<'_>, offered: Offered) -> Resul
     Ok(())
 }
 
-/// Serves the desk at the address, `HOST:PORT` with port 0 for any free one, or `unix:` and a path;
-/// and at another such address for questions alone, if there is one: no message is taken there.
-/// The service takes so many connections; without a number, as many as come. The exchanges are made
-/// one after the other, each once its request is there.
+/// Serves the desk at the address, `HOST:PORT` with port 0 for any free one, or `unix:` and a
+/// path; and at another such address for questions alone, if there is one: no message is taken
+/// there. The service takes so many connections; without a number, as many as come. The exchanges
+/// are made one after the other, each once its request is there.
 ///
 /// The service prints `listening` and the address, and a line for the other address, once it
 /// listens at both. On the standard error it says what it serves, with the digest of the roster, at

@@ -133,7 +133,8 @@ module _ (rest : List ℕ) where
   posted_on None method target fields = tt
   posted_on (Some route) method target fields = posted_at route.value method (λ name. part name route target) fields
 
-  posted_by : (offered : Offered) (method target : List ℕ) (minor : ℕ) (fields : Fields) → IsPosted method rest (action_by offered method target minor fields rest)
+  posted_by : (offered : Offered) (method target : List ℕ) (minor : ℕ) (fields : Fields)
+      → IsPosted method rest (action_by offered method target minor fields rest)
   posted_by offered method target minor fields = by (is_bad_host minor (values (codes "host") fields)) (not (is_plain target))
     where
       by : (a b : Bool)

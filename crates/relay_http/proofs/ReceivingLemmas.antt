@@ -202,7 +202,8 @@ pub asks_from_start : (offered : Offered) (known : Option (List ℕ)) (before by
     → IfSome known (λ left. (request : Request ℕ) → IsHttpRequest offered bytes request → IsHttpRequest offered (before ++ left) request)
     → IfSome known (λ all. (request : Request ℕ) → IsHttpRequest offered bytes request → IsHttpRequest offered all request)
 asks_from_start offered known before bytes e asks =
-    subst (λ (l : List ℕ). IfSome known (λ left. (request : Request ℕ) → IsHttpRequest offered bytes request → IsHttpRequest offered (l ++ left) request)) e asks
+    subst (λ (l : List ℕ). IfSome known (λ left. (request : Request ℕ) → IsHttpRequest offered bytes request → IsHttpRequest offered (l ++ left) request))
+    e asks
 
 -- where memory suffices only a read can fail
 pub failed_read : (a b : Option (List ℕ)) (before : List ℕ) (e : ServeFault) (n : ℕ) → IsReception a b before (Err e) → NeverStarves (Err e)

@@ -96,7 +96,8 @@ module _ (rest more : List ℕ) where
   route_more None method target fields h = refl
   route_more (Some route) method target fields h = method_more route.value method (λ name. part name route target) fields h
 
-  action_more : (offered : Offered) (method target : List ℕ) (minor : ℕ) (fields : Fields) → EnoughForAction (action_by offered method target minor fields rest) rest
+  action_more : (offered : Offered) (method target : List ℕ) (minor : ℕ) (fields : Fields)
+      → EnoughForAction (action_by offered method target minor fields rest) rest
       → action_by offered method target minor fields (rest ++ more) ≡ action_by offered method target minor fields rest
   action_more offered method target minor fields h = by (is_bad_host minor (values (codes "host") fields)) (not (is_plain target)) h
     where
@@ -182,7 +183,8 @@ overflow_more bytes more found is over h has =
     omega (arith, over longer.0 h has.0.0 reads, has.1)
 
 -- the buffer is full
-pub full_more : (offered : Offered) (bytes more : List ℕ) (request : Request ℕ) → 24576 ≤ length bytes → IsHttpRequest offered bytes request → IsHttpRequest offered (bytes ++ more) request
+pub full_more : (offered : Offered) (bytes more : List ℕ) (request : Request ℕ) → 24576 ≤ length bytes → IsHttpRequest offered bytes request
+    → IsHttpRequest offered (bytes ++ more) request
 full_more offered bytes more request full (inl x) =
     let fits = head_fits bytes x.0 x.1.0.0 x.1.0.1 in
     kept offered bytes more request x (inr (omega (arith, fits.0, fits.1, length-drop (length (print_request x.0)) bytes)))

@@ -93,7 +93,8 @@ never_more bytes more never = λ later. subst HasNoHead (sym (append_assoc bytes
 
 -- ---- what is settled
 
-pub settled_by : (offered : Offered) (bytes : List ℕ) (request : Request ℕ) → IsHttpRequestByHead offered bytes request → is_short request ≡ false → IsSettled offered bytes
+pub settled_by : (offered : Offered) (bytes : List ℕ) (request : Request ℕ) → IsHttpRequestByHead offered bytes request → is_short request ≡ false
+    → IsSettled offered bytes
 settled_by offered bytes request x whole = (request, λ more. whole_more offered bytes more request x whole)
 
 pub never_settles : (offered : Offered) (bytes : List ℕ) → NeverHasHead bytes → IsSettled offered bytes
@@ -104,7 +105,8 @@ settled_more offered bytes more x =
     (x.0, λ later. subst (λ (l : List ℕ). IsHttpRequest offered l x.0) (sym (append_assoc bytes more later)) (x.1 (more ++ later)))
 
 -- what is settled is the request that the bytes are
-pub settled_request : (offered : Offered) (bytes more : List ℕ) (request : Request ℕ) → IsSettled offered bytes → IsHttpRequest offered bytes request → IsHttpRequest offered (bytes ++ more) request
+pub settled_request : (offered : Offered) (bytes more : List ℕ) (request : Request ℕ) → IsSettled offered bytes → IsHttpRequest offered bytes request
+    → IsHttpRequest offered (bytes ++ more) request
 settled_request offered bytes more request x asks =
     let now : IsHttpRequest offered bytes x.0 = subst (λ (l : List ℕ). IsHttpRequest offered l x.0) (append-nil bytes) (x.1 []) in
     subst (λ (r : Request ℕ). IsHttpRequest offered (bytes ++ more) r) (one_request offered bytes x.0 request now asks) (x.1 more)
@@ -186,7 +188,8 @@ route_short : (route : Option (RouteOf Route)) (method target : List ℕ) (field
 route_short None method target fields rest e = absurd cc
 route_short (Some route) method target fields rest e = method_short route.value method (λ name. part name route target) fields rest e
 
-action_short : (offered : Offered) (method target : List ℕ) (minor : ℕ) (fields : Fields) (rest : List ℕ) → action_by offered method target minor fields rest ≡ refused ShortBody
+action_short : (offered : Offered) (method target : List ℕ) (minor : ℕ) (fields : Fields) (rest : List ℕ)
+    → action_by offered method target minor fields rest ≡ refused ShortBody
     → Posts (λ other. action_by offered method target minor fields other) fields rest
 action_short offered method target minor fields rest e = by (is_bad_host minor (values (codes "host") fields)) (not (is_plain target)) e
   where
@@ -272,11 +275,13 @@ request_so : (offered : Offered) (bytes : List ℕ) (h : RequestHead) (action : 
 request_so offered bytes h action has dates = (h, has, (refl, dates))
 
 -- one that is cut short has a length
-pub short_size : (offered : Offered) (bytes : List ℕ) (h : RequestHead) (request : Request ℕ) → DatesRequest (request_from offered h bytes) request → is_short request ≡ true
+pub short_size : (offered : Offered) (bytes : List ℕ) (h : RequestHead) (request : Request ℕ) → DatesRequest (request_from offered h bytes) request
+    → is_short request ≡ true
     → (n : ℕ) × (size_of (map name_and_value h.fields) ≡ Ok n)
 short_size offered bytes h request dates short =
     let here : (request_from offered h bytes).action ≡ refused ShortBody =
-    dated_short (request_from offered h bytes).action (subst (λ (a : Action ℕ). Dates (request_from offered h bytes).action a) (lacks_is request.action short) dates.1) in
+    dated_short (request_from offered h bytes).action
+    (subst (λ (a : Action ℕ). Dates (request_from offered h bytes).action a) (lacks_is request.action short) dates.1) in
     let posts = action_short offered h.method h.target h.minor (map name_and_value h.fields) (drop (length (print_request h)) bytes) here in
     (posts.1, posts.3)
 
@@ -289,7 +294,8 @@ whole_by offered bytes head h request at whole dates true short =
     let fields = map name_and_value h.fields in
     let rest = drop (length (print_request h)) bytes in
     let here : (request_from offered h bytes).action ≡ refused ShortBody =
-    dated_short (request_from offered h bytes).action (subst (λ (a : Action ℕ). Dates (request_from offered h bytes).action a) (lacks_is request.action short) dates.1) in
+    dated_short (request_from offered h bytes).action
+    (subst (λ (a : Action ℕ). Dates (request_from offered h bytes).action a) (lacks_is request.action short) dates.1) in
     let posts : Posts (λ other. action_by offered h.method h.target h.minor fields other) fields rest =
     action_short offered h.method h.target h.minor fields rest here in
     let there : posts.1 ≤ length bytes - head.len = whole posts.1 (at.size ∙ posts.3) posts.4 in
@@ -301,14 +307,16 @@ settled_whole offered bytes head x whole =
     let r = some_request (request_from offered x.0 bytes) in
     settled_by offered bytes r.0 (x.0, x.1.has, r.1) (whole_by offered bytes head x.0 r.0 x.1 whole r.1 (is_short r.0) refl)
 
-pub lacks_by : (offered : Offered) (bytes : List ℕ) (h : RequestHead) (request : Request ℕ) (n : ℕ) → HasHead bytes h → DatesRequest (request_from offered h bytes) request
+pub lacks_by : (offered : Offered) (bytes : List ℕ) (h : RequestHead) (request : Request ℕ) (n : ℕ) → HasHead bytes h
+    → DatesRequest (request_from offered h bytes) request
     → is_short request ≡ true → size_of (map name_and_value h.fields) ≡ Ok n → LacksContent offered bytes (n - (length bytes - length (print_request h)))
 lacks_by offered bytes h request n has dates short sized_n =
     let len = length (print_request h) in
     let fields = map name_and_value h.fields in
     let fits = head_fits bytes h has.0.0 has.0.1 in
     let here : (request_from offered h bytes).action ≡ refused ShortBody =
-    dated_short (request_from offered h bytes).action (subst (λ (a : Action ℕ). Dates (request_from offered h bytes).action a) (lacks_is request.action short) dates.1) in
+    dated_short (request_from offered h bytes).action
+    (subst (λ (a : Action ℕ). Dates (request_from offered h bytes).action a) (lacks_is request.action short) dates.1) in
     let posts : Posts (λ other. action_by offered h.method h.target h.minor fields other) fields (drop len bytes) =
     action_short offered h.method h.target h.minor fields (drop len bytes) here in
     let same : posts.1 ≡ n = let both : ◌≡◌ {A = Result ℕ RequestFault} (Ok posts.1) (Ok n) = sym posts.3 ∙ sized_n in cc in
@@ -323,7 +331,8 @@ lacks_by offered bytes h request n has dates short sized_n =
       some = omega (arith, below);
       fits = omega (arith, fits.0, fits.1, below, small);
       short = λ more lt request2 asks2.
-          let cut_off : (request_from offered h (bytes ++ more)).action ≡ refused ShortBody = asks more ∙ ap (λ (r : Result (List ℕ) RequestFault). delivered posts.0 r)
+          let cut_off : (request_from offered h (bytes ++ more)).action ≡ refused ShortBody =
+          asks more ∙ ap (λ (r : Result (List ℕ) RequestFault). delivered posts.0 r)
           (sized_short n (drop len (bytes ++ more)) small (omega (arith, later more, lt))) in
           let x : IsHttpRequestByHead offered (bytes ++ more) (record { with_body = not (is_head h.method); action = refused ShortBody }) =
           request_so offered (bytes ++ more) h (refused ShortBody) (has_more bytes more h has)
@@ -340,7 +349,8 @@ lacks_by offered bytes h request n has dates short sized_n =
           settled_by offered (bytes ++ more) _ x refl;
     }
 
-pub lacks_more : (offered : Offered) (bytes more : List ℕ) (n : ℕ) → LacksContent offered bytes n → length more < n → LacksContent offered (bytes ++ more) (n - length more)
+pub lacks_more : (offered : Offered) (bytes more : List ℕ) (n : ℕ) → LacksContent offered bytes n → length more < n
+    → LacksContent offered (bytes ++ more) (n - length more)
 lacks_more offered bytes more n x lt = record {
   some = omega (arith, lt);
   fits = omega (arith, x.fits, length-append bytes more, lt);
@@ -408,7 +418,8 @@ stage_whole offered bytes head from n le x =
     (found_more (take from bytes) (drop from bytes) head x.0, x.1.enough (drop from bytes) (omega (arith, le, length-drop from bytes)))
 
 pub stage_lacks : (offered : Offered) (bytes : List ℕ) (head : Head) (from n : ℕ) → length bytes - from < n
-    → IsFoundHead (take from bytes) head × LacksContent offered (take from bytes) n → IsFoundHead bytes head × LacksContent offered bytes (n - (length bytes - from))
+    → IsFoundHead (take from bytes) head × LacksContent offered (take from bytes) n
+    → IsFoundHead bytes head × LacksContent offered bytes (n - (length bytes - from))
 stage_lacks offered bytes head from n lt x =
     subst (λ (l : List ℕ). IsFoundHead l head × LacksContent offered l (n - (length bytes - from))) (take-append-drop from bytes) (
       found_more (take from bytes) (drop from bytes) head x.0,

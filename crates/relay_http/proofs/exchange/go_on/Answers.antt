@@ -17,7 +17,8 @@ returns-else-more-n c =
 
 pub returns-in-Found : goal.returns-in-Found
 returns-in-Found c =
-    subst (λ (s : Stage). IsStage c.args.offered c.args.bytes.now s) (sym c.in-Found.is) (stage_found c.args.offered c.args.bytes.now c.in-Found.field-0 c.args.from
+    subst (λ (s : Stage). IsStage c.args.offered c.args.bytes.now s) (sym c.in-Found.is)
+    (stage_found c.args.offered c.args.bytes.now c.in-Found.field-0 c.args.from
     (subst (λ (s : Stage). IsStage c.args.offered (take c.args.from c.args.bytes.now) s) c.in-Found.is c.requires.stage))
 
 pub returns-in-Broken : goal.returns-in-Broken

@@ -35,7 +35,8 @@ returns-clause-no_host c =
 pub returns-clause-two_hosts : goal.returns-clause-two_hosts
 unfolding is_token_byte print_request trim_ows scan param_step seek part routes route_at
 returns-clause-two_hosts c =
-    worked socket.All (spelled (codes "HEAD") (codes "/v1/parked") 0 ((codes "Host", codes "desk") ∷ (codes "hOST", codes "desk") ∷ [])) [] _ _ refl refl refl refl
+    worked socket.All
+    (spelled (codes "HEAD") (codes "/v1/parked") 0 ((codes "Host", codes "desk") ∷ (codes "hOST", codes "desk") ∷ [])) [] _ _ refl refl refl refl
     (refl, refl)
 
 pub returns-clause-query : goal.returns-clause-query
@@ -107,12 +108,14 @@ returns-clause-file_after_day c =
 pub returns-clause-report_by_day : goal.returns-clause-report_by_day
 unfolding is_token_byte print_request trim_ows scan param_step seek part routes route_at
 returns-clause-report_by_day c =
-    worked socket.All (spelled (codes "HEAD") (codes "/v1/reviews/20260105") 1 ((codes "Host", codes "desk") ∷ [])) [] _ _ refl refl refl refl (refl, inr (no_day, refl))
+    worked socket.All
+    (spelled (codes "HEAD") (codes "/v1/reviews/20260105") 1 ((codes "Host", codes "desk") ∷ [])) [] _ _ refl refl refl refl (refl, inr (no_day, refl))
 
 pub returns-clause-posts_report : goal.returns-clause-posts_report
 unfolding is_token_byte print_request trim_ows scan param_step seek part routes route_at
 returns-clause-posts_report c =
-    worked socket.All (spelled (codes "POST") (codes "/v1/reviews/20260105093000Z") 1 ((codes "Host", codes "desk") ∷ [])) [] _ _ refl refl refl refl (refl, refl)
+    worked socket.All
+    (spelled (codes "POST") (codes "/v1/reviews/20260105093000Z") 1 ((codes "Host", codes "desk") ∷ [])) [] _ _ refl refl refl refl (refl, refl)
 
 pub returns-clause-no_length : goal.returns-clause-no_length
 unfolding is_token_byte print_request trim_ows scan param_step seek part routes route_at

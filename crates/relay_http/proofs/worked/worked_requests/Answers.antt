@@ -18,7 +18,8 @@ returns c = record {
       worked socket.All (spelled (codes "POST") (codes "/v1/relays/web/messages") 1 ((codes "Host", codes "desk") ∷ (codes "Content-Length", codes "70") ∷ []))
       approval_body _ _ refl refl refl refl (refl, refl);
   zeros =
-      worked socket.All (spelled (codes "POST") (codes "/v1/relays/web/messages") 1 ((codes "Host", codes "desk") ∷ (codes "Content-Length", codes "0070") ∷ []))
+      worked socket.All
+      (spelled (codes "POST") (codes "/v1/relays/web/messages") 1 ((codes "Host", codes "desk") ∷ (codes "Content-Length", codes "0070") ∷ []))
       approval_body _ _ refl refl refl refl (refl, refl);
   all_messages = worked socket.All (spelled (codes "GET") (codes "/v1/messages") 1 ((codes "Host", codes "desk") ∷ [])) [] _ _ refl refl refl refl (refl, refl);
   count = worked socket.All (spelled (codes "GET") (codes "/v1/count") 1 ((codes "Host", codes "desk") ∷ [])) [] _ _ refl refl refl refl (refl, refl);
@@ -32,7 +33,8 @@ returns c = record {
   grants =
       worked socket.All (spelled (codes "HEAD") (codes "/v1/grants/20260105093000Z") 1 ((codes "Host", codes "desk") ∷ [])) []
       _ _ refl refl refl refl (refl, inl (1_767_605_400, stamped_at_half_past_nine, refl));
-  host_file = worked socket.All (spelled (codes "GET") (codes "/v1/hosts/db9/sudoers") 1 ((codes "Host", codes "desk") ∷ [])) [] _ _ refl refl refl refl (refl, refl);
+  host_file =
+      worked socket.All (spelled (codes "GET") (codes "/v1/hosts/db9/sudoers") 1 ((codes "Host", codes "desk") ∷ [])) [] _ _ refl refl refl refl (refl, refl);
   host_file_after =
       worked socket.All (spelled (codes "GET") (codes "/v1/hosts/db9/sudoers/20260105093000Z") 1 ((codes "Host", codes "desk") ∷ [])) []
       _ _ refl refl refl refl (refl, inl (1_767_605_400, stamped_at_half_past_nine, refl));
