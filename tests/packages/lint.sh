@@ -33,7 +33,8 @@ cp desk-fetch@.timer desk-fetch@db1.timer
 cp desk-consume@.service desk-consume@a.service
 cp desk-end@.service desk-end@1.service
 cp desk-failed@.service desk-failed@a.service
-for unit in desk.service desk-fetch@db1.service desk-fetch@db1.timer desk-sessions.{service,timer} \
+cp desk-reserve@.service desk-reserve@a.service
+for unit in desk.service desk-reserve{.socket,@a.service} desk-watch.{service,timer} desk-fetch@db1.service desk-fetch@db1.timer desk-sessions.{service,timer} \
     desk-check.{service,timer} desk-starts.{service,path} desk-{end@1,failed@a}.service \
     desk-relay-{post,page,notify}.service desk-door.service desk-consume@a.service; do
     status=0
@@ -43,8 +44,8 @@ for unit in desk.service desk-fetch@db1.service desk-fetch@db1.timer desk-sessio
     [ -z "$said" ] || { echo "$said"; status=1; }
     verdict "systemd-analyze verify $unit" $status
 done
-for unit in desk.service desk-fetch@db1.service desk-relay-{post,page,notify}.service \
-    desk-door.service desk-consume@a.service; do
+for unit in desk.service desk-reserve@a.service desk-fetch@db1.service \
+    desk-relay-{post,page,notify}.service desk-door.service desk-consume@a.service; do
     line=$(systemd-analyze security --offline=yes --no-pager "./$unit" | grep 'Overall exposure')
     echo "$line" | sed 's/[^ -~]//g; s/^ *//'
     figure=$(printf '%s\n' "$line" | sed 's/.*: \([0-9.]*\) .*/\1/')
