@@ -1,14 +1,16 @@
 """The outbox: each message is on the disk before the person has an answer.
 
 A database of SQLite. Several programs may have it at a time: an ssh call each, the page, and what
-posts. A message is written once, by one transaction that also gives a request its number.
+posts. A message is written once, by one transaction that also gives a request its number. On a full
+disk it is read without writing, and refusals and revocations have a reserve (reserve.py).
 """
 
 import json
 import os
 import re
 import sqlite3
-from collections.abc import Iterable, Iterator
+import urllib.parse
+from collections.abc import Callable, Iterable, Iterator
 from contextlib import contextmanager
 from dataclasses import dataclass, replace
 from datetime import timedelta
@@ -18,6 +20,7 @@ from steelnewt_client.messages import BadWord, Request, Verdict, Wish, measured,
 from steelnewt_client.moments import of_stamp, stamp
 from steelnewt_client.signed import Signed, reason_digest
 from steelnewt_relay.reasons import NONE, Reason
+from steelnewt_relay.reserve import NoRoom, Reserve
 
 SCHEMA = """
 CREATE TABLE IF NOT EXISTS messages (
@@ -58,6 +61,8 @@ ON_NAMES = """kind <> 'request'
  AND (of, no) IN (SELECT value ->> 0, value ->> 1 FROM json_each(?))"""
 # The requests of such names.
 NAMED = ON_NAMES.replace("<>", "=")
+# What takes a right away, or keeps one from being given.
+TAKES_AWAY = ("refuse", "revoke")
 # How long somebody may take to sign what was prepared.
 PREPARED_FOR = timedelta(hours=1)
 # Why an approval is not posted.
@@ -95,6 +100,10 @@ class Kept:
         return self.message
 
     @property
+    def takes_away(self) -> bool:
+        return isinstance(self.message, Verdict) and self.message.kind in TAKES_AWAY
+
+    @property
     def line(self) -> bytes:
         """What is posted: the message, and its author's signature where there is one."""
         return Signed(self.message.text(), *self.signature).line().encode("utf-8")
@@ -119,19 +128,38 @@ class Outbox:
     ) -> None:
         """(`signs` is false where no door takes signatures: a desk itself takes messages alone)"""
         self.numbers, self.signs = numbers, signs
+        self.path, self.reserve, self.is_reading = path, Reserve(path), False
+        try:
+            self.open()
+        except sqlite3.OperationalError as fault:
+            if not self.reserve.is_full(fault) or not os.path.exists(path):
+                raise
+            self.open_to_read()
+
+    def open(self) -> None:
         try:
             # (SQLite gives its log the rights of the file)
-            os.close(os.open(path, os.O_CREAT | os.O_RDWR, 0o600))
+            os.close(os.open(self.path, os.O_CREAT | os.O_RDWR, 0o600))
         except OSError as fault:
             raise sqlite3.OperationalError(str(fault)) from None
-        self.base = sqlite3.connect(path, timeout=20, isolation_level=None)
+        self.base = sqlite3.connect(self.path, timeout=20, isolation_level=None)
         self.base.execute("PRAGMA journal_mode = wal")
         self.base.execute("PRAGMA synchronous = full")
+        self.is_reading = False
         # (whoever only looks at what is kept waits for nobody who writes)
         if not self.is_made():
             with self.writing():
                 for statement in SCHEMA.split(";"):
                     self.base.execute(statement)
+
+    def open_to_read(self) -> None:
+        """On a full disk SQLite cannot make the file that those share who have the outbox open. Then
+        nobody has: it is read without that file, and without a lock."""
+        place = f"file:{urllib.parse.quote(self.path)}?mode=ro&vfs=unix-none"
+        self.base = sqlite3.connect(place, uri=True, isolation_level=None)
+        self.base.execute("PRAGMA locking_mode = exclusive")
+        self.base.execute("SELECT count(*) FROM sqlite_master").fetchone()
+        self.is_reading = True
 
     def is_made(self) -> bool:
         """Whether the file has all that the schema names."""
@@ -142,15 +170,35 @@ class Outbox:
         self.base.close()
 
     @contextmanager
-    def writing(self) -> Iterator[None]:
-        """All that is written inside is on the disk at the end, or none of it."""
+    def writing(self, takes_away: bool = False) -> Iterator[None]:
+        """All that is written inside is on the disk at the end, or none of it. While the reserve is
+        given up, only what takes a right away is written."""
+        if not takes_away and not self.reserve.is_there():
+            raise NoRoom
+        if self.is_reading:
+            self.base.close()
+            self.open()
         self.base.execute("BEGIN IMMEDIATE")
         try:
             yield
+            self.base.execute("COMMIT")
         except BaseException:
-            self.base.execute("ROLLBACK")
+            if self.base.in_transaction:
+                self.base.execute("ROLLBACK")
             raise
-        self.base.execute("COMMIT")
+
+    def spending(self, write: Callable[[], None], takes_away: bool) -> None:
+        """Writes; what takes a right away once more where the disk is full, in the reserve's
+        room."""
+        try:
+            write()
+        except sqlite3.OperationalError as fault:
+            if not takes_away or not self.reserve.is_full(fault) or not self.reserve.free():
+                raise
+            write()
+
+    def has_room(self) -> bool:
+        return not self.is_reading and self.reserve.has_room()
 
     def keep_request(
         self,
