@@ -15,6 +15,7 @@ from contextlib import contextmanager
 from dataclasses import dataclass, replace
 from datetime import timedelta
 from functools import lru_cache
+from typing import TypeVar
 
 from steelnewt_client.messages import BadWord, Request, Verdict, Wish, measured, read
 from steelnewt_client.moments import of_stamp, stamp
@@ -65,6 +66,7 @@ NAMED = ON_NAMES.replace("<>", "=")
 TAKES_AWAY = ("refuse", "revoke")
 # How long somebody may take to sign what was prepared.
 PREPARED_FOR = timedelta(hours=1)
+Made = TypeVar("Made")
 # Why an approval is not posted.
 UNASKED = "the desk refused the request that it approves"
 
@@ -175,9 +177,7 @@ class Outbox:
         given up, only what takes a right away is written."""
         if not takes_away and not self.reserve.is_there():
             raise NoRoom
-        if self.is_reading:
-            self.base.close()
-            self.open()
+        self.open_again()
         self.base.execute("BEGIN IMMEDIATE")
         try:
             yield
@@ -187,15 +187,25 @@ class Outbox:
                 self.base.execute("ROLLBACK")
             raise
 
-    def spending(self, write: Callable[[], None], takes_away: bool) -> None:
+    def open_again(self) -> None:
+        """Opens an outbox for writing that was opened to be read."""
+        if self.is_reading:
+            self.base.close()
+            try:
+                self.open()
+            except sqlite3.OperationalError:
+                self.open_to_read()
+                raise
+
+    def spending(self, write: Callable[[], Made], takes_away: bool) -> Made:
         """Writes; what takes a right away once more where the disk is full, in the reserve's
         room."""
         try:
-            write()
+            return write()
         except sqlite3.OperationalError as fault:
             if not takes_away or not self.reserve.is_full(fault) or not self.reserve.free():
                 raise
-            write()
+        return write()
 
     def has_room(self) -> bool:
         return not self.is_reading and self.reserve.has_room()
@@ -238,12 +248,17 @@ class Outbox:
     def keep_verdict(self, verdict: Verdict, once: str | None = None) -> Kept:
         """Keeps a verdict. The same `once` again is the same verdict. Nobody approves what the
         desk refused: their word would wait there for any other request of that name."""
-        with self.writing():
-            if old := self.same(verdict.by, once):
-                return old
-            if self.is_approval_of_refused(verdict):
-                raise BadWord(f"{UNASKED}: there is nothing to approve")
-            return self.insert(verdict, verdict.kind, verdict.of, verdict.no, once)
+        takes_away = verdict.kind in TAKES_AWAY
+
+        def write() -> Kept:
+            with self.writing(takes_away):
+                if old := self.same(verdict.by, once):
+                    return old
+                if self.is_approval_of_refused(verdict):
+                    raise BadWord(f"{UNASKED}: there is nothing to approve")
+                return self.insert(verdict, verdict.kind, verdict.of, verdict.no, once)
+
+        return self.spending(write, takes_away)
 
     def prepare_request(self, by: str, wish: Wish, at: str, reason: Reason = NONE) -> Request:
         """Gives a wish the person's next number, for its author to sign. It is sent once it comes
@@ -255,10 +270,15 @@ class Outbox:
 
     def prepare_verdict(self, verdict: Verdict, reason: Reason = NONE) -> None:
         """Notes a verdict for its author to sign, with the reason that the request has."""
-        with self.writing():
-            if self.is_approval_of_refused(verdict):
-                raise BadWord(f"{UNASKED}: there is nothing to approve")
-            self.prepare(verdict, reason)
+        takes_away = verdict.kind in TAKES_AWAY
+
+        def write() -> None:
+            with self.writing(takes_away):
+                if self.is_approval_of_refused(verdict):
+                    raise BadWord(f"{UNASKED}: there is nothing to approve")
+                self.prepare(verdict, reason)
+
+        self.spending(write, takes_away)
 
     def prepare(self, message: Request | Verdict, reason: Reason) -> None:
         old = stamp(of_stamp(message.at) - PREPARED_FOR)
@@ -269,7 +289,12 @@ class Outbox:
     def keep_signed(self, by: str, signed: Signed) -> Kept:
         """Keeps a message that was prepared for this person, with the signature. The same message
         again is the same, with the signature that came first."""
-        with self.writing():
+        message = read(signed.message)
+        takes_away = isinstance(message, Verdict) and message.kind in TAKES_AWAY
+        return self.spending(lambda: self.try_signed(by, signed, takes_away), takes_away)
+
+    def try_signed(self, by: str, signed: Signed, takes_away: bool) -> Kept:
+        with self.writing(takes_away):
             row = self.base.execute(
                 "SELECT why, ticket FROM prepared WHERE body = ? AND by = ?", (signed.message, by)
             ).fetchone()
@@ -388,11 +413,16 @@ class Outbox:
 
     def answered(self, id: int, state: str, answer: str = "") -> None:
         """Notes what became of a message. An answer of the desk stays."""
-        with self.writing():
-            self.base.execute(
-                "UPDATE messages SET state = ?, answer = ? WHERE id = ? AND state = 'kept'",
-                (state, answer, id),
-            )
+        takes_away = self.entry(id).takes_away
+
+        def write() -> None:
+            with self.writing(takes_away):
+                self.base.execute(
+                    "UPDATE messages SET state = ?, answer = ? WHERE id = ? AND state = 'kept'",
+                    (state, answer, id),
+                )
+
+        self.spending(write, takes_away)
 
     def post_again(self) -> int:
         """Marks all that was acknowledged as not posted: for a desk that lost its store."""
