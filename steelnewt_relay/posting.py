@@ -79,10 +79,9 @@ def post_kept(outbox: Outbox, desk: Desk) -> list[Kept]:
 
 def to_post(outbox: Outbox, desk: Desk) -> list[Kept]:
     """What is kept; where a disk is full, what takes rights away alone."""
-    kept = outbox.unposted()
-    if not kept or outbox.has_room() and is_room_at(desk):
-        return kept
-    return [it for it in kept if it.takes_away]
+    # (asked in each round: a reserve is made anew before anything else)
+    has_room = outbox.has_room() and is_room_at(desk)
+    return [it for it in outbox.unposted() if has_room or it.takes_away]
 
 
 def keep_posting(outbox: Outbox, desk: Desk, every: float, ended: threading.Event) -> None:
