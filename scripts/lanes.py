@@ -11,6 +11,7 @@ from __future__ import annotations
 
 import enum
 import functools
+import math
 import os
 import re
 import shlex
@@ -122,6 +123,7 @@ class Lanes:
         `known` has the minutes that parts last took on this machine. So many parts ended `before`,
         and those `behind` are run later."""
         self.parts, self.lanes, self.logs, self.whole = parts, lanes, logs, whole
+        self.by_name = {it.name: it for it in parts}
         self.known = {it.name: (known or {}).get(it.name, it.minutes) for it in (*parts, *behind)}
         self.say, self.before, self.behind = say or write, before, behind
         self.waiting = sorted(parts, key=lambda it: (it.alone, -self.known[it.name]))
@@ -161,7 +163,8 @@ class Lanes:
 
     def starts_one(self) -> bool:
         """Whether a part that waited now runs or is settled. A long part that fills two lanes waits
-        for them: no shorter one passes it."""
+        for them: a shorter one passes it only where it should end before they are free."""
+        free_in = math.inf
         for part in list(self.waiting):
             before = self.results.get(part.after)
             if before is None and any(it.name == part.after for it in self.parts):
@@ -173,22 +176,42 @@ class Lanes:
             elif lacks:
                 outcome = Outcome.FAILED if self.whole else Outcome.LEFT_OUT
                 self.settle(Result(part, outcome, why=f"this machine lacks {lacks}"))
-            elif self.has_room(part):
+            elif self.has_room(part) and self.known[part.name] <= free_in:
                 self.begin(part)
             else:
-                return False
+                free_in = min(free_in, self.room_in(part))
+                continue
             return True
         return False
 
+    def room_in(self, part: Part) -> float:
+        """About the minutes until the lanes that the part fills are free, by what each part that
+        runs last took."""
+        free = self.lanes - self.used()
+        for name in sorted(self.running, key=self.rest):
+            free += self.fills(self.by_name[name])
+            if free >= self.fills(part):
+                return self.rest(name)
+        return 0.0
+
+    def rest(self, name: str) -> float:
+        """About the minutes that a part that runs still takes."""
+        lasted = (time.monotonic() - self.running[name].begun) / 60
+        return max(0.0, self.known[name] - lasted)
+
+    def fills(self, part: Part) -> int:
+        return min(part.cores, self.lanes)
+
+    def used(self) -> int:
+        """How many lanes are full."""
+        return sum(self.fills(self.by_name[name]) for name in self.running)
+
     def has_room(self, part: Part) -> bool:
-        by_name = {it.name: it for it in self.parts}
-        running = [by_name[name] for name in self.running]
-        if any(it.alone for it in running):
+        if any(self.by_name[name].alone for name in self.running):
             return False
         if part.alone:
-            return not running and all(it.alone for it in self.waiting)
-        used = sum(min(it.cores, self.lanes) for it in running)
-        return used + min(part.cores, self.lanes) <= self.lanes
+            return not self.running and all(it.alone for it in self.waiting)
+        return self.used() + self.fills(part) <= self.lanes
 
     def begin(self, part: Part) -> None:
         self.waiting.remove(part)
@@ -196,7 +219,7 @@ class Lanes:
         os.mkdir(folder)
         # (accounts that are nobody's have files there too)
         os.chmod(folder, 0o1777)
-        cores = self.lanes if part.alone else min(part.cores, self.lanes)
+        cores = self.lanes if part.alone else self.fills(part)
         apart = [sys.executable, "-I", "-S", APART]
         words = [*apart, "--minutes", f"{part.limit:g}", "--folder", folder]
         with open(log_of(self.logs, part), "wb") as log:
@@ -244,12 +267,10 @@ class Lanes:
     def left(self) -> float:
         """About how many minutes the rest takes, by what each part last took."""
         rest = {it.name: self.known[it.name] for it in (*self.waiting, *self.behind)}
-        now = time.monotonic()
-        for name, run in self.running.items():
-            rest[name] = max(0.0, self.known[name] - (now - run.begun) / 60)
+        rest |= {name: self.rest(name) for name in self.running}
         parts = [it for it in (*self.parts, *self.behind) if it.name in rest]
         alone = sum(rest[it.name] for it in parts if it.alone)
-        side = [(rest[it.name], min(it.cores, self.lanes)) for it in parts if not it.alone]
+        side = [(rest[it.name], self.fills(it)) for it in parts if not it.alone]
         work = sum(minutes * cores for minutes, cores in side) / self.lanes
         return alone + max([work, *(minutes for minutes, _ in side)])
 

@@ -131,7 +131,7 @@ def crate_comments(source: str) -> Iterator[tuple[int, str, bool]]:
     held: list[str] = []
     is_docstring = False
     for number, line in enumerate([*source.splitlines(), ""], 1):
-        found = re.match(r" *(//[/!]?) ?(.*)", line)
+        found = re.match(r" *(//[/!]?|--) ?(.*)", line)
         if held and not (found and found[2] and (found[1] != "//") == is_docstring):
             yield number - len(held), " ".join(held), is_docstring
             held = []

@@ -47,8 +47,9 @@ print(json.dumps({
 """
 # what Python itself ignores once it runs
 PYTHONS = {signal.SIGPIPE, signal.SIGXFSZ}
-# The C library keeps two signals to itself, and lets no program set them (nptl(7)); it sets what it
-# needs of them whatever they were. A runner that sets all signals by system calls hands them on.
+# The C library keeps two signals for its threads, and lets no program set either (nptl(7)). A
+# runner that ignores all signals by system calls hands these two on, and they do no harm: the C
+# library sets its handlers whatever was there.
 C_LIBRARYS = {32, 33}
 # rt_sigaction(2) on x86-64, and the size of its sets
 RT_SIGACTION, SET_BYTES = 13, 8

@@ -178,6 +178,27 @@ def side_by_side(count: Count) -> None:
     count.holds("three lanes of four", not meet(found, "ac"), found)
 
 
+def passing(count: Count) -> None:
+    """A part that waits for two lanes lets one pass that should end before they are free, and no
+    longer one: `first` ends at once, and `slow` holds one of the two lanes."""
+    lasts = {"wide": 4.0, "long": 3.0, "slow": 2.0, "short": 1.0, "first": 0.5}
+    with tempfile.TemporaryDirectory() as folder:
+        over = os.path.join(folder, "over")
+        waits = f"bash -c 'for _ in $(seq 300); do [ -e {over} ] && break; sleep 0.1; done'"
+        parts = [
+            Part("first", WELL),
+            Part("slow", waits),
+            Part("wide", WELL, cores=2, after="first"),
+            Part("long", WELL, after="first"),
+            Part("short", f"touch {over}", after="first"),
+        ]
+        parts = [it._replace(minutes=lasts[it.name]) for it in parts]
+        said = ran(parts, 2)[1]
+    ended = [it.split()[3] for it in said.splitlines() if it.startswith("(")]
+    count.same("the order of their ends", ended[:3], ["first", "short", "slow"])
+    count.holds("none that is longer passes", ended.index("wide") < ended.index("long"), ended)
+
+
 def apart(count: Count) -> None:
     """Each has a folder of its own, which is gone behind it, with what it left running."""
     parts = [Part(name, "bash -c 'echo at $TMPDIR; sleep 987.25 & disown'") for name in "ab"]
@@ -268,7 +289,7 @@ def ends(count: Count) -> None:
 
 def main() -> int:
     count = Count()
-    for part in (faults, order, side_by_side, apart, planted, ends):
+    for part in (faults, order, side_by_side, passing, apart, planted, ends):
         begun = time.monotonic()
         part(count)
         print(f"{part.__name__}: {time.monotonic() - begun:.1f} seconds", flush=True)

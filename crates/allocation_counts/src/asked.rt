@@ -8,7 +8,7 @@ use std::alloc::Global;
 use sudo_decide::{Decision, Invocation, decide};
 use sudo_words::{Cmnd, Moment, cmnd_len, is_lawful};
 
-/// How much a call's yes counts.
+/// A call's answer as a number: 1 for a yes, and 0 for a no.
 fn one(yes: bool) -> u64 {
     if yes { 1 } else { 0 }
 }
@@ -79,7 +79,7 @@ pub fn asked(given: &Given) -> u64 {
     said
 }
 
-/// The same, and a text is copied, which takes memory once.
+/// All calls once, and a copy of a text, which takes memory once.
 pub fn copied(alloc: Global, given: &Given) -> Result<u64, Trouble> {
     let copy = String::from_str(alloc, given.stamp)?;
     Ok(asked(given).saturating_add(copy.len() as u64))

@@ -37,7 +37,7 @@ pub fn messages_of(alloc: Global, text: &str) -> Result<Vec<Message>, Trouble> {
     Ok(messages)
 }
 
-/// What each name of the messages has come to be.
+/// The summary of each name in the messages.
 pub fn summaries_of(alloc: Global, messages: &[Message]) -> Result<Vec<Summary>, Trouble> {
     let gathered = Gathered::of(alloc, messages)?;
     Ok(summaries_in(alloc, &gathered)?)

@@ -1,5 +1,5 @@
-//! The input, read part by part: each is read by a function of its own, which goes on with what it
-//! read.
+//! The input, read part by part. Each part is read by a function of its own, which hands the result
+//! to the next.
 
 use crate::asked::{asked, copied};
 use crate::given::{Given, invocation_of, messages_of, summaries_of};
@@ -79,7 +79,7 @@ fn in_rounds(alloc: Global, rounds: Rounds, given: &Given) -> Result<u64, Troubl
     Ok(said)
 }
 
-/// The same, once the roster, the base and the messages are read.
+/// How much the calls say in all rounds, once the roster, the base and the messages are read.
 fn over_messages(
     alloc: Global,
     texts: Texts<'_>,
@@ -106,7 +106,7 @@ fn over_messages(
     in_rounds(alloc, rounds, &given)
 }
 
-/// The same, once the roster and the base are read.
+/// How much the calls say in all rounds, once the roster and the base are read.
 fn over_base(
     alloc: Global,
     texts: Texts<'_>,
@@ -118,7 +118,7 @@ fn over_base(
     over_messages(alloc, texts, roster, (base, &compiled), messages.as_slice())
 }
 
-/// The same, once the roster is read.
+/// How much the calls say in all rounds, once the roster is read.
 fn over_roster(alloc: Global, texts: Texts<'_>, roster: &Roster) -> Result<u64, Trouble> {
     match read_policy(alloc, texts.base.as_bytes()) {
         Ok(base) => over_base(alloc, texts, roster, &base),
@@ -126,7 +126,7 @@ fn over_roster(alloc: Global, texts: Texts<'_>, roster: &Roster) -> Result<u64, 
     }
 }
 
-/// How much the calls say that an input gives, in all its rounds.
+/// How much the calls of an input say, in all its rounds.
 pub fn said(alloc: Global, input: &str) -> Result<u64, Trouble> {
     let texts = texts_of(input)?;
     match Roster::read(alloc, texts.roster) {

@@ -1,5 +1,5 @@
-//! Calls that take no memory, made as often as the standard input says. Who runs the program counts
-//! its requests for memory: with one round they have to be as many as with a thousand.
+//! Calls that take no memory, made as often as the standard input says. Whoever runs the program
+//! counts its requests for memory: one round has to make as many of them as a thousand do.
 //!
 //! The input has five parts with a line `%%` between them: `lend` or `copy` and the rounds in ten
 //! digits; a roster; a base; messages, one a line; and the words of an invocation. With `copy` a
@@ -29,7 +29,7 @@ fn whole(rt: &HostRuntime) -> Result<Vec<u8>, Trouble> {
     }
 }
 
-/// How much all calls say that the standard input asks for.
+/// How much all calls say together, with the input from the standard input.
 fn count(rt: &HostRuntime) -> Result<u64, Trouble> {
     let bytes = whole(rt)?;
     match str::from_utf8(bytes.as_slice()) {

@@ -33,7 +33,7 @@ calm : (n a b c : ℕ) → HaveFailed n a b → b ≤ c → HaveFailed (n + 0) a
 calm n a b c (inl counted) below = inl (omega (arith, counted, below))
 calm n a b c (inr greatest) below = inr (omega (arith, greatest, below))
 
--- and one that it tells
+-- one answer more, and a failure that it tells
 failed : (n a b c : ℕ) → HaveFailed n a b → b ≤ c → HasFailed b c → HaveFailed (n + 1) a c
 failed n a b c (inl counted) below (inl rose) = inl (omega (arith, counted, rose))
 failed n a b c (inl counted) below (inr greatest) = inr greatest

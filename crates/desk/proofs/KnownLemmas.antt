@@ -123,7 +123,7 @@ known_looked : (S : Message → Type 0) → ((m : Message) → S m → IsMessage
     → (set : List Message) × Lists S set × Old set → (set : List Message) × Lists S set × Kept set
 known_looked S messages Old Kept more it = (it.0, it.1, more it.0 (λ m there. messages m ((it.1 m).1 there)) it.2)
 
--- and all that holds of a desk still does, once what is known of it was looked at
+-- and all that holds of a desk still holds, once what is known was looked at
 pub desk_looked_at : {Fits Desk Durable Live Up Was : Type 0} {now was text : List ℕ} {Old Kept : List Message → Type 0} (S : Message → Type 0)
     → ((m : Message) → S m → IsMessage m) → ((set : List Message) → ((m : Message) → Contains set m → IsMessage m) → Old set → Kept set)
     → Fits → (Up → Desk) → (Up → now ≡ was) → (Was → was ≡ text) → (Up → Was) → (Up → Durable)
@@ -138,7 +138,7 @@ desk_looked_at {Old = Old} {Kept = Kept} S messages more fits desk same was befo
   live,
 )
 
--- and it is known only where it was
+-- and something is known only where something was known
 pub known_of_up_with : (Clean Up : Type 0) (old new : Option Known) → IsKnownOfUp Clean Up old → (old ≡ None → new ≡ None) → IsKnownOfUp Clean Up new
 known_of_up_with Clean Up None None live nothing = tt
 known_of_up_with Clean Up None (Some k) live nothing =

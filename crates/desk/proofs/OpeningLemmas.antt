@@ -23,15 +23,15 @@ module _ (Empty Kept Old : Type 0) (roster : List ℕ) (tells : Found) where
       → Tells Empty Kept Old roster tells → Kept × (¬ Empty) × (¬ Old) × (string_bytes desk.roster ≡ roster)
   told_desk desk is told = let P : Found → Type 0 = Tells Empty Kept Old roster in subst P is told
 
-  -- and of one with nothing of a desk's
+  -- and of a keeper with no part of a desk
   pub told_empty : tells ≡ found.Empty → Tells Empty Kept Old roster tells → Empty × (¬ Kept) × (¬ Old)
   told_empty is told = let P : Found → Type 0 = Tells Empty Kept Old roster in subst P is told
 
-  -- and of one with a desk of an older form
+  -- and of a keeper with a desk of an older form
   pub told_old : tells ≡ found.OldDesk → Tells Empty Kept Old roster tells → Old × (¬ Empty) × (¬ Kept)
   told_old is told = let P : Found → Type 0 = Tells Empty Kept Old roster in subst P is told
 
-  -- and of one with something of a desk's that is not a desk
+  -- and of a keeper with something that is not a desk
   pub told_no_desk : tells ≡ found.NotADesk → Tells Empty Kept Old roster tells → (¬ Empty) × (¬ Kept) × (¬ Old)
   told_no_desk is told = let P : Found → Type 0 = Tells Empty Kept Old roster in subst P is told
 

@@ -12,7 +12,7 @@ use Rattle.desk.specs.declared.refusal.Refusal.TheVariants.{RosterChanged, NotAD
 pub same_sets : (S T U : Message → Type 0) → SameSet S T → SameSet T U → SameSet S U
 same_sets S T U first second = λ m. (λ h. (second m).0 ((first m).0 h), λ h. (first m).1 ((second m).1 h))
 
--- why nothing is rebuilt is why it is not over a base that fits
+-- the reason why nothing is rebuilt is also the reason over a base that fits
 pub not_rebuilt_over : (Fits Empty Desk Old : Type 0) (e : Refusal) → Fits → e ≢ BaseTooLarge
     → IsWant e ⊎ RefusesToRebuild ⊤ Empty Desk Old e → IsWant e ⊎ RefusesToRebuild Fits Empty Desk Old e
 not_rebuilt_over Fits Empty Desk Old e fits large (inl want) = inl want
@@ -53,7 +53,7 @@ pub rebuilt_again : (Empty Desk Old : Type 0) (S T U : Message → Type 0) → D
 rebuilt_again Empty Desk Old S T U desk same (inl none) = absurd (none.1 desk)
 rebuilt_again Empty Desk Old S T U desk same (inr found) = same_sets S T U same found.2
 
--- what a desk is rebuilt to twice, it is rebuilt to at once
+-- two rebuildings, one after the other, come to what one rebuilding comes to
 pub rebuilt_twice : (Empty Desk Old Empty' Desk' Old' : Type 0) (S T U V : Message → Type 0) → Desk' → Rebuilds Empty Desk Old S T → SameSet T U
     → Rebuilds Empty' Desk' Old' U V → Rebuilds Empty Desk Old S V
 rebuilt_twice Empty Desk Old Empty' Desk' Old' S T U V desk first same (inl none) = absurd (none.1 desk)
@@ -72,7 +72,7 @@ pub rebuilt_still : (Empty Desk Old : Type 0) (S T U : Message → Type 0) → R
 rebuilt_still Empty Desk Old S T U (inl nothing) same = inl (nothing.0, nothing.1, nothing.2, λ m held. nothing.3 m ((same m).1 held))
 rebuilt_still Empty Desk Old S T U (inr kept) same = inr (kept.0, kept.1, same_sets S T U kept.2 same)
 
--- why the last of two is not rebuilt
+-- why the last of two rebuildings is refused
 pub last_refused : (First Fits Other : Type 0) (e : Refusal) → First → IsWant e ⊎ ((e ≡ BaseTooLarge) × (¬ Fits))
     → IsWant e ⊎ Other ⊎ ((e ≡ BaseTooLarge) × First × (¬ Fits))
 last_refused First Fits Other e first (inl want) = inl want

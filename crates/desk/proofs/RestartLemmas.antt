@@ -44,7 +44,7 @@ pub recorded_text : (Empty Desk Old : Type 0) (recorded text : List ℕ) (S T : 
 recorded_text Empty Desk Old recorded text S T desk (inl none) = absurd (none.1 desk)
 recorded_text Empty Desk Old recorded text S T desk (inr found) = found.3
 
--- and is refused for its base or for its roster, if it is: what was recorded is a desk
+-- and a refusal, if one comes, is for the base or for the roster, since what was recorded is a desk
 pub refused_again : (Fits Empty Desk Old : Type 0) (recorded said text : List ℕ) (e : Refusal) → Desk → said ≡ recorded
     → IsWant e ⊎ Refuses Fits Empty Desk Old recorded text e
     → IsWant e ⊎ ((e ≡ BaseTooLarge) × (¬ Fits)) ⊎ ((e ≡ RosterChanged) × (said ≢ text))

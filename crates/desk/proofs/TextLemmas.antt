@@ -32,7 +32,7 @@ one_more old new x ms m more text are =
     ∙ ap (λ (ts : List (List ℕ)). ts ++ wire m ∷ []) are
     ∙ sym (map-append wire ms (m ∷ []))
 
--- ---- whose they are
+-- ---- whose texts they are
 
 to_wires : (ms : List Message) (m : Message) → Contains ms m → Contains (map wire ms) (wire m)
 to_wires [] m h = absurd (no_member m h)

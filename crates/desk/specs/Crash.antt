@@ -11,31 +11,31 @@ use Rattle.desk.specs.Delivery.{AcknowledgesAmong, Delivery, IsBodyOf}
 use Rattle.desk.specs.declared.ack.Ack.{Ack}
 use Rattle.desk.specs.declared.refusal.Refusal.{Refusal}
 
--- While a desk is opened: where there was nothing of a desk's, there is nothing still, or a whole
--- desk of the roster's text, with no message; and where there was a desk, of either form, it is
--- there whole.
+-- While a desk is opened: where there was no part of a desk, there still is none, or there is a
+-- whole desk of the roster's text, with no message; and where there was a desk, of either form, it
+-- is there whole.
 pub record IsLeftByOpening (Empty Desk Old : Type 0) (recorded text : List ℕ)
     (S : Message → Type 0) (left : Left) : Type 0 where
   pub empty : Empty → IsNothingOrFresh text left
   pub desk : Desk → IsDeskOf recorded S left
   pub old : Old → IsOldDeskOf recorded S left
 
--- While a desk is rebuilt: where there was nothing of a desk's, there is nothing still, or a whole
--- desk of the roster's text, with no message; and where there was a desk, of either form, it is
--- there whole as it was, or whole with the new roster's text and the messages that it had.
+-- While a desk is rebuilt: where there was no part of a desk, there still is none, or there is a
+-- whole desk of the roster's text, with no message; and where there was a desk, of either form, it
+-- is there whole as it was, or whole with the new roster's text and the messages that it had.
 pub record IsLeftByRebuilding (Empty Desk Old : Type 0)
     (recorded text : List ℕ) (S : Message → Type 0) (left : Left) : Type 0 where
   pub empty : Empty → IsNothingOrFresh text left
   pub desk : Desk → IsDeskOf recorded S left ⊎ IsDeskOf text S left
   pub old : Old → IsOldDeskOf recorded S left ⊎ IsDeskOf text S left
 
--- An opening commits only the making of a desk, by a keeper that was up and kept nothing of a
--- desk's: a whole desk of the roster's text, with no message.
+-- An opening commits only the making of a desk, by a keeper that was up and kept no part of a desk:
+-- a whole desk of the roster's text, with no message.
 abbrev pub IsMadeByOpening : (Up Empty : Type 0) → (text : List ℕ) → Left → Type 0
 IsMadeByOpening Up Empty text = IsCommitted (Up × Empty) text (λ _. ⊥)
 
 -- A rebuilding commits only a whole desk of the roster's text, by a keeper that was up: with no
--- message where there was nothing of a desk's, and else with the messages that it had.
+-- message where there was no part of a desk, and else with the messages that the desk had.
 abbrev pub IsAddedByRebuilding : (Up Empty : Type 0) → (text : List ℕ)
     → (S : Message → Type 0) → Left → Type 0
 IsAddedByRebuilding Up Empty text S left =

@@ -53,8 +53,8 @@ abbrev pub WasWanting : Result Ack Refusal → Type 0
 WasWanting (Ok ack) = ⊥
 WasWanting (Err e) = IsWant e
 
--- What is answered is right, unless memory or the storage was wanting; and where an answer is
--- right, it is given, unless they were.
+-- The answer is right, unless memory or the storage was wanting; and where there is a right answer,
+-- that one is given, unless memory or the storage was wanting.
 pub record IsDeliveryAnswer (f : RosterFields Cmnd)
     (d : Delivery) (answer : Result Ack Refusal) : Type 0 where
   pub sound : WasWanting answer ⊎ Answers f d answer

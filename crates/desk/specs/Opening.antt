@@ -6,8 +6,8 @@ use Rattle.desk.specs.declared.refusal.Refusal.{Refusal}
 use Rattle.desk.specs.declared.refusal.Refusal.TheVariants.{RosterChanged, NotADesk}
 use Rattle.desk.specs.declared.refusal.Refusal.TheVariants.{OldSchema, BaseTooLarge}
 
--- Where the keeper kept nothing of a desk's, the desk holds nothing. Where it kept a desk of the
--- same roster's text, it holds what that desk held.
+-- Where the keeper kept no part of a desk, the desk holds nothing. Where the keeper kept a desk of
+-- the same roster's text, the opened desk holds what that desk held.
 abbrev pub Opens : (Empty Desk Old : Type 0)
     → (recorded text : List ℕ) → (old new : Message → Type 0) → Type 0
 Opens Empty Desk Old recorded text old new =
@@ -28,7 +28,7 @@ abbrev pub IsOpeningRefusal : Refusal → Type 0
 IsOpeningRefusal e =
     (e ≡ BaseTooLarge) ⊎ (e ≡ NotADesk) ⊎ (e ≡ OldSchema) ⊎ (e ≡ RosterChanged)
 
--- What is refused before a table of a desk's is read: a base past the limits, and what has no such
--- tables. So these refusals do not say that the keeper is up.
+-- The refusals that may come before a desk's table is read: for a base past the limits, and for
+-- something that has no such tables. So these refusals do not say that the keeper is up.
 abbrev pub IsUnseen : Refusal → Type 0
 IsUnseen e = (e ≡ BaseTooLarge) ⊎ (e ≡ NotADesk)

@@ -5,9 +5,9 @@ use Rattle.store_tables.specs.Sets.{IsNothing, SameSet}
 use Rattle.desk.specs.declared.refusal.Refusal.{Refusal}
 use Rattle.desk.specs.declared.refusal.Refusal.TheVariants.{NotADesk, BaseTooLarge}
 
--- Where the keeper kept nothing of a desk's, the desk holds nothing. Where it kept a desk, with any
--- roster's text and of either form, the new one holds what that desk held, also what the roster
--- does not admit.
+-- Where the keeper kept no part of a desk, the desk holds nothing. Where the keeper kept a desk,
+-- with any roster's text and of either form, the new desk holds what that desk held, also what the
+-- roster does not admit.
 abbrev pub Rebuilds : (Empty Desk Old : Type 0) → (old new : Message → Type 0) → Type 0
 Rebuilds Empty Desk Old old new =
     (Empty × (¬ Desk) × (¬ Old) × IsNothing new) ⊎ ((Desk ⊎ Old) × (¬ Empty) × SameSet old new)

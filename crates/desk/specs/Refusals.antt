@@ -14,7 +14,7 @@ use Rattle.desk.specs.declared.refusal.Refusal.TheVariants.{TooManyRules, Roster
 use Rattle.desk.specs.declared.refusal.Refusal.TheVariants.{NotADesk, OldSchema, Storage}
 use Rattle.desk.specs.declared.refusal.Refusal.TheVariants.{NoMemory, BaseTooLarge}
 
--- its code and name
+-- the refusal's code and name
 abbrev pub refusal_text : Refusal → List ℕ
 refusal_text UnknownRelay = codes "P1 UnknownRelay"
 refusal_text UnknownHost = codes "P2 UnknownHost"

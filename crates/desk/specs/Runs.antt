@@ -1,4 +1,5 @@
--- A run of a desk: what is asked of it, in the order of time, and the set that it acknowledges.
+-- A run of a desk: what the desk is asked, in the order of time, and the set that the run
+-- acknowledges.
 use Rattle.std.specs.Prelude.{◌⊎◌, List, [], ◌∷◌, Contains, Result}
 use Rattle.sudo_words.specs.declared.cmnd.Cmnd.{Cmnd}
 use Rattle.messages.specs.Names.{SameMessages}

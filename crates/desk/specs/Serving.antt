@@ -22,8 +22,8 @@ pub record KeepsSettings {K : Type 0} (before after : DeskState K) : Type 0 wher
 
 -- A question changes nothing of a desk. The roster and the base stay, and while the keeper is up it
 -- keeps what it kept. The answer tells what storage did. Over a disk that has been honest the
--- keeper is up after an answer, and also after each refusal but a want, and but an unknown host, of
--- which the roster tells alone; and nothing is committed.
+-- keeper is up after an answer, and also after each refusal but a want and an unknown host, which
+-- the roster alone tells; and nothing is committed.
 pub record OnlyAsks {K T : Type 0} (g : Ghosts K) (before after : DeskState K)
     (result : Result T Refusal) : Type 0 where
   pub settings : KeepsSettings before after

@@ -17,8 +17,9 @@ use crate::refusal::Refusal;
 use desk_store::Keeper;
 
 impl<K: Keeper> Desk<K> {
-    /// How many messages the desk holds. Where that is not known they are counted, and the count is
-    /// kept beside what else is known; then each new message is counted as it comes.
+    /// How many messages the desk holds. Where the count is not known, the messages are counted,
+    /// and the count is kept beside what else is known; from then on each new message is counted as
+    /// it comes.
     pub fn count(&mut self) -> Result<usize, Refusal>
         ensures count { (set : List AnyMessage) → K.is_up self.new.keeper
             → Lists (K.holds self.old.keeper) set → IfOk result (IsCount set) }
@@ -49,8 +50,8 @@ pub fn count_of_texts()
         → AreTexts set texts → IsCount set (length texts) }
 {}
 
-/// No messages are none; a message that the set lacks is one more, and one that it has is none
-/// more.
+/// An empty list has the count 0. A message that the set lacks adds one to the count, and a message
+/// that the set has adds nothing.
 pub fn one_more_counted()
     ensures none { IsCount [] 0 }
     ensures new { (set : List AnyMessage) (m : AnyMessage) (n : ℕ)

@@ -65,17 +65,18 @@ impl<K: Keeper> Model for Desk<K> {
 }
 
 impl<K: Keeper> Desk<K> {
-    /// Opens the desk that the keeper keeps, or makes one without messages where it keeps nothing
-    /// of a desk's.
+    /// Opens the desk that the keeper keeps. Where the keeper keeps no part of a desk, the call
+    /// makes a desk without messages.
     ///
     /// `BaseTooLarge` comes exactly where the base is past a limit of the desk. Else `NotADesk`
-    /// comes where the keeper has something of a desk's and no desk, `OldSchema` where it has a
-    /// desk of an older form, and `RosterChanged` where its desk has another roster's text;
-    /// `Storage` and `NoMemory` wherever the storage or memory refuses. A refusal hands the keeper
-    /// back, with what it keeps as it was.
+    /// comes where the keeper has something under a desk's names that is not a desk, `OldSchema`
+    /// where the keeper has a desk of an older form, and `RosterChanged` where the keeper's desk
+    /// has another roster's text. `Storage` and `NoMemory` come wherever the storage or memory
+    /// refuses. A refusal hands the keeper back, and what the keeper keeps stays as it was.
     ///
-    /// Whenever the call ends, a crash leaves a desk that was there whole; if the keeper was empty,
-    /// it leaves nothing, or a whole desk without messages. After Ok a crash leaves the desk.
+    /// Whenever the call ends, a crash leaves the whole desk, if there was one. If the keeper was
+    /// empty, a crash leaves no part of a desk, or a whole desk without messages. After Ok a crash
+    /// leaves the desk.
     pub fn open(
         alloc: Global,
         roster: Roster,
@@ -91,7 +92,7 @@ impl<K: Keeper> Desk<K> {
         ensures refused { IfErr result
             (λ r. K.is_up r.1 → IsWant r.0 ⊎ Refuses (FitsBase base) (K.is_empty keeper)
             (K.is_desk keeper) (K.is_old keeper) (K.roster keeper) roster.text r.0) }
-        // So nothing else is refused, whatever the storage does.
+        // So no other refusal comes, whatever the storage does.
         ensures err { IfErr result (λ r. IsWant r.0 ⊎ IsOpeningRefusal r.0) }
         ensures unchanged { IfErr result (λ r. K.is_up r.1 → K.is_same keeper r.1) }
         // Over an honest disk the keeper is up after Ok, and after each refusal that tells of a
@@ -118,8 +119,8 @@ impl<K: Keeper> Desk<K> {
         ensures durable { IfOk result (λ d. K.is_up d.keeper
             → LeavesOnly (K.may_leave d.keeper) (IsDeskOf roster.text (K.holds d.keeper))) }
     {
-        // What a refusal does not hand back is dropped by calls: at an exit that drops it in line,
-        // each of its fields would be proved again.
+        // Calls drop what a refusal does not hand back: at an exit that drops a value in line, each
+        // of the value's fields would be proved again.
         if !fits_base(&base) {
             drop(base);
             drop(roster);
@@ -148,13 +149,13 @@ impl<K: Keeper> Desk<K> {
     /// `UnknownRelay` comes where the roster has no such relay; else `TooLong`, `NotCanonical` or
     /// `BadField`, where the body is not a message; else the denial, where the roster does not
     /// admit the message: the first that applies. Want of memory anywhere is `NoMemory`, and a
-    /// failure of the storage is `Storage`. An acknowledgement says that the message is kept; one
-    /// that was kept before changes nothing. After a refusal nothing changed.
+    /// failure of the storage is `Storage`. An acknowledgement says that the message is kept; a
+    /// message that was kept before changes nothing. After a refusal nothing changed.
     ///
     /// Whenever the call ends, a crash leaves the whole desk without the message, or the whole desk
     /// with it; after Ok only the latter. While the keeper is up, a crash leaves what the desk
-    /// holds. Also where a failure has shut the keeper before, a crash leaves nothing that it might
-    /// not have left when the call began, or that desk with the message.
+    /// holds. Where a failure had shut the keeper before the call, a crash leaves only what it
+    /// might have left when the call began.
     pub fn deliver(&mut self, relay: &str, body: &[u8]) -> Result<Ack, Refusal>
         ensures answer { IsDeliveryAnswer self.old.roster.says
             (record { relay = relay.now; body = body.now }) result }
@@ -165,13 +166,13 @@ impl<K: Keeper> Desk<K> {
         ensures unchanged { K.is_up self.new.keeper
             → OnErr result (K.is_same self.old.keeper self.new.keeper) }
         ensures settings { KeepsSettings self.old self.new }
-        // Over an honest disk the keeper is up after Ok; and a refusal that tells of no want does
-        // not ask it.
+        // Over an honest disk the keeper is up after Ok. A refusal that tells of no want comes
+        // before the keeper is asked.
         ensures live { K.is_clean self.new.keeper → OnOk result (K.is_up self.new.keeper) }
         ensures unasked { IfErr result
             (λ e. IsWant e ⊎ (self.new.keeper ≡ self.old.keeper)) }
         ensures served { ServesAnswer K.Keeper self.old.keeper self.new.keeper result }
-        // For a message that it held, `Storage` comes only where the storage's own count of
+        // For a message that the desk held, `Storage` comes only where the storage's own count of
         // failures rose or stands at the greatest number of 64 bits, or the steps of a query are
         // limited.
         ensures cause { K.is_up self.old.keeper → K.is_clean self.new.keeper → (m : AnyMessage)
@@ -256,8 +257,8 @@ impl<K: Keeper> Desk<K> {
         Ok(answers)
     }
 
-    /// While the keeper is up, a crash leaves what the desk holds. It does nothing: it is there for
-    /// a proof.
+    /// While the keeper is up, a crash leaves what the desk holds. The function does nothing: its
+    /// contract is there for a proof.
     fn lasts(&self)
         ensures { K.is_up self.now.keeper → LeavesOnly (K.may_leave self.now.keeper)
             (IsDeskOf self.now.roster.text (K.holds self.now.keeper)) }
@@ -265,7 +266,7 @@ impl<K: Keeper> Desk<K> {
         let _roster = &self.roster;
     }
 
-    /// Delivers each in order, and appends the answers. There is room for them.
+    /// Delivers each body in order, and appends the answers, for which there is room.
     fn deliver_each(&mut self, list: &[(String, Vec<u8>)], answers: &mut Vec<Result<Ack, Refusal>>)
         requires none { answers.old.items ≡ [] }
         requires room { length list.now ≤ vec_capacity answers.old }
@@ -315,7 +316,7 @@ impl<K: Keeper> Desk<K> {
         self.base.policy()
     }
 
-    /// Gives the keeper up as it is. It takes no memory.
+    /// Gives the keeper up as it is. The call takes no memory.
     ///
     /// While the keeper is up, a crash leaves what the desk held, whatever was called before.
     pub fn into_keeper(self) -> K

@@ -27,16 +27,17 @@ use suspects::with_suspect;
 /// What is known of a set of messages.
 #[derive(Drop)]
 pub(crate) struct Known {
-    /// What its messages come to.
+    /// What the messages come to.
     pub(crate) gathered: Gathered,
-    /// How many they are, if that was counted.
+    /// How many messages there are, if they were counted.
     pub(crate) count: Option<usize>,
     /// The names under which an approval may not count, if a report has looked for them.
     pub(crate) suspects: Option<BTreeSet<RequestName>>,
 }
 
-/// The keeper's messages. The desk stays as it is, and so does what a crash leaves of it. What is
-/// known of the messages stays known; it and the roster are arguments for the proof alone.
+/// The keeper's messages. The desk stays as it is, and a crash leaves nothing that it might not
+/// have left before. What is known of the messages stays known. What is known and the roster are
+/// arguments for the proof alone.
 pub(crate) fn listed<K: Keeper>(
     keeper: &mut K,
     _roster: &Roster,
@@ -61,9 +62,9 @@ pub(crate) fn listed<K: Keeper>(
     keeper.messages()
 }
 
-/// What is known of the messages: what was known already, or else the keeper gathers it. The desk
-/// stays as it is, and so does what a crash leaves of it. The roster is an argument for the proof
-/// alone.
+/// What is known of the messages: what was known already, or else what the keeper gathers. The desk
+/// stays as it is, and a crash leaves nothing that it might not have left before. The roster is an
+/// argument for the proof alone.
 pub(crate) fn known_of<K: Keeper>(
     _roster: &Roster,
     known: Option<Known>,
@@ -101,7 +102,7 @@ pub(crate) fn known_of<K: Keeper>(
     }
 }
 
-/// One more than there were, if they were counted and one more is a number.
+/// One more than the count, if there is a count and the sum does not overflow.
 fn one_more(count: Option<usize>) -> Option<usize>
     ensures { (set : List AnyMessage) (m : AnyMessage) → ¬ Contains set m
         → IsCounted set count → IsCounted (set ++ m ∷ []) result }
@@ -130,8 +131,9 @@ fn with_message(known: Option<Known>, message: &Message) -> Option<Known>
     }
 }
 
-/// What is known once the keeper was to add the message: the same where it was held already, that
-/// with one message more where it is new, and nothing where it was refused.
+/// What is known after the keeper was asked to add the message: the same where the message was held
+/// already, what is known with one message more where the message is new, and nothing where the
+/// keeper refused the message.
 pub(crate) fn known_after(
     known: Option<Known>,
     message: &Message,

@@ -19,14 +19,16 @@ use std::alloc::Global;
 /// Where a desk comes from.
 #[derive(Drop)]
 pub(crate) enum Origin {
-    /// It was there, and this is known of its messages, and so many they are, if the look told it.
+    /// The desk was there: what is known of its messages, and how many messages there are, each if
+    /// the look told it.
     Found(Option<Gathered>, Option<usize>),
-    /// It was made, without messages.
+    /// The desk was made, without messages.
     Made,
 }
 
-/// What is known of a desk's messages at first: a desk that was made has none, and for one that was
-/// found it is what the look told, or else it is gathered when it is asked for.
+/// What is known of a desk's messages at first: for a desk that was made, that there are none, and
+/// for a desk that was found, what the look told. Where the look told nothing, the keeper gathers
+/// it once a question needs it.
 pub(crate) fn known_at_first(alloc: Global, origin: Origin) -> Option<Known>
     ensures { IsKnownAtFirst origin result }
 {
@@ -62,8 +64,8 @@ fn origin_of(desk: FoundDesk) -> Origin
     Origin::Found(known, count)
 }
 
-/// Finds the keeper's desk of this roster's text, or makes one where the keeper keeps nothing of a
-/// desk's.
+/// Finds the keeper's desk of this roster's text, or makes one where the keeper keeps no part of a
+/// desk.
 pub(crate) fn find_or_make<K: Keeper>(keeper: &mut K, text: &str) -> Result<Origin, Refusal>
     ensures first { K.is_up keeper.new → IfOk result (IsOriginOf (K.holds keeper.new)) }
     ensures desk { K.is_up keeper.new → OnOk result (K.is_desk keeper.new) }

@@ -1,5 +1,5 @@
-//! The questions to a desk. Each is answered from the set of messages that it holds, and changes
-//! nothing of the desk.
+//! The questions to a desk. Each question is answered from the set of messages that the desk holds,
+//! and changes nothing in the desk.
 
 ghost use Rattle.std.specs.Prelude.{◌≡◌, ◌⊎◌, ◌↔◌, ◌<◌, ◌≤◌, List, false, map, length};
 ghost use Rattle.std.specs.Prelude.{IfOk, IfErr, MatchResult, Err, string_bytes};
@@ -46,9 +46,9 @@ impl<K: Keeper> Desk<K> {
         Ok(status)
     }
 
-    /// The messages about the asker's request under the number, in no order that is promised; none
-    /// exactly if different requests have the name, so that all messages have to be read. It costs
-    /// what the name has.
+    /// The messages about the asker's request under the number, in no order that is promised. The
+    /// answer is none exactly if different requests have the name: then all messages have to be
+    /// read. Once the messages are gathered, the call costs what the name has.
     pub fn messages_about(&mut self, asker: &str, no: u32) -> Result<Option<Vec<Message>>, Refusal>
         ensures about { (set : List AnyMessage)
             → K.is_up self.new.keeper → Lists (K.holds self.old.keeper) set
@@ -126,8 +126,8 @@ impl<K: Keeper> Desk<K> {
     }
 
     /// What a report at the moment looks at: the summaries of the grants in force then and of the
-    /// names under which an approval may not count, and the parked texts. After a first report it
-    /// costs what these have, however much has ended.
+    /// names under which an approval may not count, and the parked texts. After a first report the
+    /// call costs what these have, however much has ended.
     pub fn holdings_at(&mut self, at: Moment) -> Result<Holdings, Refusal>
         ensures reviewed { (set : List AnyMessage)
             → K.is_up self.new.keeper → Lists (K.holds self.old.keeper) set → IfOk result
@@ -151,15 +151,15 @@ impl<K: Keeper> Desk<K> {
     /// `UnknownHost` comes exactly where the roster has no such host, `TooManyRules` exactly where
     /// the lines after the base are more than 8,192.
     pub fn host_file(&mut self, host: &HostName) -> Result<String, Refusal>
-        // It is the file, and so it gives the rights.
+        // The text is the host's file, and so it gives the rights.
         ensures file { (set : List AnyMessage) → K.is_up self.new.keeper
             → Lists (K.holds self.old.keeper) set → IfOk result
             (λ s. IsHostFile self.old.roster.says self.old.base set host.now (string_bytes s)) }
         ensures rights { (set : List AnyMessage) → K.is_up self.new.keeper
             → Lists (K.holds self.old.keeper) set → IfOk result
             (λ s. GivesRights self.old.roster.says self.old.base set host.now (string_bytes s)) }
-        // For a host of the roster it is refused where the lines are too many, and not where they
-        // are few.
+        // For a host of the roster the call is refused where the lines are too many, and not where
+        // they are few.
         ensures unknown { (result ≡ Err refusal.UnknownHost)
             ↔ (is_among self.old.roster.says.hosts host.now ≡ false) }
         ensures few { (set : List AnyMessage) (ls : List Line) → K.is_up self.new.keeper
@@ -177,20 +177,21 @@ impl<K: Keeper> Desk<K> {
         self.file_of(host, None)
     }
 
-    /// The same text without the lines that end before the moment; one that ends at the moment
-    /// stays.
+    /// The text of the host's file without the lines that end before the moment; a line that ends
+    /// at the moment stays.
     ///
     /// `UnknownHost` comes exactly where the roster has no such host, `TooManyRules` exactly where
     /// the lines that are left are more than 8,192.
     pub fn host_file_after(&mut self, host: &HostName, moment: Moment) -> Result<String, Refusal>
-        // It is that file, and so it gives the rights from the moment on.
+        // The text is that file, and so it gives the rights from the moment on.
         ensures file { (set : List AnyMessage) → K.is_up self.new.keeper
             → Lists (K.holds self.old.keeper) set → IfOk result (λ s. IsHostFileAfter
             self.old.roster.says self.old.base set host.now moment (string_bytes s)) }
         ensures rights { (set : List AnyMessage) → K.is_up self.new.keeper
             → Lists (K.holds self.old.keeper) set → IfOk result (λ s. GivesRightsAfter
             self.old.roster.says self.old.base set host.now moment (string_bytes s)) }
-        // For a host of the roster it is refused where too many lines are left, not where few are.
+        // For a host of the roster the call is refused where too many lines are left, not where few
+        // are.
         ensures unknown { (result ≡ Err refusal.UnknownHost)
             ↔ (is_among self.old.roster.says.hosts host.now ≡ false) }
         ensures few { (set : List AnyMessage) (ls : List Line)

@@ -20,8 +20,8 @@ use roster::Roster;
 use std::alloc::Global;
 use sudo_policy::Policy;
 
-/// Makes a desk of this roster's text where the keeper keeps nothing of a desk's, and else gives
-/// the text to the desk that it keeps.
+/// Makes a desk of this roster's text where the keeper keeps no part of a desk, and else gives the
+/// text to the desk that the keeper keeps.
 pub(crate) fn make_or_replace<K: Keeper>(keeper: &mut K, text: &str) -> Result<(), Refusal>
     ensures desk { K.is_up keeper.new → OnOk result (K.is_desk keeper.new) }
     ensures roster { K.is_up keeper.new → OnOk result (K.roster keeper.new ≡ text.now) }
@@ -62,20 +62,20 @@ pub(crate) fn make_or_replace<K: Keeper>(keeper: &mut K, text: &str) -> Result<(
 }
 
 impl<K: Keeper> Desk<K> {
-    /// Gives the desk that the keeper keeps this roster, in one commit, or makes one without
-    /// messages where it keeps nothing of a desk's.
+    /// Gives this roster to the desk that the keeper keeps, in one commit. Where the keeper keeps
+    /// no part of a desk, the call makes a desk without messages.
     ///
     /// The messages stay, also those that the roster does not admit: the answers are those of the
     /// set under the new roster. A desk of an older form becomes one of today's.
     ///
     /// `BaseTooLarge` comes exactly where the base is past a limit of the desk. Else `NotADesk`
-    /// comes where the keeper has something of a desk's and no desk; `Storage` and `NoMemory`
-    /// wherever the storage or memory refuses. A refusal hands the keeper back, with what it keeps
-    /// as it was.
+    /// comes where the keeper has something under a desk's names that is not a desk. `Storage` and
+    /// `NoMemory` come wherever the storage or memory refuses. A refusal hands the keeper back, and
+    /// what the keeper keeps stays as it was.
     ///
     /// Whenever the call ends, a crash leaves the whole desk as it was, or the whole desk with the
-    /// new roster's text; if the keeper was empty, it leaves nothing, or a whole desk without
-    /// messages. After Ok a crash leaves the desk with the new roster's text.
+    /// new roster's text; if the keeper was empty, a crash leaves no part of a desk, or a whole
+    /// desk without messages. After Ok a crash leaves the desk with the new roster's text.
     pub fn rebuild(
         alloc: Global,
         roster: Roster,
@@ -89,7 +89,7 @@ impl<K: Keeper> Desk<K> {
         ensures too_large { IfErr result (λ r. (r.0 ≡ refusal.BaseTooLarge) ↔ (¬ FitsBase base)) }
         ensures refused { IfErr result (λ r. K.is_up r.1 → IsWant r.0 ⊎ RefusesToRebuild
             (FitsBase base) (K.is_empty keeper) (K.is_desk keeper) (K.is_old keeper) r.0) }
-        // So no other roster's text is refused, and no older form.
+        // So neither a desk of another roster's text nor a desk of an older form is refused.
         ensures err { IfErr result
             (λ r. IsWant r.0 ⊎ (r.0 ≡ refusal.NotADesk) ⊎ (r.0 ≡ refusal.BaseTooLarge)) }
         ensures unchanged { IfErr result (λ r. K.is_up r.1 → K.is_same keeper r.1) }
@@ -116,8 +116,8 @@ impl<K: Keeper> Desk<K> {
         ensures durable { IfOk result (λ d. K.is_up d.keeper
             → LeavesOnly (K.may_leave d.keeper) (IsDeskOf roster.text (K.holds d.keeper))) }
     {
-        // What a refusal does not hand back is dropped by calls: at an exit that drops it in line,
-        // each of its fields would be proved again.
+        // Calls drop what a refusal does not hand back: at an exit that drops a value in line, each
+        // of the value's fields would be proved again.
         if !fits_base(&base) {
             drop(base);
             drop(roster);

@@ -18,10 +18,10 @@ use sudo_policy::Policy;
 
 /// Gives a desk up, and rebuilds it with a roster.
 ///
-/// What the desk held is held, whatever the roster admits. So if roster and base are those that the
-/// desk had, nothing changes: it has the same roster, and answers every question as before. It is
-/// refused only for a base past the limits, or for want of memory or of the storage; and a refusal
-/// leaves what was held.
+/// What the desk held stays held, whatever the roster admits. So if the roster and the base are
+/// those that the desk had, nothing changes: the desk has the same roster, and answers every
+/// question as before. The call is refused only for a base past the limits, or for want of memory
+/// or of the storage; and a refusal leaves what was held.
 pub fn rebuild_again<K: Keeper>(
     alloc: Global,
     desk: Desk<K>,
@@ -46,9 +46,9 @@ pub fn rebuild_again<K: Keeper>(
 /// The result is what rebuilding with the last roster alone promises: the same messages, and the
 /// last roster's text.
 ///
-/// It is refused as `rebuild` refuses the first, or for a last base past the limits, or for want of
-/// memory or of the storage. What is kept is then as it was, or the desk of the first roster's
-/// text.
+/// The call is refused as `rebuild` refuses the first roster and base, or for a last base past the
+/// limits, or for want of memory or of the storage. What is kept is then as it was, or the desk of
+/// the first roster's text.
 pub fn rebuild_twice<K: Keeper>(
     alloc: Global,
     first: (Roster, Policy),

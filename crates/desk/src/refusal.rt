@@ -12,7 +12,7 @@ use std::error::Error;
 use std::fmt;
 use sudo_words::NoMemory;
 
-/// Why the desk refuses. It is shown as its code and name.
+/// Why the desk refuses. A refusal is shown as its code and name.
 #[derive(Clone, Copy, Debug, PartialEq, Eq)]
 pub enum Refusal {
     /// The roster has no such relay.
@@ -31,7 +31,7 @@ pub enum Refusal {
     TooManyRules,
     /// The keeper has a desk of another roster's text.
     RosterChanged,
-    /// The keeper has something of a desk's, and no desk.
+    /// The keeper has something under a desk's names that is not a desk.
     NotADesk,
     /// The keeper has a desk of an older form, which is to be rebuilt.
     OldSchema,
@@ -62,7 +62,8 @@ impl Refusal {
     ghost use Rattle.sudo_words.specs.Bytes.{newline};
     ghost use Rattle.desk.specs.Refusals.{refusal_text};
 
-    /// Its code and name, and a newline. A response can say it where memory ran out.
+    /// The refusal's code and name, and a newline. A response can say this line where memory ran
+    /// out.
     pub fn line(self) -> &'static str
         ensures { result.now ≡ refusal_text self ++ newline ∷ [] }
     {

@@ -21,8 +21,8 @@ use sudo_policy::Policy;
 /// Gives the desk's keeper up, and opens a desk over it again.
 ///
 /// The new desk holds what the desk held, and over the same base answers every question alike.
-/// Where the roster's text is the one that the desk had, and the base is within the limits, it is
-/// refused only for want of memory or of the storage; and a refusal leaves what was held.
+/// Where the roster's text is the one that the desk had, and the base is within the limits, the
+/// call is refused only for want of memory or of the storage; and a refusal leaves what was held.
 pub fn restart<K: Keeper>(
     alloc: Global,
     desk: Desk<K>,
@@ -46,8 +46,8 @@ pub fn restart<K: Keeper>(
 /// finds what this one kept.
 ///
 /// The new desk holds what the desk held, and over the same base answers every question alike.
-/// Where the roster's text is the one that the desk had, and the base is within the limits, it is
-/// refused only for want of memory or of the storage; and a refusal leaves what was held.
+/// Where the roster's text is the one that the desk had, and the base is within the limits, the
+/// call is refused only for want of memory or of the storage; and a refusal leaves what was held.
 pub fn restart_over<S: Alter>(
     alloc: Global,
     desk: Desk<SqliteKeeper<S>>,

@@ -20,16 +20,18 @@ use roster::Roster;
 use std::alloc::Global;
 use sudo_policy::Policy;
 
-/// Opens a desk over a keeper that keeps what a crash may leave of another keeper, of whatever
-/// kind, which stopped and is an argument for the proof alone.
+/// Opens a desk over a keeper that keeps what a crash may leave of another keeper, which stopped.
+/// The two keepers may be of different kinds; the one that stopped is an argument for the proof
+/// alone.
 ///
 /// The clauses `crash`, `lasting` and `durable` of the call that was stopped say what may be left.
 /// So where that call had acknowledged, or the stop came between calls, the desk holds all that was
-/// acknowledged, and over the same base answers every question alike; where it stopped in a
-/// delivery, the desk holds that with the message or without it; where it stopped in or after many
-/// deliveries, of which some failed, the desk holds all that was acknowledged, and at most one
-/// message more; and where it stopped while a desk was made, opened or rebuilt, nothing is lost. It
-/// is refused only for the base, or for want of memory or of the storage.
+/// acknowledged, and over the same base answers every question alike; where the stop came in a
+/// delivery, the desk holds what was held before, with the message or without it; where the stop
+/// came in or after many deliveries, of which some failed, the desk holds all that was
+/// acknowledged, and at most one message more; and where the stop came while a desk was made,
+/// opened or rebuilt, nothing is lost. The opening is refused only for the base, or for want of
+/// memory or of the storage.
 pub fn open_after_stop<K: Keeper, L: Keeper>(
     alloc: Global,
     _stopped: &K,

@@ -107,7 +107,7 @@ pub says_port : (host port text : Text) → text ≡ host ++ codes ":" ++ port �
 says_port host port text is named numbered other =
     (refl, record { host = host; port = port; is = is; named = named; numbered = numbered }, other_text text other)
 
--- ---- texts that say none
+-- ---- texts that say no address
 
 pub no_path : (text path : Text) → text ≡ codes "unix:" ++ path → BeginsAsSocket text → is_socket_path path ≡ false → SaysNoAddress text
 no_path text path same socket bad (Tcp place) says = absurd (says.2 socket)

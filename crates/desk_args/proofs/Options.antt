@@ -1,4 +1,4 @@
--- The value of an option, or that it is left out.
+-- The value of an option, or its absence.
 use Rattle.std.proofs.Common.{◌≡◌, ℕ, Bool, true, false, List, Option, Some, None, ap, codes, inl, inr, refl, subst, sym, ◌∙◌}
 use Rattle.std.proofs.lemmas.Bool.{cases_Bool}
 use Rattle.std.specs.Str.Parse.{digits_value}

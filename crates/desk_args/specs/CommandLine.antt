@@ -206,7 +206,7 @@ abbrev pub SaysSync : Option Text → Sync → Type 0
 SaysSync given Once = (given ≡ None) ⊎ (given ≡ Some (codes "once"))
 SaysSync given Twice = given ≡ Some (codes "twice")
 
--- the option, or that it is left out, says how often a commit syncs
+-- the option's value, or its absence, says how often a commit syncs
 abbrev pub HasSync : Text → List Row → Sync → Type 0
 HasSync id rows sync = SaysSync (first_of id rows) sync
 
@@ -378,7 +378,7 @@ pub record IsBadLine (words : List Text) : Type 0 where
 abbrev pub HasSome : Text → List Row → Type 0
 HasSome id rows = is_some (first_of id rows) ≡ true
 
--- each of these arguments has one
+-- each of these arguments has a value
 abbrev pub HaveSome : List Text → List Row → Type 0
 HaveSome [] rows = Unit {0}
 HaveSome (id ∷ ids) rows = HasSome id rows × HaveSome ids rows

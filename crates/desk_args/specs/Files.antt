@@ -7,7 +7,8 @@ use Rattle.desk_args.specs.declared.task.Job.{Job}
 use Rattle.desk_args.specs.declared.task.Job.TheVariants.{Beyond, Check, Decide, Deliver}
 use Rattle.desk_args.specs.declared.task.Job.TheVariants.{Print, Rebuild, Review, Serve}
 
--- their paths, in the order of the job's words: a job on a desk reads its roster and its base
+-- the paths of the files that a job reads, in the order of the job's words: a job on a desk reads
+-- its roster and its base
 abbrev pub paths_of : Job → List Text
 paths_of (Check file) = file ∷ []
 paths_of (Decide file run) = file ∷ []
@@ -18,6 +19,6 @@ paths_of (Review places at) = places.roster ∷ places.base ∷ []
 paths_of (Rebuild places) = places.roster ∷ places.base ∷ []
 paths_of (Serve places addr requests) = places.roster ∷ places.base ∷ []
 
--- the first, and the second if there is one
+-- the first path, and the second if there is one
 abbrev pub listed : FilePaths → List Text
 listed p = p.first.now ∷ option_to_list (option_map (λ path. path.now) p.second)

@@ -19,7 +19,7 @@ is_operand [] = true
 is_operand (b ∷ []) = true
 is_operand (b ∷ c ∷ rest) = not (b == 45)
 
--- each word of a run is of its form, and it has at most 64 arguments
+-- each word of a run is of its form, and the run has at most 64 arguments
 pub record HasForms (run : Invocation) : Type 0 where
   pub user : is_name run.user ≡ true
   pub host : is_host_name run.host ≡ true

@@ -21,7 +21,7 @@ const MOST_DIGITS: usize = 5;
 /// The greatest port.
 const MOST_PORT: u64 = 65_535;
 
-/// The most bytes of a socket's path: its address has 108, and a null byte ends it (unix(7)).
+/// The most bytes of a socket's path: the address has 108, and a null byte ends the path (unix(7)).
 const MOST_PATH: usize = 107;
 
 fn is_port(text: &[u8]) -> bool
@@ -69,7 +69,7 @@ fn path_of(text: &str) -> Option<&str>
     }
 }
 
-/// Where the text says to listen. `BadWord` comes where it has neither form.
+/// Where the text says to listen. `BadWord` comes where the text has neither form of an address.
 pub fn read_address(alloc: Global, text: &str) -> Result<Address, JobFault>
     ensures found { IfOk result (SaysAddress text.now) }
     ensures only { (a : Listened) → SaysAddress text.now a

@@ -67,7 +67,7 @@ pub fn delivers_with_two_syncs()
         }) (codes "web")) }
 {}
 
-/// A command says one number of syncs at most, and once where it has no option that says it.
+/// A command says at most one number of syncs, and says one sync where the option is left out.
 pub fn one_sync()
     ensures unique { (given : Option Word) (a b : Often) → SaysSync given a → SaysSync given b
         → a ≡ b }
@@ -93,9 +93,9 @@ pub fn worked_addresses()
         (Unix (codes "/" ++ replicate 106 97)) }
 {}
 
-/// Texts that say none: without a colon, a host or a port; with a port of letters, of six digits,
-/// past the greatest, and with a sign; with a path that is relative, is `/` alone, ends with a
-/// slash, has a null byte, or has 108 bytes, also before a port.
+/// Texts that say no address: without a colon, a host or a port; with a port of letters, of six
+/// digits, past the greatest, and with a sign; with a path that is relative, is `/` alone, ends
+/// with a slash, has a null byte, or has 108 bytes, also before a port.
 pub fn worked_refusals()
     ensures empty { SaysNoAddress [] }
     ensures word { SaysNoAddress (codes "nonsense") }

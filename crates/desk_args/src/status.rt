@@ -6,15 +6,15 @@ ghost use Rattle.desk_args.specs.Ends.{exit_status};
 /// How a job ends.
 #[derive(Clone, Copy, Debug, PartialEq, Eq)]
 pub enum ExitStatus {
-    /// It is done, and what was asked for is allowed.
+    /// The job is done; if it was to decide, the command is allowed.
     Done,
-    /// It is done: the command is denied.
+    /// The job is done: the command is denied.
     Denied,
-    /// It is done, and what was asked for is found.
+    /// The job is done: the first policy allows something that the second refuses.
     Found,
-    /// It is done: lines of the input are refused, and the answer says why.
+    /// The job is done: lines of the input are refused, and the answer says why.
     LinesRefused,
-    /// It is refused, and the standard error says why.
+    /// The job is refused, and the standard error says why.
     Refused,
 }
 

@@ -18,7 +18,8 @@ pub enum Store {
 pub enum Sync {
     /// Once: what was committed is kept if, after a crash, each byte is the old or the new one.
     Once,
-    /// Twice: it is kept whatever a write that a crash broke off has left where it wrote.
+    /// Twice: what was committed is kept, whatever a write that a crash broke off has left where it
+    /// wrote.
     Twice,
 }
 
@@ -38,9 +39,9 @@ pub struct Places {
     pub roster: Text,
     /// The path of the base policy's file.
     pub base: Text,
-    /// Where its messages are kept.
+    /// Where the desk's messages are kept.
     pub store: Store,
-    /// How often a commit syncs them.
+    /// How often a commit syncs the messages.
     pub sync: Sync,
 }
 

@@ -29,7 +29,7 @@ impl Text {
         })
     }
 
-    /// Its text.
+    /// The text, as a string slice.
     pub fn as_str(&self) -> &str
         ensures { result.now ≡ self.now }
     {

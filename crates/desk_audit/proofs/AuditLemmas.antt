@@ -52,7 +52,7 @@ lists_same S T list same lists m = (λ held. (lists m).0 ((same m).1 held), λ t
 -- ---- questions, one after the other
 
 module _ {K : Type 0} (g : Ghosts K) (a b c : K) where
-  -- both commit nothing
+  -- both questions commit nothing
   pub adds_both : (g.is_clean c → g.is_clean b) → (g.is_clean b → AddsOnly (g.may_leave a) (g.may_leave b) (λ _. ⊥))
       → (g.is_clean c → AddsOnly (g.may_leave b) (g.may_leave c) (λ _. ⊥)) → g.is_clean c → AddsOnly (g.may_leave a) (g.may_leave c) (λ _. ⊥)
   adds_both was first second clean left may =
@@ -186,7 +186,7 @@ module _ (f : RosterFields Cmnd) (set list : List Message) (name : RequestName) 
         status = is.status;
       }
 
-  -- What the messages about a name say is what is told of it.
+  -- What the messages about a name say is what is told of the name.
   pub of_its_messages : (entries : List AuditEntry) → AreEntriesOf f set list entries → AreOfName f set name entries
   of_its_messages [] are =
       inr ((λ m there named. let found = are.all m ((about m).1 (there, named)) in no_member found.0 found.1), refl)

@@ -1,4 +1,4 @@
--- What an audit tells of a set has one text; and what it tells of a name is what the whole audit has of it.
+-- What an audit tells of a set has one text; and what is told of a name is what the whole audit has of that name.
 use Rattle.std.proofs.Common.{◌≡◌, ◌⊎◌, ◌&&◌, ◌||◌, ℕ, Bool, true, false, cond, Option, Some, None, List, [], ◌∷◌, map}
 use Rattle.std.proofs.Common.{refl, sym, ap, ◌∙◌, subst, inl, inr}
 use Rattle.std.specs.List.{Contains, list_any}
@@ -101,7 +101,7 @@ module _ (f : RosterFields Cmnd) (set : List Message) where
   one_audit : (xs ys : List AuditEntry) → IsAudit f set xs → IsAudit f set ys → map parts_of xs ≡ map parts_of ys
   one_audit xs ys x y = same_parts xs ys (same_names xs ys x y) x.each y.each
 
--- ---- what is chosen of it
+-- ---- what is chosen of the audit
 
 span_same : (pick : Pick) (a b : About) (s : Option Status) → a.requests.items ≡ b.requests.items → a.verdicts.items ≡ b.verdicts.items
     → has_span_of pick a s ≡ has_span_of pick b s
@@ -220,7 +220,7 @@ module _ (f : RosterFields Cmnd) (set : List Message) (asker : List ℕ) (number
         ap (λ (b : Bool). cond b (x ∷ filter (is_named asker number) xs) (filter (is_named asker number) xs)) is ∙ none.1,
       )
 
-  -- the audit's entry of the name is what is told of it
+  -- the audit's entry of the name is what is told of the name
   pub named_entries : (xs : List AuditEntry) → IsAudit f set xs → AreOfName f set the_name (filter (is_named asker number) xs)
   named_entries xs is = by (found xs is.in_order)
     where

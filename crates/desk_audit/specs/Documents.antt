@@ -26,7 +26,7 @@ AreOfName f messages name entries =
     ((e : AuditEntry) × TellsName f messages e × (e.name ≡ name) × (entries ≡ e ∷ []))
     ⊎ (((m : Message) → Contains messages m → name_in m ≡ name → ⊥) × (entries ≡ []))
 
--- the same as a document
+-- the name's entry, or none, as a document
 pub record IsNameText (f : RosterFields Cmnd)
     (messages : List Message) (name : RequestName) (text : List ℕ) : Type 0 where
   pub entries : List AuditEntry

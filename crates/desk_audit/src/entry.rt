@@ -47,7 +47,7 @@ pub(crate) fn entries_of<K: Keeper>(
         → K.is_desk desk.old.keeper → Lists (K.holds desk.old.keeper) set → Gathers list all
         → IfOk result (λ entries. AreEntriesOf desk.old.roster.says set list entries.items) }
     ensures err { IfErr result IsWant }
-    // Without a name the keeper is not asked, and so it is up only if it was.
+    // Without a name the keeper is not asked, and so the keeper is up only if it was up before.
     ensures asks { (K.is_clean desk.old.keeper → K.is_up desk.old.keeper)
         → OnlyAsks K.Keeper desk.old desk.new result }
 {
@@ -62,8 +62,8 @@ pub(crate) fn entries_of<K: Keeper>(
 /// The entries of all names that somebody asks under or that a verdict is about, in the order of
 /// names, each once and with all its messages.
 ///
-/// Each status is what the messages about the name come to. It is refused only for want of memory
-/// or of storage. Nothing in the desk changes.
+/// Each status is what the messages about the name come to. The audit is refused only for want of
+/// memory or of storage. Nothing in the desk changes.
 pub fn audit<K: Keeper>(desk: &mut Desk<K>) -> Result<Vec<AuditEntry>, Refusal>
     ensures audit { (set : List AnyMessage) → K.is_up desk.new.keeper
         → Lists (K.holds desk.old.keeper) set

@@ -17,7 +17,7 @@ use sudo_words::{NoMemory, Word};
 /// What is said about each name, in the order of names.
 pub(crate) type ByName = BTreeMap<RequestName, About>;
 
-/// Messages by their texts, in the byte order of these.
+/// Messages by their texts, in the byte order of the texts.
 type ByText = BTreeMap<Word<AnyText>, Message>;
 
 /// No messages about a name.
@@ -41,7 +41,7 @@ fn name_of(message: &Message) -> Result<RequestName, AllocError>
     }
 }
 
-/// Adds a message about the name; its text comes after those of the set.
+/// Adds a message about the name; the message's text comes after the texts of the set.
 fn add(about: &mut About, message: Message) -> Result<(), NoMemory>
     ensures { (set : List AnyMessage) → IsBehind set message
         → TellsMessages set (name_in message) about.old
@@ -65,7 +65,7 @@ fn first(alloc: Global, message: Message) -> Result<About, NoMemory>
     Ok(about)
 }
 
-/// Adds a message; its text comes after those of the set.
+/// Adds a message; the message's text comes after the texts of the set.
 fn put(alloc: Global, all: &mut ByName, message: Message) -> Result<(), NoMemory>
     ensures { (set : List AnyMessage) → IsBehind set message → Gathers set all.old
         → OnOk result (Gathers (set ++ message ∷ []) all.new) }

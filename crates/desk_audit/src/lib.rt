@@ -2,9 +2,9 @@
 //! of these counted and why the others did not, who may still approve it, and on which hosts it is
 //! in force.
 //!
-//! A clause of `audit` says which names it tells, with which messages and which status; one of
-//! `document` and of `document_of` that the text is the document of what is told; and one of `text`
-//! that it is the text for a terminal.
+//! A clause of `audit` says which names are told, with which messages and which status. A clause of
+//! `document` and one of `document_of` say that the text is the document of what is told. A clause
+//! of `text` says that its text is the one for a terminal.
 #![tactic(auto)]
 
 mod any_text;

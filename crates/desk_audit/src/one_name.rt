@@ -1,4 +1,5 @@
-//! What is told of one name, from its messages alone where these are known without a look at all.
+//! What is told of one name: from the name's messages alone, where these are known without reading
+//! all messages.
 
 ghost use Rattle.std.specs.Prelude.{◌≡◌, List, IfOk, IfErr, filter};
 ghost use Rattle.messages.specs.declared.message.Message.{Message as AnyMessage};
@@ -28,7 +29,7 @@ fn named_among(entries: Vec<AuditEntry>, asker: &str, no: u32) -> Vec<AuditEntry
     entries
 }
 
-/// The name's entry, or none where no message is about it, from all messages.
+/// The name's entry, made from all messages, or none where no message is about the name.
 fn entries_in_audit<K: Keeper>(
     desk: &mut Desk<K>,
     asker: &str,
@@ -44,8 +45,8 @@ fn entries_in_audit<K: Keeper>(
     Ok(named_among(audit(desk)?, asker, no))
 }
 
-/// The name's entry, or none where no message is about it. It reads the name's messages alone,
-/// unless different requests have the name.
+/// The name's entry, or none where no message is about the name. The call reads the name's messages
+/// alone, unless different requests have the name.
 pub(crate) fn entries_about<K: Keeper>(
     desk: &mut Desk<K>,
     asker: &str,

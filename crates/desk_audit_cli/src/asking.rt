@@ -9,7 +9,7 @@ use desk_commands::{JobRefusal, open_over};
 use desk_process::{MOST_POLICY, MOST_ROSTER, read_file};
 use roster::RosterFault;
 
-/// The bytes of a file, but no more than one over the most.
+/// The bytes of a file, but at most one byte more than `most`.
 fn file(rt: &HostRuntime, path: &str, most: u64) -> Result<Vec<u8>, Trouble> {
     match read_file(rt, path, most) {
         Ok(bytes) => Ok(bytes),
@@ -17,7 +17,8 @@ fn file(rt: &HostRuntime, path: &str, most: u64) -> Result<Vec<u8>, Trouble> {
     }
 }
 
-/// The bytes of a roster's file. One that is much too long is refused unread, as out of range.
+/// The bytes of a roster's file. A file that is much too long is refused as out of range, and its
+/// text is not read as a roster.
 fn roster_file(rt: &HostRuntime, path: &str) -> Result<Vec<u8>, Trouble> {
     let bytes = file(rt, path, MOST_ROSTER)?;
     if bytes.len() as u64 <= MOST_ROSTER {

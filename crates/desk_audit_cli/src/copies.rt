@@ -1,5 +1,5 @@
-//! A store, copied into memory: it is only read, by anybody who may read its files, and also while
-//! a desk has it open.
+//! A store, copied into memory: the store is only read, by anybody who may read its files, and also
+//! while a desk has the store open.
 
 ghost use Rattle.std.specs.Prelude.{IfOk, IsTrue};
 ghost use Rattle.sqlite_disk.specs.Memory.{memory_is_usable};
@@ -59,8 +59,8 @@ fn read_pair(rt: &HostRuntime, path: &str, log_path: &str) -> Result<Pair, Troub
     Ok(Pair { db, log })
 }
 
-/// The header of a log, or what is there of it: each use of the log begins with another one
-/// (`SQLite`'s file format, section 4.1, 'WAL File Format').
+/// The header of a log, or as many bytes as the log has: each use of the log begins with another
+/// header (`SQLite`'s file format, section 4.1, 'WAL File Format').
 fn log_header(rt: &HostRuntime, log_path: &str) -> Result<Vec<u8>, Trouble> {
     match read_file(rt, log_path, HEADER_LEN - 1) {
         Ok(bytes) => Ok(bytes),
@@ -77,8 +77,8 @@ fn begins_with(log: &[u8], header: &[u8]) -> bool {
     }
 }
 
-/// Whether what was read of both files is what they held at one moment, where this was the log's
-/// header before.
+/// Whether the bytes that were read of both files are what the files held at one moment, where
+/// `header` was the log's header before the reading.
 fn is_settled(
     rt: &HostRuntime,
     path: &str,
@@ -97,15 +97,16 @@ fn is_settled(
     Ok(again.db.as_slice() == read.db.as_slice() && again.log.as_slice() == read.log.as_slice())
 }
 
-/// What both files held at one moment. They are read until they were not changed meanwhile, as far
-/// as it matters.
+/// What both files held at one moment. Both are read until neither was changed meanwhile, as far as
+/// it matters.
 ///
-/// While a log is in use, who writes appends to it, and what goes from it into the file stays in it
-/// as well: it is begun anew, with another header, only once all of it is in the file. So where the
-/// header is the same before the file is read and after the log is, what the file lacks is in the
-/// log that was read behind it; of a commit that was being written only a part may be there, which
-/// has no meaning for who opens the files. A process that was killed then would have left them like
-/// that. Where no log is in use, both are read until two readings in a row are the same.
+/// While a log is in use, a writer appends to the log, and what goes from the log into the file
+/// stays in the log as well: the log is begun anew, with another header, only once the file has all
+/// that the log has. So where the header is the same before the file is read and after the log is
+/// read, the log that was read after the file has what the file lacks. The log may have only a part
+/// of a commit that was being written, which has no meaning for a program that opens the files: a
+/// process that was killed at that moment would have left the files like that. Where no log is in
+/// use, both files are read until two readings in a row are the same.
 fn settled(rt: &HostRuntime, path: &str) -> Result<Pair, Trouble> {
     let alloc = rt.alloc();
     let log_path = format!(in alloc; "{path}-wal")?;
@@ -144,7 +145,7 @@ fn keeper_of(alloc: Global, path: &str, pair: &Pair) -> Result<Copied, Trouble> 
     }
 }
 
-/// The keeper, unless it keeps nothing of a desk's: that is `NoStore`. Something that is not a desk
+/// The keeper, unless it keeps no part of a desk: that is `NoStore`. Something that is not a desk
 /// is left to the opening.
 fn looked(rt: &HostRuntime, path: &str, mut keeper: Copied) -> Result<Copied, Trouble> {
     match keeper.look() {
@@ -155,8 +156,8 @@ fn looked(rt: &HostRuntime, path: &str, mut keeper: Copied) -> Result<Copied, Tr
     }
 }
 
-/// A keeper over a copy of the store at the path. If there is no file at the path, or nothing of a
-/// desk's in it, the path is named; nothing is created there.
+/// A keeper over a copy of the store at the path. If there is no file at the path, or the file has
+/// no part of a desk, the trouble names the path; nothing is created there.
 pub(crate) fn copy_of(rt: &HostRuntime, path: &str) -> Result<Copied, Trouble> {
     let pair = settled(rt, path)?;
     let keeper = keeper_of(rt.alloc(), path, &pair)?;

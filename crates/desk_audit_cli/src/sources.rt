@@ -7,7 +7,8 @@ use std::alloc::Global;
 use std::io::{BufReader, Read, Write};
 use std::mem;
 
-/// The standard input; of a line that is too long for a message, no more than shows that.
+/// The bytes of the standard input. A line that is too long for a message is cut short, but is
+/// still too long.
 fn whole(rt: &HostRuntime) -> Result<Vec<u8>, Trouble> {
     let Ok(reader) = BufReader::new(rt.alloc(), rt.stdin()) else {
         return Err(Trouble::NoMemory);

@@ -1,4 +1,5 @@
-//! What only a call shows. What the program answers is in the cases that `make cases` runs.
+//! Tests of what only a call shows. What the program answers is in the cases that `make cases`
+//! runs.
 
 use messages::{Message, MessageFault, VerdictKind, read_message};
 use std::alloc::Global;
@@ -12,7 +13,7 @@ mod streams;
 const MOMENTS: &str =
     "19700101000000Z 1970010100Z 19700101000001Z 20000229000000Z 2015120108Z 20240229235959Z 20260105090000Z 202601050900Z 2026010509Z 202602281234Z 20381231235959Z 20991231235959Z 20260105100000+0100 2026010504-0500 19691231230000-0100 20991231235959+0000 20991231235959-0000 2100010100+0001";
 
-/// Their seconds, as another program gives them.
+/// The seconds of `MOMENTS`, as another program gives them.
 const SECONDS: &str =
     "0 0 1 951782400 1448956800 1709251199 1767603600 1767603600 1767603600 1772282040 2177452799 4102444799 1767603600 1767603600 0 4102444799 4102444799 4102444740 ";
 

@@ -1,4 +1,4 @@
--- What a job comes to, and what is written of it.
+-- What a job comes to, and what is written of the result.
 use Rattle.std.proofs.Common.{◌≡◌, ◌≢◌, ◌⊎◌, ℕ, List, [], Option, Result, Ok, Err, IfErr, IfOk, inl, inr, string_bytes, subst, sym}
 use Rattle.std.specs.Io.KnownBytes.{Appends}
 use Rattle.desk_commands.specs.Answers.{HasCause, IsAnswer, IsCause}

@@ -92,7 +92,7 @@ module _ (f : RosterFields Cmnd) where
       brought = λ m h. inl ((same m).1 h);
     }
 
-    -- those that are acknowledged
+    -- the messages that are acknowledged
     pub some_taken : (relay : List ℕ) (read lent : List Delivery) (answers : List (Result Ack Refusal)) (old new : Message → Type 0)
         → AreRead relay input read → lent ≡ read → AreAnswers f lent answers → HeldAfterAll old lent answers new → AreSomeTaken f input old new
     some_taken relay read lent answers old new is_read same_read are after =

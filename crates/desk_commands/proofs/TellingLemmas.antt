@@ -56,7 +56,7 @@ pub front_kept : (before between after : Option (List ℕ)) (bytes : List ℕ) �
     → AppendsFront before after bytes
 front_kept before between after bytes front same = (front.0, Appends-kept before between after (take front.0 bytes) front.1 same)
 
--- what is flushed once all of it is written is a beginning of it too
+-- bytes that are written whole and then flushed are a beginning of the line too
 pub flushed : (before between after : Option (List ℕ)) (bytes line : List ℕ) → bytes ≡ line → Appends before between bytes → Keeps between after
     → AppendsFront before after line
 flushed before between after bytes line is taken same =

@@ -15,12 +15,12 @@ use Rattle.desk_args.specs.declared.task.Places.{Places}
 
 -- ---- a refusal that is passed on
 
--- one that is this reason, which is one of want
+-- a refusal that is this reason, which is one of want
 pub wanting_as : {A : Type 0} (reason : JobRefusal) (r : Result A JobRefusal) → IsErrAnd r (λ e. e ≡ reason) → IsWanting reason → IsErrAnd r IsWanting
 wanting_as reason (Ok x) is want = absurd is
 wanting_as reason (Err e) is want = subst IsWanting (sym is) want
 
--- one that was answered by another call
+-- a refusal that another call answered
 pub wanting_still : {A B : Type 0} (reason : JobRefusal) (s : Result B JobRefusal) (r : Result A JobRefusal)
     → s ≡ Err reason → IsErrAnd r (λ e. e ≡ reason) → IsErrAnd s IsWanting → IsErrAnd r IsWanting
 wanting_still {B = B} reason s r was is want = wanting_as reason r is (subst (λ (t : Result B JobRefusal). IsErrAnd t IsWanting) was want)

@@ -25,7 +25,7 @@ use Rattle.desk_args.specs.declared.task.Job.{Job}
 use Rattle.desk_args.specs.declared.task.Job.TheVariants.{Beyond, Check, Decide, Deliver}
 use Rattle.desk_args.specs.declared.task.Job.TheVariants.{Print, Rebuild, Review, Serve}
 
--- how the program ends after it
+-- how the program ends after the decision
 abbrev pub exit_of : Decision → ExitStatus
 exit_of Deny = Denied
 exit_of Allow = Done
@@ -47,12 +47,12 @@ DecidesByFile file invocation status text =
     (es : List Entry) × (decision : Decision) × Spells file es
     × Decides es invocation decision × IsDecided decision status text
 
--- it holds of the first file
+-- the property holds of the first file
 abbrev pub OfFile : (files : List (List ℕ)) → (List ℕ → Type 0) → Type 0
 OfFile (file ∷ more) Holds = Holds file
 OfFile [] Holds = ⊥
 
--- it holds of the first two files
+-- the property holds of the first two files
 abbrev pub OfFiles : (files : List (List ℕ)) → (List ℕ → List ℕ → Type 0) → Type 0
 OfFiles (a ∷ b ∷ more) Holds = Holds a b
 OfFiles files Holds = ⊥
@@ -104,7 +104,7 @@ ReadsInput (Print places host after) = places.store ≡ Memory
 ReadsInput (Review places at) = places.store ≡ Memory
 ReadsInput job = ⊥
 
--- ---- what else may come of it
+-- ---- what else a job may end with
 
 -- `check` and `decide` may be refused for this, before their answer is written
 abbrev pub EndsReading : List ℕ → JobRefusal → Type 0
@@ -146,7 +146,7 @@ IsCause (Rebuild places) files k input reason =
     CauseOfFiles files (λ roster base. EndsRebuilding roster base k) reason
 IsCause (Serve places addr requests) files k input reason = reason ≡ FileFailed
 
--- it is refused for such a reason
+-- the job may be refused for such a reason
 abbrev pub HasCause : Job → (files : List (List ℕ)) → AroundJob → (input : Option (List ℕ))
     → Type 0
 HasCause job files k input = (reason : JobRefusal) × IsCause job files k input reason

@@ -30,8 +30,8 @@ IsShown None status text = (status ≡ Done) × (text ≡ codes "none\n")
 IsShown (Some i) status text = (status ≡ Found) × (text ≡ case_text i ++ codes "\n")
 
 -- `beyond` compares the policies a and b that two files spell. It answers `none`, and then a allows
--- no invocation at all in the scope that b refuses; or it answers with one that a allows and b
--- refuses, which is the first of at most 1,000,000 cases.
+-- no invocation at all in the scope that b refuses; or it answers with an invocation that a allows
+-- and b refuses, which is the first of at most 1,000,000 cases.
 pub record ComparesFiles (scope : Scope) (a_file b_file : List ℕ)
     (status : ExitStatus) (text : List ℕ) : Type 0 where
   pub a : List Entry
@@ -43,7 +43,7 @@ pub record ComparesFiles (scope : Scope) (a_file b_file : List ℕ)
   pub first : review.IsFirstBeyond scope a b found
   pub shown : IsShown found status text
 
--- ---- what else may come of it
+-- ---- what else a comparison may end with
 
 -- the file spells a policy
 abbrev pub HoldsPolicy : List ℕ → Type 0

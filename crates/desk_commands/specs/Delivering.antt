@@ -28,7 +28,7 @@ abbrev pub answer_lines : List (Result Ack Refusal) → List ℕ
 answer_lines [] = []
 answer_lines (answer ∷ answers) = answer_line answer ++ answer_lines answers
 
--- it is done where each line is acknowledged
+-- the job is done where each line is acknowledged
 abbrev pub status_after : List (Result Ack Refusal) → ExitStatus
 status_after answers = if list_all is_ok answers then Done else LinesRefused
 

@@ -31,8 +31,8 @@ pub record AreFilesOf (roster_file base_file : List ℕ)
 
 -- ---- why files make no desk
 
--- Bytes that are not UTF-8 are not TOML; else it is the least fault of the text. Any file may be
--- refused for want of memory.
+-- Bytes that are not UTF-8 are not TOML; else the fault is the least fault of the text. Any file
+-- may be refused for want of memory.
 abbrev pub IsRosterFault : List ℕ → RosterFault → Type 0
 IsRosterFault file fault =
     fault ≢ faults.NoMemory
@@ -75,8 +75,8 @@ EndsOpening roster_file base_file k desk.NoMemory = Unit {0}
 EndsOpening roster_file base_file k desk.Storage = k.failed
 EndsOpening roster_file base_file k _ = ¬ k.up
 
--- Rebuilding it may be refused for this: a base past the limits, else something that is not a desk;
--- and want of memory or of the storage anywhere.
+-- Rebuilding the desk of the files may be refused for this: a base past the limits, else something
+-- that is not a desk; and want of memory or of the storage anywhere.
 abbrev pub EndsReplacing : (roster_file base_file : List ℕ) → AroundJob → Refusal → Type 0
 EndsReplacing roster_file base_file k desk.BaseTooLarge =
     HoldsRoster roster_file × HasLargeBase base_file

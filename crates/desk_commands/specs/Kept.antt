@@ -5,8 +5,8 @@ use Rattle.messages.specs.declared.message.Message.{Message}
 use Rattle.desk_store.specs.Keeping.{HasFailed}
 use Rattle.desk_store.specs.declared.keeper.Keeper.{Ghosts}
 
--- What a keeper keeps: nothing of a desk's, a desk of this roster's text, a desk of an older form,
--- or something else; and a desk's messages.
+-- What a keeper keeps: no part of a desk, a desk of this roster's text, a desk of an older form, or
+-- something else; and a desk's messages.
 pub record Keeps : Type 1 where
   pub empty : Type 0
   pub desk : Type 0
@@ -14,8 +14,8 @@ pub record Keeps : Type 1 where
   pub roster : List ℕ
   pub holds : Message → Type 0
 
--- What the keeper keeps as the job begins and as it ends, and what is known of it then: it is up;
--- its count of failures rose or stands at its greatest.
+-- What the keeper keeps as the job begins and as it ends, and what is known of the keeper at the
+-- end: whether it is up, and whether its count of failures rose or stands at its greatest.
 pub record AroundJob : Type 1 where
   pub before : Keeps
   pub after : Keeps
@@ -34,7 +34,7 @@ keeps is_empty is_desk is_old roster holds keeper =
       holds = holds keeper;
     }
 
--- the same, by what a keeper's contract says of it
+-- the same around a job, by the keeper's contract
 abbrev pub kept : {K : Type 0} → (is_up is_empty is_desk is_old : K → Type 0)
     → (roster : K → List ℕ) → (holds : K → Message → Type 0) → (failures : K → ℕ)
     → (before after : K) → AroundJob

@@ -26,8 +26,8 @@ use Rattle.desk_args.specs.declared.task.Store.TheVariants.{File, Memory}
 
 -- ---- at the keeper
 
--- All lines of the input were delivered, as the relay brings them. What was held is held, and what
--- was acknowledged, and nothing else.
+-- All lines of the input were delivered, as the relay brings them. What was held and what was
+-- acknowledged is held, and nothing else.
 pub record AreDelivered (roster : RosterFields Cmnd) (relay : List ℕ)
     (input : Option (List ℕ)) (old new : Message → Type 0) : Type 0 where
   pub lines : List (List ℕ)
@@ -57,7 +57,7 @@ abbrev pub LeavesTaken : Store → RosterFields Cmnd
 LeavesTaken Memory roster input old new = AreSomeTaken roster input old new
 LeavesTaken (File path) roster input old new = SameSet old new
 
--- nothing of a desk's was kept, or a desk of this roster's text
+-- no part of a desk was kept, or a desk of this roster's text
 abbrev pub WasOpened : (roster_file : List ℕ) → Keeps → Type 0
 WasOpened roster_file before =
     (before.empty × (¬ before.desk) × (¬ before.old))
@@ -78,11 +78,11 @@ OverOpened roster_file base_file k Left =
     (roster : RosterFields Cmnd) × (base : List Entry)
     × AreFilesOf roster_file base_file roster base × JobLeavesDesk roster_file k (Left roster)
 
--- What the keeper keeps, where it is up, after a job that was refused before there was an answer:
--- the same; or `deliver`, `print` and `review` opened the desk, and it holds what was held, after
--- `deliver` what was acknowledged too, and after a question without a database messages of its
--- lines. So `rebuild` leaves the old roster's text and the messages, and a job that is not on a
--- desk leaves all as it was.
+-- What the keeper keeps, where it is up, after a job that was refused before there was an answer.
+-- The keeper keeps the same; or `deliver`, `print` or `review` opened the desk, which holds what
+-- was held. After `deliver` the desk may also hold all that was acknowledged, and after a question
+-- without a database it may also hold messages of the input's lines. So `rebuild` leaves the old
+-- roster's text and the messages, and a job that is not on a desk leaves all as it was.
 abbrev pub KeepsAfterRefusal : Job → (files : List (List ℕ))
     → AroundJob → (Same : Type 0) → (input : Option (List ℕ)) → Type 0
 KeepsAfterRefusal (Deliver places relay) files k Same input = Same
@@ -135,9 +135,9 @@ BeganAnswer job files k input before after = (status : ExitStatus) × (text said
     × IsAnswer job files k input status text said × AppendsFront before after text
 
 -- After what a refused job says first comes the line of its refusal, or a beginning of it. The
--- refusal is the job's cause; or the job has an answer, and it is `F1 FileFailed`. Where the keeper
--- was up and its storage is honest, it is up, unless the refusal is one of want, or the answer
--- tells of want.
+-- refusal is the job's cause; or the job has an answer, and the refusal is `F1 FileFailed`. Where
+-- the keeper was up and its storage is honest, the keeper is up, unless the refusal is one of want,
+-- or the answer tells of want.
 pub record TellsRefusal (job : Job) (files : List (List ℕ))
     (k : AroundJob) (Steady : Type 0) (input before after : Option (List ℕ)) : Type 0 where
   pub between : Option (List ℕ)

@@ -52,7 +52,7 @@ pub record PrintsHost (roster : RosterFields Cmnd) (base : List Entry)
   pub done : status ≡ Done
   pub stays : Up → SameSet (HeldWith roster lines old) new
 
--- ---- what else may come of it
+-- ---- what else printing may end with
 
 -- more than 8,192 lines would be printed after the base
 pub record HasManyLines (roster : RosterFields Cmnd) (store : Store) (host : List ℕ)

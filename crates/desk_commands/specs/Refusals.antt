@@ -9,8 +9,8 @@ use Rattle.desk_commands.specs.declared.refusal.JobRefusal.TheVariants.{BadWord,
 use Rattle.desk_commands.specs.declared.refusal.JobRefusal.TheVariants.{FileFailed, NoMemory}
 use Rattle.desk_commands.specs.declared.refusal.JobRefusal.TheVariants.{Policy, Roster}
 
--- its code and name; a roster's, a comparison's and the desk's as these show them, and a policy's
--- with its line
+-- the refusal's code and name: a roster's fault, a comparison's and the desk's refusal as these
+-- show them, and a policy's fault with its line
 abbrev pub job_refusal_text : JobRefusal → List ℕ
 job_refusal_text FileFailed = codes "F1 FileFailed"
 job_refusal_text BadWord = codes "F2 BadWord"

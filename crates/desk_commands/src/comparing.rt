@@ -79,8 +79,8 @@ fn compare_with(alloc: Global, a: &Policy, b: &[u8], scope: &Scope) -> Result<An
 /// An invocation in the scope that the first file's policy allows and the second's refuses, or
 /// `none`.
 ///
-/// The first file is read first. It is refused where a file does not spell a policy, where the
-/// policies have too many cases, and where memory runs out.
+/// The first file is read first. The comparison is refused where a file does not spell a policy,
+/// where the policies have too many cases, and where memory runs out.
 pub fn compare_files(alloc: Global, a: &[u8], b: &[u8], scope: &Scope) -> Result<Answer, JobRefusal>
     ensures found { IfOk result
         (λ r. ComparesFiles scope.now a.now b.now r.status (string_bytes r.text)) }

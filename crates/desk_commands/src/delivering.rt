@@ -55,7 +55,7 @@ fn are_acknowledged(answers: &[Result<Ack, desk::Refusal>]) -> bool
     answers.iter().all(|answer| answer.is_ok())
 }
 
-/// How it ends: done where each line is acknowledged.
+/// How the job ends: done where each line is acknowledged.
 fn status_of(answers: &[Result<Ack, desk::Refusal>]) -> ExitStatus
     ensures { result ≡ status_after answers.now }
 {
@@ -68,8 +68,9 @@ fn status_of(answers: &[Result<Ack, desk::Refusal>]) -> ExitStatus
 
 /// What the desk answers to each line of the input, in order, as the relay brings them.
 ///
-/// A line that the desk refuses is answered by its code and name, and has no other effect but on
-/// the status. It is refused as a whole where the input cannot be read, and where memory runs out.
+/// A line that the desk refuses is answered by the refusal's code and name, and has no other effect
+/// but on the status. The job is refused as a whole where the input cannot be read, and where
+/// memory runs out.
 pub fn deliver_to<K: Keeper, R: Read>(
     alloc: Global,
     desk: &mut Desk<K>,
@@ -95,8 +96,8 @@ pub fn deliver_to<K: Keeper, R: Read>(
     })
 }
 
-/// The same, over the desk that the files of the roster and the base make and the keeper keeps; and
-/// the keeper.
+/// The same, over the desk that the files of the roster and the base make of what the keeper keeps.
+/// The keeper is handed back.
 fn deliver_over<K: Keeper, R: Read>(
     alloc: Global,
     roster: &[u8],
@@ -123,7 +124,7 @@ fn deliver_over<K: Keeper, R: Read>(
     }
 }
 
-/// The same, over the job's files. It is refused where the files make no desk, too.
+/// The same, over the job's files. The job is also refused where the files make no desk.
 pub fn deliver_lines<K: Keeper, R: Read>(
     alloc: Global,
     files: &[Vec<u8>],

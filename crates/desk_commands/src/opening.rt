@@ -43,8 +43,8 @@ fn parts(alloc: Global, roster: &[u8], base: &[u8]) -> Result<(Roster, Policy), 
 
 /// The desk of the roster and the base that the files hold, over what the keeper keeps.
 ///
-/// It is refused with the roster's fault, the policy's, or the desk's; a refusal hands the keeper
-/// back, with what it keeps as it was.
+/// The call is refused with the roster's fault, the policy's, or the desk's; a refusal hands the
+/// keeper back, and what the keeper keeps stays as it was.
 pub fn open_over<K: Keeper>(
     alloc: Global,
     roster: &[u8],
@@ -74,10 +74,10 @@ pub fn open_over<K: Keeper>(
 }
 
 /// The desk of the roster and the base that the files hold, over the messages that the keeper
-/// keeps. They may have been kept under another roster.
+/// keeps. The messages may have been kept under another roster.
 ///
-/// It is refused with the roster's fault, the policy's, or the desk's; a refusal hands the keeper
-/// back, with what it keeps as it was.
+/// The call is refused with the roster's fault, the policy's, or the desk's; a refusal hands the
+/// keeper back, and what the keeper keeps stays as it was.
 pub fn rebuild_over<K: Keeper>(
     alloc: Global,
     roster: &[u8],

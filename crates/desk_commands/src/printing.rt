@@ -95,8 +95,8 @@ fn print_of<K: Keeper, R: Read, E: Write>(
     }
 }
 
-/// The host's file, over the desk that the files of the roster and the base make and the keeper
-/// keeps; and the keeper.
+/// The host's file of the desk that the files of the roster and the base make of what the keeper
+/// keeps. The keeper is handed back.
 fn print_over<K: Keeper, R: Read, E: Write>(
     alloc: Global,
     roster: &[u8],
@@ -131,7 +131,7 @@ fn print_over<K: Keeper, R: Read, E: Write>(
 /// The same, over the job's files.
 ///
 /// A line that the desk does not take is named on `err`, as `line 3: M2 NotCanonical`, and has no
-/// other effect. It is refused where the files make no desk, where the input cannot be read or
+/// other effect. The job is refused where the files make no desk, where the input cannot be read or
 /// `err` cannot be written, where the file would have too many lines, and where memory runs out.
 pub fn print_host<K: Keeper, R: Read, E: Write>(
     alloc: Global,

@@ -10,9 +10,9 @@ use sudo_syntax::{NoMemory, ReadFault};
 
 /// Why the program refuses what it is told to do.
 ///
-/// It is printed as its code and name, as `F1 FileFailed`; a roster's fault, a comparison's and the
-/// desk's as their own, as `O1 NotToml`, `B1 TooManyCases` and `K6 BaseTooLarge`, and a policy's
-/// with its line, as `S5 UnknownAlias line 3`.
+/// A refusal is printed as its code and name, as `F1 FileFailed`. A roster's fault, a comparison's
+/// and the desk's refusal keep their own code and name, as `O1 NotToml`, `B1 TooManyCases` and
+/// `K6 BaseTooLarge`. A policy's fault is printed with its line, as `S5 UnknownAlias line 3`.
 #[derive(Clone, Copy, Debug, PartialEq, Eq)]
 pub enum JobRefusal {
     /// A file could not be read, or an answer could not be written.

@@ -58,8 +58,8 @@ fn review_of<K: Keeper, R: Read, E: Write>(
     }
 }
 
-/// The report of the desk that the files of the roster and the base make and the keeper keeps; and
-/// the keeper.
+/// The report of the desk that the files of the roster and the base make of what the keeper keeps.
+/// The keeper is handed back.
 fn review_over<K: Keeper, R: Read, E: Write>(
     alloc: Global,
     roster: &[u8],
@@ -92,7 +92,7 @@ fn review_over<K: Keeper, R: Read, E: Write>(
 /// The same, over the job's files.
 ///
 /// A line that the desk does not take is named on `err`, as by `print_host`, and has no other
-/// effect. It is refused where the files make no desk, where the input cannot be read or `err`
+/// effect. The job is refused where the files make no desk, where the input cannot be read or `err`
 /// cannot be written, and where memory runs out.
 pub fn review_desk<K: Keeper, R: Read, E: Write>(
     alloc: Global,

@@ -88,9 +88,10 @@ fn is_definition(entry: &Entry) -> bool {
     !matches!(entry, Entry::Rule(_))
 }
 
-/// What the policy decides. It is asked once, so one without aliases is asked as it is. Where there
-/// are aliases it is compiled, which writes each out once, however often lists lead to it; the
-/// policy's memory is given back on the way. What is left then stays in memory, as in `check`.
+/// What the policy decides. The policy is asked once, so a policy without aliases is asked as it
+/// is. A policy with aliases is compiled, which writes each alias out once, however often lists
+/// lead to it; the policy's memory is given back on the way. What is left then stays in memory, as
+/// in `check`.
 fn decision_of(alloc: Global, policy: Policy, invocation: &Invocation) -> Result<Decision, NoMemory>
     ensures { IfOk result (λ d. Decides policy invocation.now d) }
 {
@@ -230,8 +231,9 @@ fn conclude<W: Write, E: Write>(
 }
 
 /// Does the job over the bytes of the files that it names, in their order, what the keeper keeps,
-/// and the input; and hands the keeper on. The answer goes to `out`, and why there is none to
-/// `err`, as does what `print` and `review` say about lines of the input that they do not take.
+/// and the input; and hands the keeper on. The answer goes to `out`. The reason why there is none
+/// goes to `err`, as does what `print` and `review` say about lines of the input that they do not
+/// take.
 ///
 /// `files` has the bytes of each file that the job names; `check` and `decide` give theirs back
 /// once they are read. A job whose STORE is left out or `-` wants a keeper in memory that is empty.
@@ -252,8 +254,8 @@ pub fn run<K: Keeper, R: Read, W: Write, E: Write>(
         (W.contents out.new) text × Appends (E.contents err.old) (E.contents err.new) said
         × ((IsOnDesk job.now ⊎ K.is_up keeper) → K.is_clean result.1
         → TellsWant job.now text ⊎ K.is_up result.1) }
-    // A job that is refused leaves `out` as it was, and there is a reason for it; or it has an
-    // answer, and no more than a beginning of that was written.
+    // A job that is refused leaves `out` as it was, and there is a reason for the refusal; or the
+    // job has an answer, and no more than a beginning of the answer was written.
     ensures refused { result.0 ≡ ExitStatus.Refused → ((W.contents out.new ≡ W.contents out.old)
         × HasCause job.now (map (λ f. f.items) files.old) (kept_by K.Keeper keeper result.1)
         (R.remaining input.old)) ⊎ BeganAnswer job.now (map (λ f. f.items) files.old)

@@ -35,8 +35,8 @@ fn add_complaint(said: &mut String, number: usize, refusal: desk::Refusal) -> Re
     write!(said, "line {number}: {refusal}\n")
 }
 
-/// The same, but it fails where the desk could not take the line for want of memory or storage:
-/// then nothing can be printed.
+/// Adds why a line is refused, but fails where the desk could not take the line for want of memory
+/// or storage: then nothing can be printed.
 fn complain(said: &mut String, number: usize, refusal: desk::Refusal) -> Result<(), JobRefusal>
     ensures said { OnOk result
         (string_bytes said.new ≡ string_bytes said.old ++ complaint number refusal) }
@@ -94,7 +94,7 @@ fn say<E: Write>(said: &str, err: &mut E) -> Result<(), JobRefusal>
 }
 
 /// Delivers the lines of the input as those of the roster's first relay in byte order, and says on
-/// `err` which the desk does not take.
+/// `err` which lines the desk does not take.
 fn take_lines<K: Keeper, R: Read, E: Write>(
     alloc: Global,
     desk: &mut Desk<K>,

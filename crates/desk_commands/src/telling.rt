@@ -11,7 +11,7 @@ use std::fmt::{InlineText, Write as _};
 use std::io::{ErrorKind, Write};
 use std::{fmt, io};
 
-/// The line of a refusal. It takes no memory: a refusal may tell of want of it.
+/// The line of a refusal. The line takes no memory: a refusal may tell of want of memory.
 fn line_of(refusal: JobRefusal) -> Result<InlineText<64>, fmt::Error>
     ensures { IfOk result (λ line. inline_text line ≡ refusal_line refusal) }
 {
@@ -20,8 +20,8 @@ fn line_of(refusal: JobRefusal) -> Result<InlineText<64>, fmt::Error>
     Ok(line)
 }
 
-/// Writes the bytes on `err`, as far as it takes them. Where it fails, a beginning of them was
-/// written.
+/// Writes the bytes on `err`, as far as `err` takes them. Where that fails, a beginning of the
+/// bytes was written.
 pub(crate) fn write_front<E: Write>(bytes: &[u8], err: &mut E) -> io::Result<()>
     ensures whole { OnOk result (Appends (E.contents err.old) (E.contents err.new) bytes.now) }
     ensures front { AppendsFront (E.contents err.old) (E.contents err.new) bytes.now }
@@ -41,7 +41,7 @@ pub(crate) fn write_front<E: Write>(bytes: &[u8], err: &mut E) -> io::Result<()>
     Err(io::Error::from(ErrorKind::Interrupted))
 }
 
-/// Writes the line of a refusal on `err`, as far as it takes it.
+/// Writes the line of a refusal on `err`, as far as `err` takes the line.
 fn say_line<E: Write>(refusal: JobRefusal, err: &mut E) -> io::Result<()>
     ensures whole { OnOk result
         (Appends (E.contents err.old) (E.contents err.new) (refusal_line refusal)) }
@@ -53,9 +53,9 @@ fn say_line<E: Write>(refusal: JobRefusal, err: &mut E) -> io::Result<()>
 }
 
 /// Says on `err` why the program refuses: a line of the refusal's code and name. Answers the
-/// status, and whether that could be said.
+/// status, and whether the line could be written.
 ///
-/// Where it could not be written, a beginning of the line was written, and nothing else can be
+/// Where the line could not be written, a beginning of it was written, and nothing else can be
 /// done.
 pub fn refuse<E: Write>(refusal: JobRefusal, err: &mut E) -> (ExitStatus, io::Result<()>)
     ensures status { result.0 ≡ ExitStatus.Refused }

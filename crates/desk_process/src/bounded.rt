@@ -1,12 +1,12 @@
-//! What a job reads and writes, as far as it is to be told or bounded.
+//! The job's streams: input lines of a bounded length, and why a read or a write failed.
 
 use std::io::{self, ErrorKind, Read, Write};
 
 /// The bytes of a line that are kept: one more than the longest message has.
 const MOST_KEPT: usize = 16_385;
 
-/// An input of lines. Of a line that is longer than any message only the beginning is read, which
-/// is also longer: the desk answers `TooLong` to either, and memory is kept for no more of it.
+/// An input of lines. A line that is longer than any message is cut to 16,385 bytes, one more than
+/// a message may have: the desk answers `TooLong` to that as well, and memory is kept for no more.
 #[derive(Drop)]
 pub struct Lines<R> {
     inner: R,

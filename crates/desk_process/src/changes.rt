@@ -1,4 +1,4 @@
-//! What another roster makes of the grants of a desk, from a moment on.
+//! How another roster changes the grants of a desk, from a moment on.
 
 use desk::Keeper;
 use desk_store::{Found, KeeperError};
@@ -13,33 +13,33 @@ use sudo_words::{Moment, NoMemory};
 /// What becomes of a grant.
 #[derive(Clone, Copy)]
 pub(crate) enum Kind {
-    /// It begins, or goes on for longer, since a refusal or a revocation counts no more, or since
+    /// The grant begins, grows or moves, since a refusal or a revocation counts no more, or since
     /// the request is admitted again.
     GivenBack,
-    /// It is in force, and was not.
+    /// The grant is in force, and was not in force before.
     Begins,
-    /// It is in force at more moments, and at all of those at which it was.
+    /// The grant is in force at every moment at which it was, and at more.
     Grows,
-    /// It is in force at other moments.
+    /// The grant is in force at other moments: it loses some and gains some.
     Moves,
-    /// It is in force at fewer moments.
+    /// The grant is in force at fewer moments, and at none at which it was not.
     Shrinks,
-    /// It is in force no more.
+    /// The grant is in force no more.
     Ends,
-    /// It waited for approval, and is not admitted any more.
+    /// The request waited for approval, and is not admitted any more.
     Lapses,
 }
 
 /// What becomes of the grant of one name.
 #[derive(Drop)]
 pub(crate) struct Change {
-    /// Whose request it is.
+    /// The name of the grant's request.
     name: RequestName,
-    /// What becomes of it.
+    /// What becomes of the grant.
     kind: Kind,
-    /// When it was in force, if it was at all.
+    /// When the grant is in force under the old roster, if it is at all.
     before: Option<Window>,
-    /// When it is in force then, if it is at all.
+    /// When the grant is in force under the new roster, if it is at all.
     after: Option<Window>,
 }
 
@@ -121,7 +121,7 @@ fn kind_of(before: Option<Window>, after: Option<Window>) -> Option<Kind> {
     }
 }
 
-/// Whether the verdict is a revocation that counts under the one ceiling, and not under the other.
+/// Whether the verdict is a revocation that counts by the old roster and ceiling, not by the new.
 fn revokes_no_more(old: (&Roster, &Ceiling), new: (&Roster, &Ceiling), verdict: &Verdict) -> bool {
     verdict.kind() == VerdictKind::Revoke
         && weigh(old.0, old.1, verdict) == Weight::Counts
@@ -149,8 +149,8 @@ fn is_unrevoked(old: &Roster, new: &Roster, request: &Request, messages: &[Messa
     })
 }
 
-/// Whether a right comes back that was taken away: the old roster did not admit its request, or a
-/// refusal or a revocation counted under it that counts no more.
+/// Whether a right comes back that was taken away: the old roster did not admit the request, or a
+/// refusal or a revocation that counted under the old roster counts no more.
 fn is_given_back(
     old: &Roster,
     new: &Roster,
@@ -166,7 +166,7 @@ fn lapses(before: Status, after: Status, request: &Request, now: Moment) -> bool
     before == Status::Waiting && after == Status::Lapsed && now <= request.until()
 }
 
-/// What becomes of a request, if it becomes something else.
+/// How the new roster changes the grant of a request, if it does.
 fn change_of(
     old: &Roster,
     new: &Roster,
@@ -194,8 +194,8 @@ fn change_of(
     }))
 }
 
-/// Adds what the new roster makes of the grants of these requests, in their order. What stays as it
-/// is has no place in it.
+/// Adds how the new roster changes the grants of these requests, in the order of the requests. A
+/// grant that does not change is left out.
 fn push_changes(
     changes: &mut Vec<Change>,
     old: &Roster,
@@ -218,8 +218,8 @@ fn summaries_of(alloc: Global, messages: &[Message]) -> Result<Vec<Summary>, NoM
     summaries_in(alloc, &gathered)
 }
 
-/// What the new roster makes of the grants of these messages from the moment on, in the order of
-/// their names.
+/// How the new roster changes the grants of these messages from the moment on, in the order of the
+/// names of the grants.
 fn changes_between(
     alloc: Global,
     old: &Roster,
@@ -233,7 +233,7 @@ fn changes_between(
     Ok(changes)
 }
 
-/// The roster of a text, or none where it is none.
+/// The roster of a text, or none where the text is no roster.
 fn roster_of(alloc: Global, text: &[u8]) -> Result<Option<Roster>, NoMemory> {
     let Ok(text) = str::from_utf8(text) else {
         return Ok(None);
@@ -245,7 +245,7 @@ fn roster_of(alloc: Global, text: &[u8]) -> Result<Option<Roster>, NoMemory> {
     }
 }
 
-/// What the new roster makes of the grants of the desk that the keeper keeps.
+/// How the new roster changes the grants of the desk that the keeper keeps.
 fn changes_to<K: Keeper>(
     alloc: Global,
     old: &Roster,
@@ -259,8 +259,8 @@ fn changes_to<K: Keeper>(
     Ok(changes_between(alloc, old, new, messages.as_slice(), now)?)
 }
 
-/// What the roster of a file makes of the grants of the desk that the keeper keeps, whose roster is
-/// the old one.
+/// How the roster of a file changes the grants of the desk that the keeper keeps. The desk has the
+/// old roster.
 fn changes_by<K: Keeper>(
     alloc: Global,
     old: &Roster,
@@ -276,8 +276,8 @@ fn changes_by<K: Keeper>(
     }
 }
 
-/// What the roster of a file makes of the grants of the desk that the keeper keeps, with this
-/// roster's text.
+/// How the roster of a file changes the grants of the desk that the keeper keeps. The desk has the
+/// roster of the recorded text.
 fn changes_from<K: Keeper>(
     alloc: Global,
     recorded: &str,
@@ -293,11 +293,11 @@ fn changes_from<K: Keeper>(
     }
 }
 
-/// What the roster of a file makes of the grants of the desk that the keeper keeps, from the moment
-/// on. What it keeps stays as it is.
+/// How the roster of a file changes the grants of the desk that the keeper keeps, from the moment
+/// on. The desk itself stays as it is.
 ///
 /// Nothing changes where the file holds no roster, or the keeper keeps no desk. A desk of an older
-/// form does not say of which roster it is, so nothing is known to change.
+/// form does not say which roster it has, so nothing is known to change.
 pub(crate) fn changes_of<K: Keeper>(
     alloc: Global,
     file: &[u8],

@@ -33,7 +33,7 @@ fn are_refused(alloc: Global, roster: &[u8], base: &[u8]) -> bool {
     }
 }
 
-/// Says which grants become others from this moment on.
+/// Says which grants change from this moment on.
 fn tell(rt: &HostRuntime, changes: &[Change], now: Moment) {
     if !changes.is_empty() {
         let _ = eprintln!(rt; "from {now} on:");
@@ -43,11 +43,11 @@ fn tell(rt: &HostRuntime, changes: &[Change], now: Moment) {
     }
 }
 
-/// Says on the standard error which grants become others from now on, once the desk that the keeper
-/// keeps has the roster of the file.
+/// Says on the standard error which grants change from now on, once the desk that the keeper keeps
+/// has the roster of the file.
 ///
-/// Nothing is said where none does, of a desk of an older form, and where a file or what is kept is
-/// refused: the job itself says so.
+/// Nothing is said where no grant changes, or where the desk has an older form. Nor is anything
+/// said where the job refuses a file or the store: the job itself names the refusal.
 pub(crate) fn tell_changes<K: Keeper>(
     rt: &HostRuntime,
     roster: &[u8],

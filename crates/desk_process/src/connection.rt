@@ -21,7 +21,7 @@ const TO_RESPOND: u64 = 30_000;
 /// The milliseconds that a peer has to close, or to send more, once the response is out.
 const TO_CLOSE: u64 = 1_000;
 
-/// The most reads of what it sends then.
+/// The most reads of what a peer sends after the response.
 const MOST_READS: usize = 64;
 
 /// The most bytes of one of these reads.
@@ -31,15 +31,15 @@ const MOST_LAST: usize = 1_024;
 /// not taken for a slow one.
 const HEAD_START: u64 = 512;
 
-/// So many zeros.
+/// The zeros of an empty buffer.
 const ZEROS: [u8; MOST_LAST] = [0; MOST_LAST];
 
-/// What one connection uses after another. What is in it before is never looked at.
+/// The buffers that connections use one after another. What an earlier use left is never looked at.
 #[derive(Drop)]
 pub(crate) struct Buffers {
     /// Where the bytes of a read come in and a short response is put together.
     exchange: ExchangeBuffer,
-    /// Where what a peer still sends comes in.
+    /// Where the bytes come in that a peer sends after the response.
     last: Vec<u8>,
 }
 
@@ -52,27 +52,27 @@ impl Buffers {
     }
 }
 
-/// How a connection goes on that no request is queued for.
+/// How a connection goes on whose request is not queued.
 #[derive(Drop)]
 pub(crate) enum Next {
-    /// It waits for its peer.
+    /// The connection waits for its peer.
     Waits(Connection),
-    /// Its response went out just now, and its peer has to close.
+    /// The response went out just now, and the peer has to close.
     Lingers(Connection),
-    /// It is over.
+    /// The connection is over.
     Ends,
-    /// It is over before its response was out.
+    /// The connection is over before its response was out.
     Fails(ServeFault),
 }
 
-/// What going on with a connection comes to.
+/// What a step of a connection comes to.
 #[derive(Drop)]
 pub(crate) enum Step {
-    /// It goes on so.
+    /// The connection goes on like this.
     Goes(Next),
-    /// Its request has come, and is to wait for its turn.
+    /// The request has come, and has to wait for its turn.
     Came(Peer, Received),
-    /// Memory ran out for more of its request, and this is the response.
+    /// Memory ran out for more of the request, and this is the response.
     Responds(Peer, HttpResponse),
 }
 
@@ -86,22 +86,22 @@ enum Stage {
     Received(Received),
     /// So much of the response is left to send.
     Responding(Outgoing),
-    /// The response is out, and what still came was read so many times.
+    /// The response is out, and bytes that came after it were read so many times.
     Closing { reads: usize },
 }
 
 /// The peer of a connection.
 #[derive(Drop)]
 pub(crate) struct Peer {
-    /// Its socket, which does not block.
+    /// The peer's socket, which does not block.
     stream: Stream,
-    /// The millisecond at which it is let go; the last there is while it waits for its turn.
+    /// The millisecond at which the peer is let go: the last there is while its request is queued.
     due: u64,
-    /// How many were accepted before it.
+    /// How many peers were accepted before this one.
     arrival: u64,
-    /// The millisecond at which it was accepted.
+    /// The millisecond at which the peer was accepted.
     came: u64,
-    /// The poll tells when it is ready for this.
+    /// What the poll watches the peer for, if it watches the peer at all.
     watched: Option<Interest>,
 }
 
@@ -112,8 +112,8 @@ pub(crate) struct Connection {
     stage: Stage,
 }
 
-/// Takes what the peer still sends, so that it can read the response before the connection is
-/// closed, and answers whether it has closed, or sent too much.
+/// Takes what the peer still sends, so that the peer can read the response before the connection is
+/// closed. Answers whether the peer has closed or sent too much, or a read failed.
 fn has_closed(mut stream: &Stream, chunk: &mut [u8], reads: &mut usize) -> bool {
     for _ in 0..MOST_READS {
         if *reads >= MOST_READS {
@@ -134,8 +134,8 @@ impl Peer {
         Connection { peer: self, stage }
     }
 
-    /// Receives what has come of its request. The reader is of one kind of socket, which is not
-    /// asked for again at each read.
+    /// Receives what has come of the request. The kind of the socket is looked up once, before all
+    /// the reads, and not again at each read.
     fn receive(self, receiving: Receiving, routes: &Routes, buffers: &mut Buffers) -> Step {
         let buffer = &mut buffers.exchange;
         let received = match &self.stream {
@@ -159,13 +159,13 @@ impl Peer {
         self.at(Stage::Received(received))
     }
 
-    /// Begins to send it a response, and the time in which that has to go out.
+    /// Begins to send a response, and starts the time in which the response has to go out.
     pub(crate) fn respond(mut self, response: Outgoing, buffers: &mut Buffers, now: u64) -> Next {
         self.due = now.saturating_add(TO_RESPOND);
         self.send(response, buffers, now)
     }
 
-    /// Sends what it takes of what is left of its response.
+    /// Sends as much of the rest of the response as the peer takes.
     fn send(self, response: Outgoing, buffers: &mut Buffers, now: u64) -> Next {
         let sent = response.send_on(&mut Counted::new(&self.stream), &mut buffers.exchange);
         match sent {
@@ -184,7 +184,7 @@ impl Peer {
         Next::Lingers(self.at(Stage::Closing { reads: 0 }))
     }
 
-    /// Takes what it still sends behind so many reads.
+    /// Takes what the peer still sends after the response, which was read so many times before.
     fn read_last(mut self, mut reads: usize, chunk: &mut [u8], now: u64) -> Next {
         if has_closed(&self.stream, chunk, &mut reads) {
             return Next::Ends;
@@ -207,17 +207,17 @@ impl Connection {
         peer.at(Stage::Receiving(Receiving::new(alloc)))
     }
 
-    /// The millisecond at which it is let go.
+    /// The millisecond at which the connection is let go.
     pub(crate) fn due(&self) -> u64 {
         self.peer.due
     }
 
-    /// How many were accepted before it.
+    /// How many connections were accepted before this one.
     pub(crate) fn arrival(&self) -> u64 {
         self.peer.arrival
     }
 
-    /// Has the poll tell when its peer is ready for what comes next.
+    /// Has the poll tell when the peer is ready for what the connection does next.
     pub(crate) fn watch(&mut self, registry: &Registry, token: Token) -> io::Result<()> {
         let next = match &self.stage {
             Stage::Responding(_) => Interest::WRITABLE,
@@ -232,7 +232,7 @@ impl Connection {
         Ok(())
     }
 
-    /// Has the poll tell nothing of its peer.
+    /// Has the poll tell nothing about the peer.
     pub(crate) fn unwatch(&mut self, registry: &Registry) -> io::Result<()> {
         if self.peer.watched.is_some() {
             self.peer.stream.unwatch(registry)?;
@@ -241,14 +241,14 @@ impl Connection {
         Ok(())
     }
 
-    /// Whether its request has come and waits for its turn.
+    /// Whether the request has come and waits for its turn.
     pub(crate) fn is_received(&self) -> bool {
         matches!(&self.stage, Stage::Received(_))
     }
 
-    /// How fast it is, where it may be let go for another: the slowest is let go first. One that
-    /// was answered comes before all that ask, by the bytes a second that they sent, and these
-    /// before one whose response is not out. None while its request waits for its turn.
+    /// How fast the connection is: the slowest is let go first for another. A connection
+    /// that was answered is the slowest, then come those that ask, by the bytes a second that they
+    /// sent, and last those whose response is not out. None while the request waits for its turn.
     pub(crate) fn pace(&self, now: u64) -> Option<u64> {
         match &self.stage {
             Stage::Closing { .. } => Some(0),
@@ -262,8 +262,8 @@ impl Connection {
         }
     }
 
-    /// The fault if it is let go now: none once its response is out. What waits for its peer waits
-    /// behind a read or a write that failed since it would have blocked.
+    /// The fault if the connection is let go now: none once its response is out. A connection waits
+    /// for its peer after a read or a write that failed since it would have blocked.
     pub(crate) fn fault(&self) -> Option<ServeFault> {
         match &self.stage {
             Stage::Receiving(_) | Stage::Received(_) => Some(ServeFault::ReadFailed),
@@ -272,7 +272,7 @@ impl Connection {
         }
     }
 
-    /// Goes on as far as its peer lets it, up to a request that has come.
+    /// Goes on as far as the peer lets it, and no further than until the request has come.
     pub(crate) fn go_on(self, routes: &Routes, buffers: &mut Buffers, now: u64) -> Step {
         let Connection { peer, stage } = self;
         match stage {

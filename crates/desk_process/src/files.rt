@@ -6,15 +6,15 @@ use roster::RosterFault;
 use std::fs::File;
 use std::io::{self, Read};
 
-/// The most bytes that are read of a policy: one over this is `TooLong`, whatever comes after.
+/// The most bytes that are read of a policy: a longer one is `TooLong`, whatever comes after.
 pub const MOST_POLICY: u64 = 16_777_216;
 
-/// The most bytes that are read of a roster. Which fault a text of over 1 MiB has depends on all of
-/// it, but nobody writes one that is sixteen times as long.
+/// The most bytes that are read of a roster. Which fault a text of over 1 MiB has depends on the
+/// whole text, but nobody writes a roster that is sixteen times as long.
 pub const MOST_ROSTER: u64 = 16_777_216;
 
-/// The bytes of a file, but no more than one over the most. Room that is left over is given back.
-/// So a device or a pipe that never ends is read no further; a folder cannot be read at all.
+/// The bytes of a file, but at most one more than `most`, so that a device or a pipe that never
+/// ends is read no further. Room that is left over is given back. A folder cannot be read at all.
 pub fn read_file(rt: &HostRuntime, path: &str, most: u64) -> io::Result<Vec<u8>> {
     let mut bytes = Vec::new(rt.alloc());
     let mut file = File::open(rt, path)?.take(most.saturating_add(1));
@@ -23,7 +23,7 @@ pub fn read_file(rt: &HostRuntime, path: &str, most: u64) -> io::Result<Vec<u8>>
     Ok(bytes)
 }
 
-/// The bytes of a file, but no more than one over the most.
+/// The bytes of a file, but at most one more than `most`.
 fn file(rt: &HostRuntime, path: &Text, most: u64) -> Result<Vec<u8>, Trouble> {
     match read_file(rt, path.as_str(), most) {
         Ok(bytes) => Ok(bytes),
@@ -31,12 +31,12 @@ fn file(rt: &HostRuntime, path: &Text, most: u64) -> Result<Vec<u8>, Trouble> {
     }
 }
 
-/// The bytes of a policy's file, and of one that is too long enough to show that.
+/// The bytes of a policy's file. A file that is too long is read far enough to show that.
 fn policy_file(rt: &HostRuntime, path: &Text) -> Result<Vec<u8>, Trouble> {
     file(rt, path, MOST_POLICY)
 }
 
-/// The bytes of a roster's file. One that is much too long is refused unread, as out of range.
+/// The bytes of a roster's file. A file of over 16 MiB is refused as out of range, unparsed.
 fn roster_file(rt: &HostRuntime, path: &Text) -> Result<Vec<u8>, Trouble> {
     let bytes = file(rt, path, MOST_ROSTER)?;
     if bytes.len() as u64 <= MOST_ROSTER {

@@ -72,7 +72,7 @@ fn count<K: Keeper>(desk: &mut Desk<K>) -> Option<usize> {
     desk.count().ok()
 }
 
-/// The address without what says of which kind it is.
+/// The text of the address, without the `unix:` before a path.
 fn text_of(addr: &Address) -> &str {
     match addr {
         Address::Tcp(place) => place.as_str(),
@@ -86,15 +86,15 @@ fn failed(rt: &HostRuntime, addr: &Address, error: io::Error) -> Trouble {
 }
 
 /// Serves the desk at the address, `HOST:PORT` with port 0 for any free one, or `unix:` and a path.
-/// It serves so many connections; without a number, until the process ends. Their exchanges are
-/// made one after the other, each once its request is there.
+/// The service takes so many connections; without a number, as many as come. The exchanges are made
+/// one after the other, each once its request is there.
 ///
-/// It prints `listening` and the address, once it listens there. On the standard error it says what
-/// it serves, with the digest of the roster; a warning where the address has a port; each 503
-/// that is answered; each connection that is let go before its response is out; and why it ended.
-/// It ends once the desk's storage is shut after a failure, since the desk would answer nothing any
-/// more. It fails where the address cannot be listened at, where nothing can be printed, and where
-/// a connection cannot be accepted though no other is open.
+/// The service prints `listening` and the address, once it listens there. On the standard error it
+/// says what it serves, with the digest of the roster; a warning where the address has a port; each
+/// 503 that is answered; each connection that is let go before its response is out; and why it
+/// ended. The service ends once the desk's storage is shut after a failure, since the desk would
+/// answer nothing any more. It fails where it cannot listen at the address, where nothing can be
+/// printed, and where a connection cannot be accepted though no other is open.
 pub(crate) fn serve_at<K: Keeper>(
     rt: &HostRuntime,
     desk: &mut Desk<K>,

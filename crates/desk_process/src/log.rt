@@ -10,11 +10,11 @@ use std::os::fd::RawFd;
 /// The standard error.
 const STANDARD_ERROR: RawFd = 2;
 
-/// Says lines on the standard error, and drops those that it does not take at once: if nobody reads
-/// it, the service goes on.
+/// Says lines on the standard error, and drops each line that cannot be written at once: the
+/// service goes on even if nobody reads the lines.
 #[derive(Drop)]
 pub(crate) struct Log {
-    /// Whether it takes a line; none where it always does, as a file.
+    /// Tells whether the standard error takes a line; none where it always does, as a file.
     ready: Option<Ready>,
     dropped: u64,
 }
@@ -33,7 +33,7 @@ impl Answered {
         refusal.map(Answered)
     }
 
-    /// Whether it tells that the storage failed.
+    /// Whether the refusal is that the storage failed.
     pub(crate) fn is_of_storage(&self) -> bool {
         matches!(self.0, Refusal::Storage)
     }
@@ -56,7 +56,7 @@ impl fmt::Display for Dropped {
 }
 
 impl Log {
-    /// Nothing is said yet.
+    /// A log in which nothing is said yet.
     pub(crate) fn new(rt: &HostRuntime) -> Log {
         Log {
             ready: Ready::new(rt, STANDARD_ERROR, Interest::WRITABLE).ok(),
@@ -80,7 +80,7 @@ impl Log {
         true
     }
 
-    /// Says a line, and before it how many were dropped since the last.
+    /// Says a line, and before it how many lines were dropped since the last one.
     pub(crate) fn say<T: Display>(&mut self, rt: &HostRuntime, line: &T) {
         let dropped = self.dropped;
         if dropped > 0 && self.try_say(rt, &Dropped(dropped)) {

@@ -17,7 +17,7 @@ pub(crate) struct Ready {
 }
 
 impl Ready {
-    /// Of this descriptor, for this. A regular file is an error.
+    /// Watches this descriptor for this interest. A regular file is an error.
     pub(crate) fn new(rt: &HostRuntime, fd: RawFd, interest: Interest) -> io::Result<Ready> {
         let poll = Poll::new(rt)?;
         let Ok(events) = Events::with_capacity(rt.alloc(), 1) else {
@@ -33,7 +33,7 @@ impl Ready {
         })
     }
 
-    /// Whether it is ready. To register it again has the poll tell once more what it told before.
+    /// Whether the descriptor is ready. Registering it again has the poll tell again what it told.
     pub(crate) fn is_ready(&mut self) -> io::Result<bool> {
         self.poll
             .registry()

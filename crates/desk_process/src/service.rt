@@ -34,7 +34,7 @@ const TO_LINGER: u64 = 10;
 /// The milliseconds that responses still have to go out, once the storage is shut.
 const TO_END: u64 = 500;
 
-/// The token of the listener. A connection's is its place.
+/// The token of the listener. The token of a connection is its place.
 const LISTENER: Token = Token(MOST_CONNECTIONS);
 
 /// The places of the connections whose requests are whole, each kind in the order in which they
@@ -57,13 +57,13 @@ pub(crate) enum End {
 /// What is known of the desk's storage.
 #[derive(Clone, Copy)]
 enum Storage {
-    /// It has not failed since the desk last answered a question of the service's own.
+    /// The storage has not failed since the desk last answered a question of the service's own.
     Answers,
-    /// It failed, as where a disk is full. The desk is asked at this millisecond whether it still
-    /// answers.
+    /// The storage failed, as where a disk is full. At this millisecond the service asks the desk
+    /// whether it still answers.
     Failed { ask_at: u64 },
-    /// It is shut, and stays so until it is opened again. What is not sent at this millisecond is
-    /// not sent.
+    /// The storage is shut, and stays so until it is opened again. The service ends at this
+    /// millisecond at the latest, even if responses are not out.
     Shut { end_at: u64 },
 }
 
@@ -78,16 +78,16 @@ pub(crate) struct Service {
     buffers: Buffers,
     places: Vec<Option<Connection>>,
     queues: RequestQueues,
-    /// The places of the connections whose responses went out since the last wait, of which the
-    /// poll tells nothing.
+    /// The places of the connections whose responses went out since the last wait. The poll tells
+    /// nothing about them.
     lingering: VecDeque<usize>,
     /// How many connections were accepted.
     arrivals: u64,
     /// How many connections are open.
     open: usize,
-    /// How many are still to be accepted.
+    /// How many connections are still to be accepted.
     left: u64,
-    /// More may wait to be accepted.
+    /// Whether more peers may wait to be accepted.
     more_wait: bool,
     began: Instant,
     /// The milliseconds that exchanges took, which count against no peer.
@@ -108,7 +108,7 @@ pub(crate) fn events(rt: &HostRuntime) -> io::Result<Events> {
 }
 
 impl RequestQueues {
-    /// No request waits yet.
+    /// Queues in which no request waits yet.
     fn new(alloc: Global) -> RequestQueues {
         RequestQueues {
             posts: VecDeque::new(alloc),
@@ -116,12 +116,12 @@ impl RequestQueues {
         }
     }
 
-    /// How many wait for their turn.
+    /// How many requests wait for their turn.
     fn len(&self) -> usize {
         self.posts.len().saturating_add(self.questions.len())
     }
 
-    /// Whether none waits for its turn.
+    /// Whether no request waits for its turn.
     fn is_empty(&self) -> bool {
         self.posts.is_empty() && self.questions.is_empty()
     }
@@ -198,7 +198,7 @@ impl Service {
     }
 
     /// Puts a connection back that was answered, to look at it again a little later. Most peers
-    /// have closed by then, and nobody had to be woken for it.
+    /// have closed by then, and the poll did not have to tell about them.
     fn linger(&mut self, rt: &HostRuntime, log: &mut Log, at: usize, connection: Connection) {
         match self.lingering.push_back(at) {
             Ok(()) => self.put(at, connection),
@@ -264,8 +264,8 @@ impl Service {
         self.settle(rt, log, at, next);
     }
 
-    /// Goes on with the connection at a place as far as its peer lets it. Once its request has
-    /// come, it waits for its turn.
+    /// Goes on with the connection at a place as far as its peer lets it. Once the request has
+    /// come, the connection waits for its turn.
     fn go_on(&mut self, rt: &HostRuntime, log: &mut Log, at: usize, now: u64) {
         let Some(connection) = self.take(at) else {
             return;
@@ -342,7 +342,7 @@ impl Service {
     }
 
     /// Has the desk answer all POSTs that are whole, and then questions for a moment: so a delivery
-    /// that comes next waits for few of them, however many there are.
+    /// that comes next waits for few questions, however many there are.
     fn answer_some<K: Keeper>(
         &mut self,
         rt: &HostRuntime,
@@ -381,9 +381,9 @@ impl Service {
         self.places.len().checked_sub(1)
     }
 
-    /// The slowest connection that may be let go for another, and its pace; of equal ones the one
-    /// that is due first, and of these the one that came first: what the last one asks may be on
-    /// its way.
+    /// The slowest connection that may be let go for another, and its pace. Among equally slow
+    /// connections it is the one that is due first, and then the one that came first: the request
+    /// of a later one may be on its way.
     fn slowest(&self, now: u64) -> Option<(usize, u64)> {
         let mut found: Option<(usize, (u64, u64, u64))> = None;
         for at in 0..self.places.len() {
@@ -409,8 +409,8 @@ impl Service {
         }
     }
 
-    /// Lets the slowest connection go, if there is one that may be. What has come on it is read
-    /// first: where that is more, the slowest is looked for again.
+    /// Lets the slowest connection go, if any may be let go. The bytes that have come on it are
+    /// read first: where they change its pace, the slowest is looked for again.
     fn let_slowest_go(&mut self, rt: &HostRuntime, log: &mut Log, now: u64) -> bool {
         for _ in 0..MOST_AT_ONCE {
             let Some((at, pace)) = self.slowest(now) else {
@@ -455,11 +455,11 @@ impl Service {
         self.left == 0 || matches!(self.storage, Storage::Shut { .. })
     }
 
-    /// Accepts what has connected. While no connection may be let go for another, none is accepted
-    /// past the most. A connection that cannot be accepted is an error where no other is open.
+    /// Accepts peers that have connected. While no connection may be let go for another, none is
+    /// accepted past the most. A connection that cannot be accepted is an error if none is open.
     ///
     /// To accept where nobody waits costs the system a socket that it makes and drops, and fails
-    /// for want of a descriptor first: so it is asked before whether anybody does.
+    /// for want of a descriptor first: so the service first asks whether another peer waits.
     fn accept(&mut self, rt: &HostRuntime, log: &mut Log, now: u64) -> io::Result<()> {
         self.more_wait = false;
         for _ in 0..MOST_AT_ONCE {
@@ -509,9 +509,9 @@ impl Service {
         }
     }
 
-    /// How long to wait for an event: until a connection is due or to be looked at again, or the
-    /// desk is to be asked, without end where nothing is, and not at all where a request waits for
-    /// its turn or more may wait to be accepted.
+    /// How long to wait for an event: not at all where a request waits for its turn or more peers
+    /// may wait to be accepted. Else the wait lasts until a connection is due or to be looked at
+    /// again, or the storage is due; it has no end where nothing is due.
     fn patience(&self, now: u64) -> Option<Duration> {
         if self.more_wait || !self.queues.is_empty() {
             return Some(Duration::ZERO);
@@ -529,8 +529,8 @@ impl Service {
         first.map(|due| Duration::from_millis(due.saturating_sub(now).saturating_add(1)))
     }
 
-    /// Looks again at so many connections that were answered, those that wait longest: one whose
-    /// peer has closed since is over, and of the others the poll tells from then on.
+    /// Looks again at so many connections that were answered, the longest waiting ones first. A
+    /// connection whose peer has closed is over; the poll tells about the others from then on.
     fn end_lingering(&mut self, rt: &HostRuntime, log: &mut Log, count: usize, now: u64) {
         for _ in 0..count {
             match self.lingering.pop_front() {
@@ -540,10 +540,10 @@ impl Service {
         }
     }
 
-    /// Waits until a peer is ready or a connection is due, reads what has come on all connections,
-    /// and only then takes up new ones and answers; ends what was answered before, which no peer
-    /// waits for; and asks a desk whose storage failed. The clock is read once for all that has
-    /// come.
+    /// Waits until a peer is ready or a connection is due, and reads what has come on all
+    /// connections. Only then does it accept new connections and answer requests. Last, it looks
+    /// again at connections that were answered, asks a desk whose storage failed, and lets go
+    /// connections that are due. The clock is read once for all that has come.
     fn turn<K: Keeper>(
         &mut self,
         rt: &HostRuntime,

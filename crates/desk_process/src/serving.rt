@@ -26,11 +26,11 @@ fn status_of(served: Result<End, Trouble>) -> Result<ExitStatus, Trouble> {
 }
 
 /// Serves the desk that the files make over what the keeper keeps, at the address, and hands the
-/// keeper on. Where the keeper keeps nothing yet, `new` is the path of the store that is made: it
-/// is told at once.
+/// keeper on. Where the keeper keeps nothing yet, `new` is the path of the store that is made:
+/// that path is said at once.
 ///
-/// It is refused where the files make no desk, where it cannot listen at the address or accept from
-/// it, and where the desk's storage failed so that it has to be opened again.
+/// The command is refused where the files make no desk, where it cannot listen at the address or
+/// accept connections there, and where the desk's storage failed and has to be opened again.
 pub(crate) fn serve<K: Keeper>(
     rt: &HostRuntime,
     files: &[Vec<u8>],

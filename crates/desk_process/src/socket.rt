@@ -131,7 +131,7 @@ impl Listener {
         }
     }
 
-    /// Its descriptor.
+    /// The listener's descriptor.
     pub(crate) fn descriptor(&self) -> RawFd {
         match self {
             Listener::Tcp(listener) => listener.as_raw_fd(),
@@ -162,7 +162,7 @@ impl Stream {
         }
     }
 
-    /// Has the poll, which tells of the peer, tell nothing more.
+    /// Has the poll, which watches the peer, tell nothing more about it.
     pub(crate) fn unwatch(&mut self, registry: &Registry) -> io::Result<()> {
         match self {
             Stream::Tcp(stream) => registry.deregister(stream),
@@ -170,7 +170,7 @@ impl Stream {
         }
     }
 
-    /// Ends what is written.
+    /// Ends the bytes that go to the peer.
     pub(crate) fn end(&self) -> io::Result<()> {
         match self {
             Stream::Tcp(stream) => stream.shutdown(Shutdown::Write),

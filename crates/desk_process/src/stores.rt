@@ -14,7 +14,7 @@ use store_schema::{Shape, shape_of};
 #[derive(Drop)]
 pub(crate) struct Opened<S: Alter + Drop> {
     pub(crate) stored: SqliteKeeper<S>,
-    /// Whether it has nothing of a desk's yet.
+    /// Whether the database has no part of a desk yet.
     pub(crate) is_new: bool,
 }
 
@@ -42,8 +42,8 @@ fn asks(job: &Job) -> bool {
     )
 }
 
-/// Why a file is no database that can be opened. What the system says of it is told as well, where
-/// it does not let the program read and write it.
+/// Why a file cannot be opened as a database. Where the system does not let the program read and
+/// write the file, the system's own error is told as well.
 fn refused(rt: &HostRuntime, path: &str, error: Error) -> Trouble {
     let alloc = rt.alloc();
     match OpenOptions::new().read(true).write(true).open(rt, path) {
@@ -55,15 +55,15 @@ fn refused(rt: &HostRuntime, path: &str, error: Error) -> Trouble {
     }
 }
 
-/// Whether a database has nothing of a desk's.
+/// Whether a database has no part of a desk.
 fn is_vacant<S: Alter>(conn: &Connection<S>) -> bool {
     matches!(shape_of(conn.schema()), Shape::Free)
 }
 
 /// A keeper over the database of this path, for a desk that will be asked or for one that only
-/// takes messages. How a crash is read is the start's: one that supposes less syncs twice a commit.
-/// Where its files open and the disk then refuses them a read or a write, as a full disk does, the
-/// refusal is that the storage failed.
+/// takes messages. The start says how a crash is read: one that supposes less syncs twice a commit.
+/// Where the database's files open and the disk then refuses a read or a write, as a full disk
+/// does, the refusal is that the storage failed.
 pub(crate) fn open_store<S: Start>(
     rt: &HostRuntime,
     job: &Job,
@@ -95,8 +95,8 @@ pub(crate) fn tell_new(rt: &HostRuntime, path: &str) {
     let _ = eprintln!(rt; "new store: {path}");
 }
 
-/// Ends with a job's database at this path. Where it was new, and the job made a desk of it, that
-/// is said; of a desk that was served it was said before.
+/// Lets go of a job's database at this path. Where the job made a desk in a new database, that is
+/// said here, unless the job served the desk: then it was said before.
 pub(crate) fn close<S: Start>(
     rt: &HostRuntime,
     job: &Job,

@@ -8,7 +8,7 @@ use std::os::fd::{AsRawFd, IntoRawFd};
 const LAST_STREAM: i32 = 2;
 
 /// Opens `/dev/null` at the next free descriptor. A standard input that is missing is opened to
-/// write, and an output to read, so that using one fails as it would have without it.
+/// write, and an output to read, so that using the stream fails as if it were still missing.
 fn open_next(rt: &HostRuntime) -> io::Result<File> {
     let file = File::open(rt, "/dev/null")?;
     if file.as_raw_fd() != 0 {

@@ -9,7 +9,7 @@ use std::io;
 #[derive(Drop)]
 pub(crate) struct Trouble {
     refusal: JobRefusal,
-    /// What failed, and why; none where nothing of the kind did, or memory ran out.
+    /// What failed, and why; none where no such thing failed, or memory ran out.
     cause: Option<String>,
 }
 
@@ -50,7 +50,7 @@ impl Trouble {
     }
 }
 
-/// Says why a stream failed, if it did, once its refusal is said.
+/// Says why a stream failed, if it did, once the job's refusal is said.
 pub(crate) fn tell_failed(rt: &HostRuntime, what: &str, failed: Option<io::Error>) {
     if let Some(error) = failed {
         let _ = eprintln!(rt; "cause: {what}: {error}");

@@ -14,7 +14,7 @@ use sqlite_disk::{Start, Unknown, Wary};
 use std::io::{BufReader, BufWriter};
 
 /// Does a job other than `serve` over the process's streams and what the keeper keeps, and hands
-/// the keeper on. Where it is refused since a stream failed, a further line says which and why.
+/// the keeper on. Where a stream failed and the job is refused, a further line says which and why.
 fn run_on_streams<K: Keeper + Drop>(
     rt: &HostRuntime,
     job: &Job,
@@ -39,8 +39,8 @@ fn run_on_streams<K: Keeper + Drop>(
     (Ok(status), keeper)
 }
 
-/// Does the job over what the keeper keeps, and hands the keeper on. Where it keeps nothing yet,
-/// `new` is the path of the store that is made.
+/// Does the job over what the keeper keeps, and hands the keeper on. Where the keeper keeps nothing
+/// yet, `new` is the path of the store that is made.
 fn work_over<K: Keeper + Drop>(
     rt: &HostRuntime,
     job: &Job,
@@ -54,8 +54,8 @@ fn work_over<K: Keeper + Drop>(
     }
 }
 
-/// Does the job over what the database keeps, and hands its keeper on. What a `rebuild` changes is
-/// said before it is done.
+/// Does the job over what the database keeps, and hands its keeper on. A `rebuild` first says
+/// which grants it changes.
 fn work_stored<S: Alter + Drop>(
     rt: &HostRuntime,
     job: &Job,
@@ -89,7 +89,7 @@ fn done_at<S: Start>(
 }
 
 /// Does the job, or says why not: its files are read before its database is opened. A commit syncs
-/// twice for a start that supposes nothing of what a torn write leaves, and else once.
+/// twice for a start that supposes nothing about what a torn write leaves, and else once.
 fn done(rt: &HostRuntime, job: &Job) -> Result<ExitStatus, Trouble> {
     let mut files = files(rt, job)?;
     let files = files.as_mut_slice();
@@ -100,8 +100,8 @@ fn done(rt: &HostRuntime, job: &Job) -> Result<ExitStatus, Trouble> {
     }
 }
 
-/// Does the job. Its files are read before its database is opened; without one it has a keeper in
-/// memory, which is empty.
+/// Does the job. Its files are read before its database is opened; a job without a database has an
+/// empty keeper in memory.
 ///
 /// `F1` comes before anything is printed where a file cannot be read, a database cannot be opened,
 /// or an address cannot be listened at, and a further line says which and why; the other refusals

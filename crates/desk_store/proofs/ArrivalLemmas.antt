@@ -22,7 +22,7 @@ content_wired old new m text is content = content ∙ ap (λ t. with_text t (con
 pub held_wired : (db : Database) (m : Message) (text : List ℕ) → text ≡ wire m → HoldsText db m → has (content_of db) text ≡ true
 held_wired db m text is held = ap (has (content_of db)) is ∙ held.1
 
--- what is told of its text is told of the message
+-- what is told of a message's text is told of the message
 pub told_wired : (db : Database) (m : Message) (text : List ℕ) (arrival : Arrival) → IsMessage m → text ≡ wire m
     → IsTold (has (content_of db) text ≡ true) arrival → IsTold (HoldsText db m) arrival
 told_wired db m text Held is wired there = (is, ap (has (content_of db)) (sym wired) ∙ there)

@@ -35,7 +35,7 @@ module _ {T U E F : Type 0} (r : Result T E) (s : Result U F) where
       go (Err a) (Ok f) refused p = absurd cc
       go (Ok e) s refused p = tt
 
-  -- it is up, or a failure was counted
+  -- the keeper is up, or a failure was counted
   pub up_or_failed : (P Q : Type 0) → OnOk r (IsOk s) → OnOk s P → OnErr r Q → P ⊎ Q
   up_or_failed P Q done p q = go r s done p q
     where

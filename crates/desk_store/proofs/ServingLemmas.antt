@@ -14,7 +14,7 @@ pub failed_later : (a b c : ℕ) → a ≤ b → HasFailed b c → HasFailed a c
 failed_later a b c below (inl rose) = inl (omega (arith, rose, below))
 failed_later a b c below (inr greatest) = inr greatest
 
--- ---- whether it is up
+-- ---- whether the keeper is up
 
 -- an answer that is not a `Want`
 pub not_err : {Up : Type 0} → (false ≡ true) ⊎ Up → Up

@@ -1,5 +1,5 @@
--- What a look at a keeper tells, what it knows of its messages and how many they are, and what a
--- count of failures says.
+-- What a look at a keeper tells, what is known of a desk's messages and how many they are, and what
+-- a count of failures says.
 use Rattle.std.specs.Prelude.{◌≡◌, ◌≢◌, ⊤, ℕ, ◌+◌, ◌-◌, ◌^◌, List, length, min, string_bytes}
 use Rattle.std.specs.Prelude.{AllPairs, IfSome}
 use Rattle.messages.specs.declared.message.Message.{Message}
@@ -37,14 +37,14 @@ IsCountIn list n = AllPairs (λ x y. x ≢ y) list × (length list ≡ n)
 abbrev pub IsCountOf : (Message → Type 0) → ℕ → Type 0
 IsCountOf S n = (list : List Message) × Lists S list × IsCountIn list n
 
--- if the look found a desk, this holds of what it tells of it
+-- if the look found a desk, this holds of what the look tells of the desk
 abbrev pub IfDesk : (FoundDesk → Type 0) → Found → Type 0
 IfDesk Says found.Empty = ⊤
 IfDesk Says (found.Desk desk) = Says desk
 IfDesk Says found.OldDesk = ⊤
 IfDesk Says found.NotADesk = ⊤
 
--- what a look tells of a desk's messages, if it tells anything of them, is known of these
+-- what a look tells of a desk's messages, if anything, is known of the set's messages
 abbrev pub TellsKnown : (Message → Type 0) → Found → Type 0
 TellsKnown S = IfDesk (λ desk. IfSome desk.known (IsKnownOf S))
 

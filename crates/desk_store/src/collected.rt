@@ -21,7 +21,7 @@ use store_tables::Arrival;
 pub(crate) struct Collected {
     alloc: Global,
     messages: Vec<Message>,
-    /// The text of each, by which a repeat is found.
+    /// The text of each message, by which a repeat is found.
     texts: HashSet<String>,
 }
 
@@ -75,7 +75,7 @@ fn add_text(texts: &mut HashSet<String>, key: String) -> Result<(), KeeperError>
 }
 
 impl Collected {
-    /// No messages. It takes no memory.
+    /// No messages. The call takes no memory.
     pub(crate) fn new(alloc: Global) -> Collected
         ensures { result ≡ [] }
     {
@@ -86,8 +86,8 @@ impl Collected {
         }
     }
 
-    /// Adds a copy of the message, whose text this is, after the others, unless it is there
-    /// already. The answer tells which it was.
+    /// Adds a copy of the message, whose text this is, after the others, unless the message is
+    /// there already. The answer tells whether the message was new.
     pub(crate) fn put(&mut self, message: &Message, text: &str) -> Result<Arrival, KeeperError>
         requires message { IsMessage message.now }
         requires text { text.now ≡ wire message.now }

@@ -22,7 +22,7 @@ fn texts_of(alloc: Global, messages: &[Stored]) -> Result<Vec<&str>, NoMemory>
     Ok(texts)
 }
 
-/// Whether each text comes before the next one. So no two are the same.
+/// Whether each text comes before the next one, so that no two are the same.
 fn ascends(texts: &[&str]) -> bool
     ensures { result ≡ true → IsStrictlySortedBy (λ a b. slice_cmp nat_cmp a.now b.now) texts.now }
 {

@@ -8,7 +8,7 @@ use std::error::Error;
 use std::fmt;
 use sudo_words::NoMemory;
 
-/// Why a keeper refuses a call. It is shown as its name.
+/// Why a keeper refuses a call. An error is shown as its name.
 #[derive(Clone, Copy, Debug, PartialEq, Eq)]
 pub enum KeeperError {
     /// Memory ran out: a growth was refused.

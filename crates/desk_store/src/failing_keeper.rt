@@ -15,8 +15,9 @@ use store_tables::Arrival;
 /// A keeper around any other: the given number of calls succeed or fail as they would, and each
 /// later one is refused before it reaches the keeper inside.
 ///
-/// It shows what a caller does when its storage fails at a given call. What is kept stays as the
-/// last call that came through left it. Calls by `&self` are never refused, and are not counted.
+/// Such a keeper shows what a caller does when the storage fails at a given call. What is kept
+/// stays as the last call that came through left it. Calls by `&self` are never refused, and are
+/// not counted.
 #[derive(Drop)]
 pub struct FailingKeeper<K: Keeper> {
     kept: K,
@@ -25,7 +26,7 @@ pub struct FailingKeeper<K: Keeper> {
 }
 
 impl<K: Keeper> FailingKeeper<K> {
-    /// A keeper that passes this many calls on. It takes no memory.
+    /// A keeper that passes this many calls on. The call takes no memory.
     pub fn new(kept: K, calls: u64) -> FailingKeeper<K>
         ensures same { result.kept ≡ kept }
         ensures calls { result.calls_left ≡ calls }
@@ -51,7 +52,7 @@ impl<K: Keeper> FailingKeeper<K> {
     }
 }
 
-/// Counts a call down, or refuses it and counts that.
+/// Counts a call down, or refuses the call and counts the refusal.
 fn spend(calls_left: &mut u64, refused: &mut u64) -> Result<(), KeeperError>
     ensures blown { IsErr result ↔ (calls_left.old ≡ 0) }
     ensures spent { calls_left.new ≡ calls_left.old - 1 }

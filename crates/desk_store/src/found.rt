@@ -18,9 +18,9 @@ pub enum Found {
 /// A desk that a keeper keeps.
 #[derive(Drop)]
 pub struct FoundDesk {
-    /// The text of its roster.
+    /// The text of the desk's roster.
     pub roster: String,
-    /// What is known of its messages, if the look has made that of them.
+    /// What is known of the desk's messages, if the look has gathered it.
     pub known: Option<Gathered>,
     /// How many messages there are, if the look has counted them.
     pub count: Option<usize>,

@@ -25,8 +25,9 @@ fn give_back(left: &mut Vec<Stored>)
     }
 }
 
-/// What is known of these messages. Each is freed once it is taken in, and the list's room once
-/// half of it is free: so the messages and what is known of them are never whole in memory at once.
+/// Gathers what the messages come to. Each message is freed once it is taken in, and the list's
+/// room once half of the room is free: so the messages and what they come to are never whole in
+/// memory at once.
 pub(crate) fn known_of(alloc: Global, messages: Vec<Stored>) -> Result<Gathered, NoMemory>
     ensures { IfOk result (AreGathered messages.items) }
 {
@@ -44,7 +45,7 @@ pub(crate) fn known_of(alloc: Global, messages: Vec<Stored>) -> Result<Gathered,
 }
 
 /// What is known of the messages of the desk that the database keeps, by the rows that follow from
-/// them. The database stays as it is.
+/// these messages. The database stays as it is.
 pub(crate) fn gather_in<S: Alter>(
     alloc: Global,
     conn: &mut Connection<S>,

@@ -19,8 +19,8 @@ use messages::Message;
 use outcomes::Gathered;
 use store_tables::Arrival;
 
-/// What keeps a desk: it has no part of a desk, or a desk's roster text and the set of its
-/// messages, or a desk of an older form, or something that is not a desk.
+/// What keeps a desk. A keeper has no part of a desk, or a desk's roster text and the set of the
+/// desk's messages, or a desk of an older form, or something that is not a desk.
 ///
 /// Each call that changes what is kept makes the whole change, in one commit, or none of it, and
 /// takes the memory that it needs first. A clause about what is kept holds if the keeper is up when
@@ -31,20 +31,21 @@ use store_tables::Arrival;
 ///
 /// A clause `crash` holds at each exit of its call, also after a failure, as long as the storage
 /// has been honest: what a crash may leave then, for the next opening, is all that was kept when
-/// the call began, or all that the call was to commit. A clause `lasting` says that after Ok it is
-/// only the latter, and a clause `durable` that it is what the keeper keeps, as long as it is up.
+/// the call began, or all that the call was to commit. A clause `lasting` says that after Ok a
+/// crash leaves only the latter, and a clause `durable` says that a crash leaves what the keeper
+/// keeps, as long as the keeper is up.
 ///
 /// The clauses `live` and `leaves` hold of a keeper that is not up as well, as long as its storage
-/// has been honest: one that a failure has shut answers Ok to no call but a look, and commits
-/// nothing. So a crash leaves nothing then that it might not have left before.
+/// has been honest: a keeper that a failure has shut answers Ok to no call but a look, and commits
+/// nothing. So a crash then leaves nothing that it might not have left before.
 pub trait Keeper {
-    /// It keeps no part of a desk.
+    /// The keeper keeps no part of a desk.
     ghost is_empty: { Self → Type 0 };
 
-    /// It keeps a desk.
+    /// The keeper keeps a desk.
     ghost is_desk: { Self → Type 0 };
 
-    /// It keeps a desk of an older form, which is to be rebuilt.
+    /// The keeper keeps a desk of an older form, which is to be rebuilt.
     ghost is_old: { Self → Type 0 };
 
     /// The text of the desk's roster, also of a desk of an older form.
@@ -71,14 +72,14 @@ pub trait Keeper {
     /// The table is kept too, with these rows, and is not one of a desk's.
     ghost beside: { Self → TableWithRows → Type 0 };
 
-    /// The second keeps what the first does.
+    /// The second keeper keeps what the first keeps.
     ghost is_same: { Self → Self → Type 0 };
 
     /// A crash at this moment may leave this, for the next opening.
     ghost may_leave: { Self → Left → Type 0 };
 
-    /// Tells what it keeps, and, as it sees fit, what is known of a desk's messages and how many
-    /// they are. What is kept stays as it is.
+    /// Tells what the keeper keeps, and, where the keeper sees fit, what is known of a desk's
+    /// messages and how many they are. What is kept stays as it is.
     fn look(&mut self) -> Result<Found, KeeperError>
         ensures found { is_up self.new → IfOk result
             (Tells (is_empty self.old) (is_desk self.old) (is_old self.old) (roster self.old)) }
@@ -89,8 +90,8 @@ pub trait Keeper {
         ensures same { is_up self.new → is_same self.old self.new }
         ensures served { IsServed is_up is_clean failures beside self.old self.new
             (result ≡ Err KeeperError.Storage) (IsErr result) }
-        // A look that sees no table of a desk's may run no statement: so `Empty` and `NotADesk` do
-        // not say that the keeper is up.
+        // A look that sees none of a desk's tables may run no statement: so `Empty` and `NotADesk`
+        // do not say that the keeper is up.
         ensures live { is_clean self.new
             → IfOk result (λ found. FindsSomeDesk found → is_up self.new) }
         ensures crash { is_up self.old → is_clean self.new
@@ -119,8 +120,8 @@ pub trait Keeper {
             → LeavesOnly (may_leave self.new) (IsAsKept (is_empty self.new)
             (is_desk self.new) (is_old self.new) (roster self.new) (holds self.new)) };
 
-    /// Adds the message, whose text this is, to the desk's, in one commit. One that the desk has
-    /// already changes nothing. The answer tells which it was.
+    /// Adds the message, whose text this is, to the desk's messages, in one commit. A message that
+    /// the desk has already changes nothing. The answer tells whether the message was new.
     fn add(&mut self, message: &Message, text: &str) -> Result<Arrival, KeeperError>
         requires desk { is_up self.old → is_desk self.old }
         requires message { IsMessage message.now }
@@ -136,8 +137,9 @@ pub trait Keeper {
         ensures roster { is_up self.new → roster self.new ≡ roster self.old }
         ensures served { IsServed is_up is_clean failures beside self.old self.new
             (result ≡ Err KeeperError.Storage) (IsErr result) }
-        // For a message that it has, `Storage` comes only where the storage's own count of failures
-        // rose or stands at the greatest number of 64 bits, or the steps of a query are limited.
+        // For a message that the desk has, `Storage` comes only where the storage's own count of
+        // failures rose or stands at the greatest number of 64 bits, or the steps of a query are
+        // limited.
         ensures cause { is_up self.old → is_clean self.new → holds self.old message.now
             → result ≡ Err KeeperError.Storage
             → HasFailed (faults self.old) (faults self.new) ⊎ is_limited self.old }
@@ -200,7 +202,7 @@ pub trait Keeper {
         ensures leaves { is_clean self.new
             → AddsOnly (may_leave self.old) (may_leave self.new) (λ _. ⊥) };
 
-    /// How many failures it has counted, up to the greatest number of 64 bits.
+    /// How many failures the keeper has counted, up to the greatest number of 64 bits.
     fn failures(&self) -> u64
         ensures { result ≡ Self.failures self.now };
 
@@ -232,7 +234,7 @@ pub trait Keeper {
 
     ghost same_on: { (a b c : Self) → is_same a b → is_same b c → is_same a c };
 
-    /// A keeper that keeps the same as one without any part of a desk has none either.
+    /// A keeper that keeps the same as one without any part of a desk has no part of a desk either.
     ghost stays_empty: { (a b : Self) → is_same a b → is_empty a → is_empty b };
 
     /// A keeper that keeps the same as one with a desk keeps a desk.

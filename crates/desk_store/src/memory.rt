@@ -19,8 +19,8 @@ use std::alloc::Global;
 use std::marker::Model;
 use store_tables::Arrival;
 
-/// A desk in memory, or no part of one. It is always up, never answers `Storage`, and keeps no desk
-/// of an older form.
+/// A desk in memory, or no part of one. A keeper in memory is always up, never answers `Storage`,
+/// and keeps no desk of an older form.
 #[derive(Drop)]
 pub struct MemoryKeeper {
     alloc: Global,
@@ -41,7 +41,7 @@ impl Model for MemoryKeeper {
 }
 
 impl MemoryKeeper {
-    /// A keeper that keeps no part of a desk. It takes no memory.
+    /// A keeper that keeps no part of a desk. The call takes no memory.
     pub fn new(alloc: Global) -> MemoryKeeper
         ensures { result ≡ memory.nothing }
     {

@@ -49,8 +49,8 @@ fn replace_today<S: Alter>(
     replace(alloc, conn, roster, messages.as_slice())
 }
 
-/// Replaces the roster's text of a desk of an older form, whose contents these are. It becomes one
-/// of today.
+/// Replaces the roster's text of a desk of an older form, whose contents these are. The desk
+/// becomes one of today.
 fn replace_older<S: Alter>(
     alloc: Global,
     conn: &mut Connection<S>,

@@ -33,14 +33,15 @@ use store_opening::{Contents, InDatabase, look, messages_of};
 use store_schema::{is_ready, make};
 use store_tables::{Arrival, Fault, arrive};
 
-/// A desk in a database over any store, or a database that has none. Between calls all that it
-/// shows is committed.
+/// A desk in a database over any store, or a database without a desk. Between calls all that the
+/// database shows is committed.
 ///
-/// It counts a failure for each call that is refused, for whatever reason: also for a look at a
-/// desk whose rows are not those that follow from its messages, and for want of memory.
+/// The keeper counts a failure for each call that it refuses, for whatever reason: also for a look
+/// at a desk whose rows are not those that follow from its messages, and for want of memory.
 ///
-/// A look reads all messages in any case. One of a keeper that is made by `that_gathers` tells what
-/// is known of them too, and how many they are: who asks the desk next need not read them again.
+/// A look reads all messages in any case. Where the keeper is made by `that_gathers`, a look also
+/// tells what the messages come to, and how many there are, as far as memory suffices: whoever asks
+/// the desk next need not read the messages again.
 pub struct SqliteKeeper<S: Alter> {
     alloc: Global,
     conn: Connection<S>,
@@ -51,7 +52,7 @@ pub struct SqliteKeeper<S: Alter> {
 
 impl<S: Alter> SqliteKeeper<S> {
     /// A keeper of what the database keeps. The connection is in no transaction, unless a failure
-    /// has shut its store. It takes no memory.
+    /// has shut its store. The call takes no memory.
     pub fn new(alloc: Global, conn: Connection<S>) -> SqliteKeeper<S>
         requires { IsUp (state S.Store conn) → conn.in_transaction ≡ false }
         ensures same { result.conn ≡ conn }
@@ -66,8 +67,8 @@ impl<S: Alter> SqliteKeeper<S> {
         }
     }
 
-    /// The same, for a desk that will be asked: a look tells what is known of its messages, and how
-    /// many they are.
+    /// A keeper of what the database keeps, for a desk that will be asked: a look tells what is
+    /// known of the desk's messages, and how many there are.
     pub fn that_gathers(alloc: Global, conn: Connection<S>) -> SqliteKeeper<S>
         requires { IsUp (state S.Store conn) → conn.in_transaction ≡ false }
         ensures same { result.conn ≡ conn }
@@ -99,8 +100,8 @@ impl<S: Alter> SqliteKeeper<S> {
     /// Gives up this keeper, and makes a new one over its connection: what another keeper finds
     /// over the same connection.
     ///
-    /// It keeps what this one did, and is up exactly where this one was. Its count of failures
-    /// begins again.
+    /// The new keeper keeps what this keeper kept, and is up exactly where this keeper was up. The
+    /// count of failures begins again.
     pub fn renewed(self) -> SqliteKeeper<S>
         ensures database { (state S.Store result.conn).now ≡ (state S.Store self.conn).now }
         ensures up { IsUp (state S.Store result.conn) ↔ IsUp (state S.Store self.conn) }
@@ -134,8 +135,8 @@ impl<S: Alter + Drop> Drop for SqliteKeeper<S> {
     }
 }
 
-/// What the keeper tells of a desk that was found. What memory lacks for is not told of its
-/// messages, and is gathered or counted when it is asked for.
+/// What the keeper tells of a desk that was found. Where memory lacks, what is known of the
+/// messages or their count is not told; the desk gathers or counts once it is asked.
 fn shown_desk(alloc: Global, gathers: bool, contents: Contents) -> FoundDesk
     ensures roster { result.roster ≡ contents.roster }
     ensures known { IfSome result.known (AreGathered contents.messages.items) }
@@ -150,7 +151,7 @@ fn shown_desk(alloc: Global, gathers: bool, contents: Contents) -> FoundDesk
             count: None,
         };
     }
-    // They are counted first: what is known of them is gathered from them as each is freed.
+    // The messages are counted first, since gathering frees each of them.
     let count = count_of(alloc, messages.as_slice());
     let known = known_of(alloc, messages).ok();
     FoundDesk {

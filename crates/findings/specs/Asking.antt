@@ -79,7 +79,7 @@ abbrev pub hear_all : Heard → List (List ℕ) → Heard
 hear_all h [] = h
 hear_all h (word ∷ words) = hear_all (hear h word) words
 
--- ---- what they ask
+-- ---- what the words ask
 
 -- the word, if there is one, is the stamp of the moment, if there is one
 abbrev pub IsMomentOf : Option (List ℕ) → Option ℕ → Type 0

@@ -41,7 +41,7 @@ joined is_first (t ∷ ts) = comma_before is_first ++ t ++ joined false ts
 
 -- ---- a verdict
 
--- whether it counts, and else why it does not
+-- whether the verdict counts, and else why it does not
 abbrev pub why_json : List ℕ → List ℕ
 why_json word = codes ",\"counts\":false,\"why\":\"" ++ word ++ codes "\"}"
 
@@ -107,7 +107,7 @@ abbrev pub status_json : RequestName → Option Status → Option Denial → Lis
 status_json name status denial =
     codes "{" ++ name_json name ++ word_json status ++ window_json status ++ denial_json denial
 
--- ---- what it lacks
+-- ---- what a request lacks
 
 abbrev pub in_quotes : List ℕ → List ℕ
 in_quotes word = codes "\"" ++ word ++ codes "\""
@@ -144,7 +144,7 @@ lapsed (Some Waiting) qs = None
 lapsed (Some Void) qs = None
 lapsed (Some (Granted w)) qs = None
 
--- why the roster does not admit it, if it lapsed
+-- why the roster does not admit the request, if it lapsed
 abbrev pub IsDenialOf : RosterFields Cmnd → Option RequestFields → Option Denial → Type 0
 IsDenialOf f None denial = denial ≡ None
 IsDenialOf f (Some q) None = Admits f (Request q)

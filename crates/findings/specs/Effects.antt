@@ -18,7 +18,7 @@ use Rattle.findings.specs.declared.effects.Effect.{Effect}
 use Rattle.findings.specs.declared.effects.Effect.TheVariants.{Weighs, Late}
 use Rattle.findings.specs.declared.effects.Effect.TheVariants.{Lapsed, Disputed, Parked}
 
--- the word for it
+-- the word for an effect
 abbrev pub effect_text : Effect → List ℕ
 effect_text (Weighs w) = weight_text w
 effect_text Late = codes "late"
@@ -38,7 +38,7 @@ is_refusal Approve = false
 is_refusal Refuse = true
 is_refusal Revoke = false
 
--- it is an approval, and counts
+-- the verdict is an approval, and counts
 abbrev pub counts_as_approval : RosterFields Cmnd → CeilingFields Cmnd → VerdictFields → Bool
 counts_as_approval f c v = is_approval v.kind && counts f c v
 
@@ -46,7 +46,7 @@ counts_as_approval f c v = is_approval v.kind && counts f c v
 abbrev pub is_of_one : List VerdictFields → (person : List ℕ) → Bool
 is_of_one vs person = list_any (λ v. bytes_eq v.by person) vs
 
--- it is an approval that counts, and the first of its author's
+-- the verdict is an approval that counts, and its author's first
 abbrev pub is_first : RosterFields Cmnd → CeilingFields Cmnd
     → (so_far : List VerdictFields) → VerdictFields → Bool
 is_first f c so_far v = counts_as_approval f c v && not (is_of_one so_far v.by)
@@ -61,7 +61,7 @@ abbrev pub approvals_after : RosterFields Cmnd → CeilingFields Cmnd
 approvals_after f c so_far [] = so_far
 approvals_after f c so_far (v ∷ vs) = approvals_after f c (with_first f c so_far v) vs
 
--- those under the ceiling, if the roster has it
+-- the approvals that count under the ceiling, if the roster has it
 abbrev pub approvals_under : RosterFields Cmnd → Option (CeilingFields Cmnd)
     → List VerdictFields → List VerdictFields
 approvals_under f None vs = []
@@ -69,7 +69,7 @@ approvals_under f (Some c) vs = approvals_after f c [] vs
 
 -- ---- effects
 
--- it is a refusal, and comes after the completion
+-- the verdict is a refusal, and comes after the completion
 abbrev pub is_late : Option ℕ → VerdictFields → Bool
 is_late None v = false
 is_late (Some complete) v = is_refusal v.kind && nat_lt complete v.at

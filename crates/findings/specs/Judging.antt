@@ -98,23 +98,23 @@ waiting_as (Some (Granted w)) asked = None
 abbrev pub waiting : RosterFields Cmnd → AuditEntry → Option Asked
 waiting f e = waiting_as e.status (only_one (ceiling_for f e) e.about.requests.items)
 
--- how many people's approvals it lacks
+-- how many people's approvals the request lacks
 abbrev pub lacks : RosterFields Cmnd → AuditEntry → Option ℕ
 lacks f e = option_map (λ a. a.1.needs - length (approvals_for f e)) (waiting f e)
 
--- the person may approve it at the moment, and has not yet
+-- the person may approve the request at the moment, and has not yet
 abbrev pub may_approve : RosterFields Cmnd
     → (approvals : List VerdictFields) → Asked → (at : ℕ) → (person : List ℕ) → Bool
 may_approve f approvals asked at person =
     eligible f person asked.0.by asked.1 at && not (is_of_one approvals person)
 
--- those of these people who may
+-- the people of a list who may
 abbrev pub those_who_may : RosterFields Cmnd → (approvals : List VerdictFields)
     → Asked → (at : ℕ) → List (List ℕ × List Person) → List (List ℕ)
 those_who_may f approvals asked at people =
     map (λ p. p.0) (filter (λ p. may_approve f approvals asked at p.0) people)
 
--- who may approve it at the moment, and has not yet, in the order of the roster's people
+-- who may approve the request at the moment, and has not yet, in the order of the roster's people
 abbrev pub approvers_of : RosterFields Cmnd
     → (approvals : List VerdictFields) → (at : ℕ) → Option Asked → List (List ℕ)
 approvers_of f approvals at None = []

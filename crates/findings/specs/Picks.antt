@@ -57,7 +57,7 @@ has_span_of pick about (Some Void) = has_asked_span pick about
 
 -- ---- hosts and people
 
--- nothing is wanted, or this is
+-- nothing is wanted, or this name is
 abbrev pub wants : Option (List ℕ) → List ℕ → Bool
 wants None name = true
 wants (Some wanted) name = bytes_eq wanted name
@@ -87,6 +87,6 @@ abbrev pub is_whole : Pick → Bool
 is_whole pick =
     is_none pick.from && is_none pick.until && is_none pick.host && is_none pick.person
 
--- it is told: nothing narrows the question, or it is asked about
+-- the entry is told: nothing narrows the question, or the entry is asked about
 abbrev pub is_told : Pick → AuditEntry → Bool
 is_told pick e = is_whole pick || asks_about pick e

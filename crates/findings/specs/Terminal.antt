@@ -31,7 +31,7 @@ use Rattle.findings.specs.declared.pick.Pick.{Pick}
 
 -- ---- lines
 
--- a heading; what is said of it begins at column 12
+-- a heading; the text beside it begins at column 12
 abbrev pub headed : List ℕ → List ℕ
 headed heading = codes "  " ++ heading ++ spaces (10 - length heading)
 
@@ -126,7 +126,7 @@ request_lines q =
 abbrev pub verdict_line : Effect → VerdictFields → List ℕ
 verdict_line effect v = line (kind_text v.kind) (stamp v.at ∷ v.by ∷ effect_text effect ∷ [])
 
--- ---- what it lacks
+-- ---- what a request lacks
 
 abbrev pub waiting_lines : (count at : ℕ) → (people : List (List ℕ)) → List ℕ
 waiting_lines count at people =

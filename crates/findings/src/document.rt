@@ -150,7 +150,7 @@ fn push_people(out: &mut String, people: &[&Name]) -> Result<(), NoMemory>
     Ok(())
 }
 
-/// Adds how many approvals it lacks, and for which moment it is told who may give one.
+/// Adds how many approvals a request lacks, and for which moment it is told who may give one.
 fn push_asked(out: &mut String, lacks: u64, at: Moment) -> Result<(), NoMemory>
     ensures { OnOk result
         (string_bytes out.new ≡ string_bytes out.old ++ document.asked_json lacks at) }
@@ -163,7 +163,7 @@ fn push_asked(out: &mut String, lacks: u64, at: Moment) -> Result<(), NoMemory>
     Ok(())
 }
 
-/// Adds how many approvals it lacks, and who may give one at the moment.
+/// Adds how many approvals a request lacks, and who may give one at the moment.
 fn push_waiting(out: &mut String, lacks: u64, at: Moment, people: &[&Name]) -> Result<(), NoMemory>
     ensures { OnOk result (string_bytes out.new ≡ string_bytes out.old
         ++ document.waiting_json lacks at (map (λ p. document.in_quotes p.now) people.now)) }
@@ -174,7 +174,7 @@ fn push_waiting(out: &mut String, lacks: u64, at: Moment, people: &[&Name]) -> R
     Ok(())
 }
 
-/// Adds how many approvals it lacks and who may give one, if it waits.
+/// Adds how many approvals the request lacks and who may give one, if it waits.
 fn push_lacks(
     alloc: Global,
     out: &mut String,
@@ -217,7 +217,7 @@ fn push_granted(out: &mut String, window: &Window) -> Result<(), NoMemory>
     Ok(())
 }
 
-/// Adds the window, if it is granted.
+/// Adds the window of a grant, if the status is granted.
 fn push_window(out: &mut String, status: &Option<Status>) -> Result<(), NoMemory>
     ensures { OnOk result
         (string_bytes out.new ≡ string_bytes out.old ++ document.window_json status.now) }
@@ -228,7 +228,7 @@ fn push_window(out: &mut String, status: &Option<Status>) -> Result<(), NoMemory
     }
 }
 
-/// Adds why the roster does not admit it.
+/// Adds why the roster does not admit a request.
 fn push_denial(out: &mut String, denial: Option<Denial>) -> Result<(), NoMemory>
     ensures { OnOk result
         (string_bytes out.new ≡ string_bytes out.old ++ document.denial_json denial) }

@@ -12,24 +12,24 @@ use roster::{Ceiling, Roster};
 use std::alloc::Global;
 use sudo_words::{Moment, Name, NoMemory};
 
-/// What became of a verdict. If it is parked, or its request is disputed or lapsed, that is all;
-/// else it is what it weighs, unless it came too late.
+/// What became of a verdict. If the verdict is parked, or its request is disputed or lapsed, that
+/// is all; else the effect is the verdict's weight, unless the verdict came too late.
 #[derive(Clone, Copy, Debug, PartialEq, Eq)]
 pub enum Effect {
-    /// It counts, or its author had no right to give it.
+    /// The verdict counts, or its author had no right to give it.
     Weighs(Weight),
-    /// It would count, but it is a refusal that came after the request was complete.
+    /// The verdict would count, but it is a refusal that came after the request was complete.
     Late,
-    /// The roster does not admit its request.
+    /// The roster does not admit the verdict's request.
     Lapsed,
     /// There are two requests of the name.
     Disputed,
-    /// Its request has not come.
+    /// The verdict's request has not come.
     Parked,
 }
 
 impl Effect {
-    /// The word for it.
+    /// The word for the effect.
     pub fn word(self) -> &'static str
         ensures { result.now ≡ effects.effect_text self }
     {
@@ -54,7 +54,7 @@ pub fn counts(roster: &Roster, ceiling: &Ceiling, verdict: &Verdict) -> bool
     }
 }
 
-/// Whether it is a refusal later than the completion.
+/// Whether the verdict is a refusal later than the completion.
 fn is_late(complete: Option<Moment>, verdict: &Verdict) -> bool
     ensures { result ≡ effects.is_late complete verdict.now }
 {
@@ -117,14 +117,14 @@ pub(crate) fn has_one(verdicts: &[&Verdict], person: &Name) -> bool
     is_of_one(verdicts, person)
 }
 
-/// Whether it is an approval, and counts.
+/// Whether the verdict is an approval, and counts.
 fn approves(roster: &Roster, ceiling: &Ceiling, verdict: &Verdict) -> bool
     ensures { result ≡ effects.counts_as_approval roster.now.says ceiling.now verdict.now }
 {
     is_approval(verdict.kind()) && counts(roster, ceiling, verdict)
 }
 
-/// Whether it is an approval that counts, and the first of its author's.
+/// Whether the verdict is an approval that counts, and its author's first.
 fn is_first(roster: &Roster, ceiling: &Ceiling, so_far: &[&Verdict], verdict: &Verdict) -> bool
     ensures { result ≡ effects.is_first roster.now.says ceiling.now
         (map (λ v. v.now) so_far.now) verdict.now }

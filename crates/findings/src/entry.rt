@@ -8,7 +8,7 @@ use messages::{Request, RequestName, Verdict};
 pub struct About {
     /// The requests of the name: with two it is disputed, and with none its verdicts wait.
     pub requests: Vec<Request>,
-    /// The verdicts about it, in the byte order of their texts, so by moment first.
+    /// The verdicts about the name, in the byte order of their texts, so by moment first.
     pub verdicts: Vec<Verdict>,
 }
 
@@ -17,8 +17,8 @@ pub struct About {
 pub struct AuditEntry {
     /// The name.
     pub name: RequestName,
-    /// The messages about it.
+    /// The messages about the name.
     pub about: About,
-    /// What they come to; none if nobody asks.
+    /// What the messages come to; none if nobody asks.
     pub status: Option<Status>,
 }

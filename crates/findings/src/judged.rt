@@ -96,7 +96,7 @@ fn take_in(summary: &mut Summary, request: &Request, verdict: &Verdict) -> Resul
     }
 }
 
-/// What the verdicts on the request say.
+/// The summary of the request and the verdicts on it.
 fn summary_of(alloc: Global, request: &Request, verdicts: &[Verdict]) -> Result<Summary, NoMemory>
     ensures stands { IfOk result (StandsFor (says.messages_on request.now verdicts.now)) }
     ensures request { IfOk result (λ s. s.request ≡ request.now) }
@@ -208,7 +208,7 @@ impl<'a> Judged<'a> {
         }
     }
 
-    /// How many people's approvals it lacks, if it waits.
+    /// How many people's approvals the request lacks, if it waits.
     pub(crate) fn lacks(&self) -> Option<u64>
         ensures { result ≡ says.lacks self.now.roster.now.says self.now.entry.now }
     {
@@ -221,8 +221,8 @@ impl<'a> Judged<'a> {
         )
     }
 
-    /// The moment for which to tell who may approve it, if it waits: `until` if it is given, else
-    /// the request's own.
+    /// The moment for which to tell who may approve the request, if it waits: `until` if that is
+    /// given, else the request's own.
     pub(crate) fn asked_at(&self, until: Option<Moment>) -> Option<Moment>
         ensures { result ≡ says.asked_at self.now.roster.now.says self.now.entry.now until }
     {
@@ -241,7 +241,7 @@ impl<'a> Judged<'a> {
         has_one(self.approvals.as_slice(), person)
     }
 
-    /// Whether the person may approve it at the moment and has not yet.
+    /// Whether the person may approve the request at the moment and has not yet.
     fn may_approve(&self, asked: &Asked, person: &Name, at: Moment) -> bool
         ensures { result ≡ says.may_approve self.now.roster.now.says
             (says.approvals_for self.now.roster.now.says self.now.entry.now)
@@ -252,7 +252,7 @@ impl<'a> Judged<'a> {
             && !self.has_approved(person)
     }
 
-    /// Those of the roster's people who may approve it at the moment and have not yet.
+    /// The people of the roster who may approve the request at the moment and have not yet.
     fn those_who_may(
         &self,
         alloc: Global,
@@ -275,8 +275,8 @@ impl<'a> Judged<'a> {
         Ok(people)
     }
 
-    /// The people who may approve it at the moment and have not yet, in byte order; nobody unless
-    /// it waits.
+    /// The people who may approve the request at the moment and have not yet, in byte order; nobody
+    /// unless the request waits.
     pub(crate) fn approvers(&self, alloc: Global, at: Moment) -> Result<Vec<&'a Name>, NoMemory>
         ensures { IfOk result (λ people. map (λ p. p.now) people.items
             ≡ says.approvers self.now.roster.now.says self.now.entry.now at) }
@@ -287,7 +287,7 @@ impl<'a> Judged<'a> {
         }
     }
 
-    /// Why the roster does not admit it, if it lapsed.
+    /// Why the roster does not admit the entry's request, if it lapsed.
     pub(crate) fn denial(&self) -> Result<Option<Denial>, NoMemory>
         ensures { IfOk result
             (document.IsDenialOn self.now.roster.now.says self.now.entry.now) }

@@ -20,8 +20,8 @@ ghost use Rattle.findings.specs.Terminal as terminal;
 ghost use Rattle.findings.specs.declared.entry.AuditEntry.{AuditEntry};
 ghost use Rattle.findings.specs.declared.pick.Pick.{Pick};
 
-/// The verdicts on a request decide when it was complete: that is when it was by the whole set that
-/// has these verdicts on it and no others.
+/// The verdicts on a request decide when it was complete, if ever: the moment is the same by each
+/// set that has these verdicts on the request and no others on it.
 pub fn completion_by_its_verdicts()
     ensures { (f : RosterFields Cmnd) (set : List Message) (q : RequestFields)
         (vs : List VerdictFields) (complete : Option ℕ) → ((v : VerdictFields) → IsAbout q v

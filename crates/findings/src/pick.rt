@@ -55,7 +55,7 @@ impl Pick {
         self.from.is_none() && self.until.is_none() && self.host.is_none() && self.person.is_none()
     }
 
-    /// Whether something that starts then begins early enough.
+    /// Whether something that starts at this moment begins early enough.
     fn begins_by(&self, start: Moment) -> bool
         ensures { result ≡ picks.begins_by self.now.until start }
     {
@@ -65,7 +65,7 @@ impl Pick {
         }
     }
 
-    /// Whether something that ends then ends late enough.
+    /// Whether something that ends at this moment ends late enough.
     fn ends_from(&self, end: Moment) -> bool
         ensures { result ≡ picks.ends_from self.now.from end }
     {

@@ -50,7 +50,7 @@ fn push_granted(out: &mut String, window: &Window) -> Result<(), NoMemory>
     Ok(())
 }
 
-/// Adds the window, if it is granted.
+/// Adds the window of a grant, if the status is granted.
 fn push_window(out: &mut String, status: &Option<Status>) -> Result<(), NoMemory>
     ensures { OnOk result
         (string_bytes out.new ≡ string_bytes out.old ++ terminal.window_text status.now) }
@@ -61,7 +61,7 @@ fn push_window(out: &mut String, status: &Option<Status>) -> Result<(), NoMemory
     }
 }
 
-/// Adds why the roster does not admit it.
+/// Adds why the roster does not admit a request.
 fn push_why(out: &mut String, denial: Option<Denial>) -> Result<(), NoMemory>
     ensures { OnOk result
         (string_bytes out.new ≡ string_bytes out.old ++ terminal.why_text denial) }
@@ -207,7 +207,7 @@ fn push_may(out: &mut String, at: &str, people: &[&Name]) -> Result<(), NoMemory
     Ok(())
 }
 
-/// Adds how many approvals it lacks, and who may give one at the moment.
+/// Adds how many approvals a request lacks, and who may give one at the moment.
 fn push_waiting(
     alloc: Global,
     out: &mut String,
@@ -225,7 +225,7 @@ fn push_waiting(
     Ok(())
 }
 
-/// Adds how many approvals it lacks and who may give one, if it waits.
+/// Adds how many approvals the request lacks and who may give one, if it waits.
 fn push_lacks(
     alloc: Global,
     out: &mut String,
@@ -269,7 +269,7 @@ fn push_entry(
     Ok(())
 }
 
-/// Whether the entry is of a name that somebody asks under, or else of one that nobody does.
+/// Whether somebody asks under the entry's name; without `is_asked`, whether nobody does.
 fn is_under(is_asked: bool, entry: &AuditEntry) -> bool
     ensures { result ≡ terminal.is_under is_asked entry.now }
 {
@@ -337,7 +337,7 @@ fn push_host_window(out: &mut String, window: &HostWindow) -> Result<(), NoMemor
     Ok(())
 }
 
-/// Adds the windows, each host once above its own.
+/// Adds the windows, with each host once above its windows.
 fn push_windows(out: &mut String, list: &[HostWindow]) -> Result<(), NoMemory>
     ensures { OnOk result
         (string_bytes out.new ≡ string_bytes out.old ++ terminal.window_lines None list.now) }

@@ -9,7 +9,7 @@ use crate::pick::Pick;
 use std::alloc::{AllocError, AllocFailed, Global};
 use sudo_words::{HostName, Moment, Name, WordFault};
 
-/// What is asked, of which desk, and how it is told.
+/// What is asked, of which desk, and how the answer is told.
 #[derive(Drop)]
 pub struct Question {
     /// The path of the roster's file.
@@ -20,16 +20,16 @@ pub struct Question {
     pub store: String,
     /// What is asked about.
     pub pick: Pick,
-    /// Whether it is told as JSON.
+    /// Whether the answer is told as JSON.
     pub as_json: bool,
 }
 
 /// Why the words are not a question.
 #[derive(Clone, Copy, Debug, PartialEq, Eq)]
 pub enum WordsFault {
-    /// They ask for help.
+    /// The words ask for help.
     Help,
-    /// They are not the program's words.
+    /// The words do not fit the program's usage.
     Usage,
     /// A word does not have the form that its place requires.
     BadWord,
@@ -106,7 +106,7 @@ struct Said {
     is_ended: bool,
 }
 
-/// Sets the value. A second one for the same option is `Usage`.
+/// Sets the value. A second value for the same option is `Usage`.
 fn once<T: Drop>(place: &mut Option<T>, value: T) -> Result<(), WordsFault>
     ensures { OnOk result (place.new ≡ Some value) }
 {
@@ -231,8 +231,8 @@ fn finish(said: Said) -> Result<Question, WordsFault>
     }
 }
 
-/// What the words ask. They are `ROSTER BASE STORE`, with options before, between and after, and
-/// without the program's own name at the front.
+/// What the words ask. The words are `ROSTER BASE STORE`, with options before, between and after,
+/// and without the program's own name at the front.
 pub fn asked_by(alloc: Global, words: &[String]) -> Result<Question, WordsFault>
     ensures { IfOk result
         (asking.WordsAsk (asking.hear_all asking.nothing_heard (map string_bytes words.now))) }

@@ -13,7 +13,7 @@ pub mod Completion
 pub mod Counting
 pub mod Past
 pub mod WorkedStatuses
--- what a summary keeps of them
+-- what a summary keeps of messages
 pub mod Marks
 pub mod Summaries
 -- the rules of a host's file

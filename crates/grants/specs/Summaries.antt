@@ -20,9 +20,9 @@ pub record Kept : Type 0 where
   pub refusals : List Mark
   pub revocations : List Mark
 
--- It keeps one request of the set, is disputed exactly if the set has another of its name, and
--- keeps for each person and each kind every moment at which the person has given a verdict of the
--- kind on it.
+-- The summary keeps one request of the set, is disputed exactly if the set has another request of
+-- that name, and keeps for each person and each kind every moment at which the person has given a
+-- verdict of the kind on the request.
 pub record StandsFor (messages : List Message) (k : Kept) : Type 0 where
   pub asked : Contains messages (Request k.request)
   pub alone : k.is_disputed ≡ false → (p : RequestFields)

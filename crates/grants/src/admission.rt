@@ -70,8 +70,8 @@ fn holds_all(ceiling: &Ceiling) -> bool
     ceiling.commands().iter().any(|c| is_all(c))
 }
 
-/// Whether the file with the rule lies inside one of the ceiling's commands: its directory, or the
-/// file itself with any arguments or with the same.
+/// Whether the file with the rule lies inside one of the ceiling's commands: the file's directory,
+/// or the file itself with any arguments or with the same rule.
 fn holds_file(file: &FilePath, rule: &ArgRule, ceiling: &Ceiling) -> bool
     requires lawful { All IsLawful ceiling.now.commands }
     requires no_all { list_any forms.is_all ceiling.now.commands ≡ false }
@@ -172,7 +172,7 @@ fn admit_verdict(roster: &Roster, verdict: &Verdict) -> Result<(), Denial>
 
 /// Admits the message, or answers the first denial that applies to it. It takes no memory.
 pub fn admit(roster: &Roster, message: &Message) -> Result<(), Denial>
-    // It is admitted exactly if the roster admits it.
+    // The answer is `Ok` exactly if the roster admits the message.
     ensures admitted { IsOk result ↔ Admits roster.now.says message.now }
     // A denial is answered exactly if it is the first that applies.
     ensures denied { (d : AnyDenial) → ((result ≡ Err d) ↔ IsDenial roster.now.says message.now d) }

@@ -30,9 +30,9 @@ pub fn one_answer()
         → Denies f (Verdict v) d → d ≡ denial.UnknownPerson }
 {}
 
-/// Least privilege (NIST SP 800-53 AC-6): what is admitted under a ceiling reaches no command, host
-/// or target outside it, no moment before it was made, and none further from its first moment than
-/// the ceiling's longest window.
+/// Least privilege (NIST SP 800-53 AC-6): a request that is admitted under a ceiling reaches no
+/// command, host or target outside the ceiling, no moment before the request was made, and no
+/// moment further from its first one than the ceiling's longest window.
 pub fn least_privilege()
     ensures inside { (f : RosterFields AnyCmnd) (r : RequestFields) (c : CeilingFields AnyCmnd)
         (host target path : List ℕ) (args : List (List ℕ))
@@ -60,8 +60,8 @@ pub fn more_admits_more()
         IsWider c d }
 {}
 
-/// Worked windows: as long as the ceiling allows, and a second longer; of one moment; begun before
-/// it was asked for; ended before it begins; and both too long and begun too soon.
+/// Worked windows: as long as the ceiling allows, and a second longer; a single moment; begun
+/// before the request was made; ended before its beginning; and both too long and begun too soon.
 pub fn worked_windows()
     ensures longest { Admits worked.site (Request worked.asked) }
     ensures second_longer { IsDenial worked.site

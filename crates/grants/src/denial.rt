@@ -45,7 +45,7 @@ impl Denial {
     ghost use Rattle.sudo_words.specs.Bytes.{newline};
     ghost use Rattle.grants.specs.Denials.{denial_text};
 
-    /// Its code and name, and a newline.
+    /// The denial's code and name, and a newline.
     pub fn line(self) -> &'static str
         ensures { result.now ≡ denial_text self ++ newline ∷ [] }
     {

@@ -21,14 +21,14 @@ fn is_sooner(mark: &Mark, other: &Option<&Mark>) -> bool
     }
 }
 
-/// Whether one of the people gave it.
+/// Whether one of the people gave the mark's verdict.
 fn is_of(people: &[&Name], mark: &Mark) -> bool
     ensures { result ≡ list_any (λ p. bytes_eq p.now mark.now.person) people.now }
 {
     people.iter().any(|person| **person == mark.person)
 }
 
-/// Whether it counts and none of the others gave it.
+/// Whether the mark counts and none of the others gave it.
 fn is_of_another(voters: &Voters, others: &[&Name], mark: &Mark) -> bool
     ensures { result
         ≡ spec.is_of_another (counting voters.now) (map (λ p. p.now) others.now) mark.now }

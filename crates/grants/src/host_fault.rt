@@ -36,7 +36,7 @@ impl HostFault {
     ghost use Rattle.sudo_words.specs.Bytes.{newline};
     ghost use Rattle.grants.specs.HostFaults.{host_fault_text};
 
-    /// Its code and name, and a newline.
+    /// The fault's code and name, and a newline.
     pub fn line(self) -> &'static str
         ensures { result.now ≡ host_fault_text self ++ newline ∷ [] }
     {

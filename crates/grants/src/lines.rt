@@ -38,7 +38,7 @@ fn push_who(text: &mut String, host: &HostName, request: &Request) -> Result<(),
     text.push_str(request.runas().as_str())
 }
 
-/// Adds when they may run it, up to and including the space before the command.
+/// Adds when the asker may run the command, up to and including the space before the command.
 fn push_when(text: &mut String, window: &Window) -> Result<(), AllocError>
     ensures { OnOk result (string_bytes text.new
         ≡ string_bytes text.old ++ lines.when window.now.start window.now.end) }
@@ -87,7 +87,7 @@ fn push_commands(
     Ok(request.cmnds().len())
 }
 
-/// The same, all or none: if memory runs out, the text is as it was.
+/// Adds the lines of all commands, as `push_commands` does, or of none if memory runs out.
 fn push_whole(
     alloc: Global,
     text: &mut String,
@@ -168,8 +168,8 @@ pub fn push_lines(
     host: &HostName,
     after: Option<Moment>,
 ) -> Result<usize, NoMemory>
-    // They follow from what the messages of each set that the summary stands for come to, and are
-    // lines of rules of grants.
+    // The lines follow from the status that each set for which the summary stands gives the
+    // request, and they are lines of rules of grants.
     ensures ok { (set : List AnyMessage) → StandsFor set s.now
         → IfOk result (AreWritten roster.now.says set s.now.request host.now after
         (string_bytes text.old) (string_bytes text.new)) }

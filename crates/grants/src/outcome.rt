@@ -17,17 +17,17 @@ pub struct Window {
 /// What a request has come to: the first of these that applies.
 #[derive(Clone, Copy, Debug, PartialEq, Eq)]
 pub enum Status {
-    /// There are two different requests of its name.
+    /// There are two different requests of the name.
     Disputed,
-    /// The roster does not admit it.
+    /// The roster does not admit the request.
     Lapsed,
-    /// An eligible person refused it, not after it was complete.
+    /// An eligible person refused the request, and not after it was complete.
     Refused,
-    /// It is not complete.
+    /// The request is not complete.
     Waiting,
-    /// It is complete, but in force at no moment.
+    /// The request is complete, but in force at no moment.
     Void,
-    /// It is in force within this window.
+    /// The request is in force within this window.
     Granted(Window),
 }
 

@@ -106,7 +106,7 @@ fn completion(roster: &Roster, ceiling: &Ceiling, s: &Summary) -> Option<Moment>
     nth(&approvers, ceiling.needs(), &s.approvals)
 }
 
-/// When it is first revoked.
+/// When the request is first revoked.
 fn revocation(roster: &Roster, ceiling: &Ceiling, s: &Summary) -> Option<Moment>
     ensures { result ≡ of_status.revocation roster.now.says ceiling.now s.now }
 {
@@ -175,7 +175,7 @@ pub fn completed_at(roster: &Roster, s: &Summary) -> Option<Moment>
     }
 }
 
-/// What the messages that the summary stands for come to, under this roster. It takes no memory.
+/// The status of the summary's request under this roster. It takes no memory.
 pub fn status(roster: &Roster, s: &Summary) -> Status
     ensures { (set : List AnyMessage) → StandsFor set s.now
         → IsStatus roster.now.says set (name_of s.now.request) result }

@@ -90,7 +90,7 @@ pub fn grant_rules(
     Ok(rules)
 }
 
-/// The same if the request names the host and is granted, and none otherwise.
+/// The rules of `grant_rules` if the request names the host and is granted, and none otherwise.
 fn rules_for(
     alloc: Global,
     host: &HostName,
@@ -117,13 +117,13 @@ pub fn rules_of(
     s: &Summary,
     host: &HostName,
 ) -> Result<Vec<Rule>, NoMemory>
-    // They are the rules of each set that the summary stands for.
+    // The rules are those of each set that the summary stands for.
     ensures rules { (set : List AnyMessage) → StandsFor set s.now
         → IfOk result (λ v. AreRules roster.now.says set s.now.request host.now v.items) }
-    // They follow from what the messages of each such set come to.
+    // The rules follow from the status that each such set gives the request.
     ensures given { (set : List AnyMessage) → StandsFor set s.now
         → IfOk result (λ v. AreGiven roster.now.says set s.now.request host.now v.items) }
-    // And they may stand after a base.
+    // The rules may stand after a base.
     ensures grants { (set : List AnyMessage) → StandsFor set s.now
         → IfOk result (λ v. AllByRecursion IsGrantRule v.items) }
 {

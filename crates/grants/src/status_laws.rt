@@ -44,8 +44,8 @@ pub fn completion_is_nth_smallest()
         → IsComplete f set q moment ↔ IsNthSmallest c.needs (IsFirstApproval f set q) moment }
 {}
 
-/// A window begins when the request is complete, but not before it asks to; it ends when the
-/// request asks to, or a moment before the first revocation.
+/// A window begins when its request is complete, but not before the first moment asked for. The
+/// window ends at the last moment asked for, or earlier, a moment before the first revocation.
 pub fn bounds_of_window()
     ensures begins { (f : RosterFields Cmnd) (set : List Message)
         (q : RequestFields) (start complete : ℕ) → IsFirstMoment f set q start
@@ -64,9 +64,9 @@ pub fn uncounted_changes_nothing()
         → IsStatus f set name status ↔ IsStatus f (set ++ Verdict v ∷ []) name status }
 {}
 
-/// Separation of duties (NIST SP 800-53 AC-5): the asker's own approval or refusal never counts,
-/// and neither does that of somebody who at its moment holds a duty that conflicts with the
-/// approving duty; and apart from the asker's, no verdict counts whose author lacks the approving
+/// Separation of duties (NIST SP 800-53 AC-5): the asker's own approval or refusal never counts.
+/// Nor does an approval or refusal whose author, at its moment, holds a duty that conflicts with
+/// the approving duty. And no verdict counts whose author is not the asker and lacks the approving
 /// duty at its moment.
 pub fn who_does_not_count()
     ensures asker { (f : RosterFields Cmnd) (c : CeilingFields Cmnd) (v : VerdictFields) →
@@ -79,8 +79,8 @@ pub fn who_does_not_count()
 {}
 
 /// A verdict counts by its author's rights when it was given, whatever they are before or after. So
-/// whoever approved while eligible has a first such approval, no later than that one and itself
-/// given while eligible: an earlier approval, given without the right to, does not get in the way.
+/// a person who approved while eligible has a first such approval, given while eligible and no
+/// later than that one: an earlier approval, given without the right, does not get in the way.
 pub fn rights_of_the_moment()
     ensures alike { (f g : RosterFields Cmnd) (c : CeilingFields Cmnd) (v : VerdictFields)
         → eligible f v.by v.of c v.at ≡ eligible g v.by v.of c v.at → may_revoke f v.by v.of c v.at
@@ -104,24 +104,24 @@ pub fn worked_statuses()
         (approves (codes "bob") 30_600 ∷ approves (codes "carol") 28_800 ∷ []) Waiting }
     ensures twice { VerdictsComeTo
         (approves (codes "bob") 30_600 ∷ approves (codes "bob") 31_200 ∷ []) Waiting }
-    // It is in force from the second approver's first approval on, but no earlier than it was asked
-    // for.
+    // The request is in force from the second approver's first approval on, but not before the
+    // first moment asked for.
     ensures second { VerdictsGrant (both_and (approves (codes "dave") 34_000 ∷ [])) 33_000 39_600 }
     ensures ahead { VerdictsGrant
         (approves (codes "dave") 31_200 ∷ approves (codes "bob") 30_600 ∷ []) 32_400 39_600 }
-    // A refusal at the very moment of the completion refuses; a later one, and carol's, have no
-    // effect.
+    // A refusal at the very moment of the completion refuses the request; a later refusal, and
+    // carol's, have no effect.
     ensures refused { VerdictsComeTo (both_and (refuses (codes "bob") 33_000 ∷ [])) Refused }
     ensures late { VerdictsGrant (both_and (refuses (codes "bob") 33_001
         ∷ refuses (codes "carol") 28_800 ∷ [])) 33_000 39_600 }
-    // A revocation, even carol's, ends it a moment before; one at moment 0 leaves nothing, and
-    // neither does an approval after the end.
+    // A revocation, even carol's, ends the window a moment before; a revocation at moment 0 leaves
+    // nothing, and neither does an approval after the end.
     ensures revoked { VerdictsGrant (both_and (revokes (codes "carol") 36_000 ∷ [])) 33_000 35_999 }
     ensures void { VerdictsComeTo (both_and (revokes (codes "ann") 0 ∷ [])) Void }
     ensures too_late { VerdictsComeTo
         (approves (codes "bob") 30_600 ∷ approves (codes "dave") 39_601 ∷ []) Void }
-    // Another request of the name disputes it; and if the ceiling has been lowered since, it is
-    // lapsed.
+    // Another request of the name disputes the request; and if the ceiling has been lowered since,
+    // the request is lapsed.
     ensures disputed { IsStatus team
         (Request asked ∷ Request (asked_from 32_400 36_000) ∷ []) (name_of asked) Disputed }
     ensures lapsed { IsStatus shorter (Request asked ∷ []) (name_of asked) Lapsed }

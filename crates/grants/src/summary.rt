@@ -46,7 +46,7 @@ impl Summary {
     /// The request, if it is the only one of its name.
     pub fn request(&self) -> Option<&Request>
         ensures value { IfSome result (λ request. request.now ≡ self.now.request) }
-        // There is one exactly if the set that the summary stands for has no other of its name.
+        // There is one exactly if no set that the summary stands for has another of the name.
         ensures alone { (set : List AnyMessage) → StandsFor set self.now
             → IfSome result (λ request. StandsAlone set request.now) }
         ensures disputed { (set : List AnyMessage) → StandsFor set self.now
@@ -130,10 +130,10 @@ pub fn ask(alloc: Global, request: &Request) -> Result<Summary, NoMemory>
 /// Adds a request of the same name: a different one disputes it. It takes no memory.
 pub fn ask_again(s: &mut Summary, request: &Request)
     requires { SameName request.now s.old.request }
-    // Where it stood for a set, it stands for the set with the request.
+    // If the summary stood for a set, it now stands for the set with the request.
     ensures stands { (set : List AnyMessage) → StandsFor set s.old
         → StandsFor (set ++ message_of.Request request.now ∷ []) s.new }
-    // The request that it keeps stays the same.
+    // The request that the summary keeps stays the same.
     ensures same_request { s.new.request ≡ s.old.request }
 {
     if !s.request.is_same(request) {
@@ -143,18 +143,18 @@ pub fn ask_again(s: &mut Summary, request: &Request)
 
 /// Marks the request as one of two of its name.
 fn dispute(s: &mut Summary)
-    // Where it stood for a set, it stands for the set with any other request of the name.
+    // If the summary stood for a set, it now stands for the set with any other request of the name.
     ensures stands { (set : List AnyMessage) (p : RequestFields) → SameName p s.old.request → p
         ≢ s.old.request → StandsFor set s.old → StandsFor (set ++ message_of.Request p ∷ []) s.new }
-    // The request that it keeps stays the same.
+    // The request that the summary keeps stays the same.
     ensures same_request { s.new.request ≡ s.old.request }
 {
     s.is_disputed = true;
 }
 
-/// The summary of the request, of whose name there is another.
+/// The summary of a request, where another request has the same name.
 pub fn ask_disputed(alloc: Global, request: &Request) -> Result<Summary, NoMemory>
-    // It stands for the request and any other of its name.
+    // The summary stands for the request and any other request of the same name.
     ensures stands { (p : RequestFields) → SameName p request.now → p ≢ request.now
         → IfOk result (StandsFor (message_of.Request request.now ∷ message_of.Request p ∷ [])) }
     ensures same_request { IfOk result (λ s. s.request ≡ request.now) }
@@ -167,10 +167,10 @@ pub fn ask_disputed(alloc: Global, request: &Request) -> Result<Summary, NoMemor
 /// Adds a verdict about the request.
 pub fn apply(s: &mut Summary, verdict: &Verdict) -> Result<(), NoMemory>
     requires { IsAbout s.old.request verdict.now }
-    // Where it stood for a set, it stands for the set with the verdict.
+    // If the summary stood for a set, it now stands for the set with the verdict.
     ensures ok { (set : List AnyMessage) → StandsFor set s.old
         → OnOk result (StandsFor (set ++ message_of.Verdict verdict.now ∷ []) s.new) }
-    // The request that it keeps stays the same.
+    // The request that the summary keeps stays the same.
     ensures same_request { s.new.request ≡ s.old.request }
     // If memory runs out, nothing changes.
     ensures err { OnErr result (s.new ≡ s.old) }

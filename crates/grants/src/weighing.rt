@@ -10,18 +10,18 @@ use sudo_words::{Moment, Name};
 /// What a verdict weighs under a ceiling: it counts, or the first of the reasons why it does not.
 #[derive(Clone, Copy, Debug, PartialEq, Eq)]
 pub enum Weight {
-    /// It counts.
+    /// The verdict counts.
     Counts,
-    /// Its author is the asker.
+    /// The verdict's author is the asker.
     Asker,
-    /// Its author did not hold the approving duty on the day of its moment.
+    /// The verdict's author did not hold the approving duty on the day of the verdict's moment.
     Duty,
-    /// On that day its author held a duty that conflicts with the approving duty.
+    /// On that day the verdict's author held a duty that conflicts with the approving duty.
     Conflict,
 }
 
 impl Weight {
-    /// The word for it.
+    /// The word for the weight.
     pub fn word(self) -> &'static str
         ensures { result.now ≡ weights.weight_text self }
     {
@@ -75,8 +75,8 @@ fn revocation_weight(
     }
 }
 
-/// What a verdict of the kind weighs that the person gives at the moment, on what the asker asked
-/// for under the ceiling (NIST SP 800-53 AC-5).
+/// What the person's verdict of the kind weighs, given at the moment on a request that the asker
+/// made under the ceiling (NIST SP 800-53 AC-5).
 pub fn weight_of(
     roster: &Roster,
     ceiling: &Ceiling,

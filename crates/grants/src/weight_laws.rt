@@ -11,9 +11,9 @@ ghost use Rattle.grants.specs.Weights.{weighed};
 ghost use Rattle.grants.specs.WorkedStatuses.{approves, by_two, refuses, revokes, team};
 ghost use Rattle.grants.specs.declared.weighing.Weight.TheVariants as weights;
 
-/// When a verdict weighs what: it counts exactly where its author was allowed to give it; else the
-/// reason is the first that applies, of `asker`, `duty` and `conflict`. No revocation is barred by
-/// its asker or by a conflict.
+/// What each verdict weighs: a verdict counts exactly where its author was allowed to give it; else
+/// the weight is the first reason that applies, of `asker`, `duty` and `conflict`. No revocation is
+/// barred because its author is the asker, or by a conflict.
 pub fn when_it_weighs_what()
     ensures counts { (f : RosterFields Cmnd) (c : CeilingFields Cmnd) (v : VerdictFields) →
         weighed f c v ≡ weights.Counts ↔ (counts f c v ≡ true) }

@@ -68,7 +68,7 @@ pub fn is_inside(inner: &Cmnd, outer: &Cmnd) -> bool
     // For the commands that policies hold, this is inclusion of what they reach.
     ensures exact { IsLawful inner.now → IsLawful outer.now
         → (IsTrue result ↔ LiesInside inner.now outer.now) }
-    // If it is not inside, the inner command reaches something that the outer does not match.
+    // If the answer is no, the inner command reaches something that the outer does not match.
     ensures beyond { IsLawful inner.now → IsLawful outer.now
         → result ≡ false → ReachesBeyond inner.now outer.now }
 {

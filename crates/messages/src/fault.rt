@@ -40,7 +40,7 @@ impl MessageFault {
     ghost use Rattle.sudo_words.specs.Bytes.{newline};
     ghost use Rattle.messages.specs.Faults.{message_fault_text};
 
-    /// Its code and name, and a newline.
+    /// The fault's code and name, and a newline.
     pub fn line(self) -> &'static str
         ensures { result.now ≡ message_fault_text self ++ newline ∷ [] }
     {

@@ -7,16 +7,16 @@ ghost use Rattle.messages.specs.declared.kind.VerdictKind.{VerdictKind as AnyKin
 /// What a verdict does to a request.
 #[derive(Clone, Copy, Debug, PartialEq, Eq)]
 pub enum VerdictKind {
-    /// It approves the request, which may need further approvals.
+    /// The verdict approves the request, which may need further approvals.
     Approve,
-    /// It turns the request down.
+    /// The verdict turns the request down.
     Refuse,
-    /// It takes back what was granted.
+    /// The verdict takes back what was granted.
     Revoke,
 }
 
 impl VerdictKind {
-    /// The word for it, as a message's text has it.
+    /// The word for the kind, as a message's text has it.
     pub fn word(self) -> &'static str
         ensures { result.now ≡ kind_text self }
     {

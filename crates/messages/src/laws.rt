@@ -1,5 +1,5 @@
-//! The laws, each the contract of a function that does nothing. Those of messages and their
-//! texts are in this file.
+//! The laws, each the contract of a function that does nothing. This file has the laws of messages
+//! and of their texts.
 
 ghost use Rattle.std.specs.Prelude.{◌≡◌, ◌⊎◌, ◌↔◌};
 ghost use Rattle.std.specs.declared.cmp.Ordering.TheVariants.{Less};

@@ -37,7 +37,7 @@ fn read_hosts(alloc: Global, items: &[Value<'_>]) -> Result<Vec<HostName>, Messa
         ≡ text_items hs → MatchResult result (λ v. v.items ≡ hs) (λ e. e ≡ NoMemory) }
     ensures err { IfErr result (λ e. (e ≡ BadField) ⊎ (e ≡ NoMemory)) }
 {
-    // Most requests name one, and a list that grows takes room for four at once.
+    // Most requests name one host, and a list that grows takes room for four at once.
     let mut hosts = Vec::with_capacity(alloc, items.len().min(MOST))?;
     for item in items {
         let host = host_of(alloc, item)?;
@@ -82,7 +82,7 @@ fn read_cmnds(alloc: Global, items: &[Value<'_>]) -> Result<Vec<Cmnd>, MessageFa
         → MatchResult result (λ v. v.items ≡ cs) (λ e. e ≡ NoMemory) }
     ensures err { IfErr result (λ e. (e ≡ BadField) ⊎ (e ≡ NoMemory)) }
 {
-    // Most requests name one, and a list that grows takes room for four at once.
+    // Most requests name one command, and a list that grows takes room for four at once.
     let mut cmnds = Vec::with_capacity(alloc, items.len().min(MOST))?;
     for item in items {
         let cmnd = cmnd_of(alloc, item)?;

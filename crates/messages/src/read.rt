@@ -88,7 +88,7 @@ fn message_of(alloc: Global, value: &Value<'_>) -> Result<Message, MessageFault>
 }
 
 /// The message that has the members of the value, if the bytes are its text, and else `None`: a
-/// text with further members is not.
+/// text with further members is no message's text.
 pub(crate) fn message_said(
     alloc: Global,
     value: &Value<'_>,

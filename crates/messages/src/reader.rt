@@ -35,7 +35,7 @@ fn message_in(
     }
 }
 
-/// Reads messages, one after another. What reading needs is made once.
+/// Reads messages, one after another. The room that reading needs is made once.
 #[derive(Drop)]
 pub struct MessageReader {
     /// What the parser writes into: its room is made and filled once, not for each message.

@@ -9,8 +9,8 @@ use sudo_words::{Cmnd, HostName, Label, Moment, Name};
 
 /// A request for commands on hosts as a target, within a window of time and under a ceiling.
 ///
-/// It names 1 to 16 lawful commands and 1 to 16 hosts, each rising in byte order, and its number is
-/// at most 999,999,999. Its window may be backwards.
+/// A request names 1 to 16 lawful commands and 1 to 16 hosts, each rising in byte order. Its number
+/// is at most 999,999,999, and its window may be backwards.
 #[derive(Debug, Drop)]
 pub struct Request {
     pub(crate) at: Moment,
@@ -37,7 +37,7 @@ impl Model for Request {
 }
 
 impl Request {
-    /// When it was made.
+    /// When the request was made.
     pub fn at(&self) -> Moment
         ensures value { result ≡ self.now.at }
         ensures request { IsRequest self.now }
@@ -85,7 +85,7 @@ impl Request {
         &self.hosts
     }
 
-    /// The number that the asker gave it.
+    /// The number that the asker gave the request.
     pub fn no(&self) -> u32
         ensures value { result ≡ self.now.no }
         ensures request { IsRequest self.now }

@@ -54,7 +54,7 @@ impl Verdict {
         })
     }
 
-    /// When it was given.
+    /// When the verdict was given.
     pub fn at(&self) -> Moment
         ensures value { result ≡ self.now.at }
         ensures verdict { IsVerdict self.now }
@@ -62,7 +62,7 @@ impl Verdict {
         self.at
     }
 
-    /// Who gives it.
+    /// Who gives the verdict.
     pub fn by(&self) -> &Name
         ensures value { result.now ≡ self.now.by }
         ensures verdict { IsVerdict self.now }
@@ -70,7 +70,7 @@ impl Verdict {
         &self.by
     }
 
-    /// What it does to the request.
+    /// What the verdict does to the request.
     pub fn kind(&self) -> VerdictKind
         ensures value { result ≡ self.now.kind }
         ensures verdict { IsVerdict self.now }

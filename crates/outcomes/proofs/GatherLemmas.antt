@@ -103,7 +103,7 @@ of_itself q k stands =
       | inr none ↦ absurd (no_member (Request k.request) none)
     ]
 
--- It stands for the request and those verdicts: so it stands for the set with the request, since that has no other message about the name.
+-- A summary that stands for the request and those verdicts stands for the set with the request, since the set has no other message about the name.
 module _ (set : List Message) (q : RequestFields) (vs : List VerdictFields) (nobody : NobodyAsks set (name_of q)) (waited : (v : VerdictFields)
     → (Contains vs v → (name_meant v ≡ name_of q) × IsParked set v) × ((name_meant v ≡ name_of q) × IsParked set v → Contains vs v)) where
   abbrev own : List Message

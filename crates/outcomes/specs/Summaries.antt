@@ -18,7 +18,8 @@ pub record AreSummaries (messages : List Message) (list : List Kept) : Type 0 wh
   pub all : (q : RequestFields) → Contains messages (Request q)
       → (k : Kept) × Contains list k × IsNamed k.request (name_of q)
 
--- Both are of one name and keep the same; if it is disputed, they may keep different requests.
+-- Two summaries are of one name and keep the same; if the name is disputed, they may keep different
+-- requests.
 pub record KeepTheSame (a b : Kept) : Type 0 where
   pub named : SameName a.request b.request
   pub alone : a.is_disputed ≡ false → a.request ≡ b.request

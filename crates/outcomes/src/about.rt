@@ -27,8 +27,8 @@ fn push_copies(list: &mut Vec<Message>, verdicts: &[Verdict]) -> Result<(), NoMe
     Ok(())
 }
 
-/// The messages about the name of a summary, unless it is disputed: of such a name only one request
-/// is kept.
+/// The messages about the name of a summary, unless the name is disputed: a summary keeps only one
+/// request of a disputed name.
 fn messages_of(alloc: Global, summary: &Summary) -> Result<Option<Vec<Message>>, NoMemory>
     ensures { (set : List AnyMessage) → StandsFor set summary.now
         → IfOk result (AreTold set (name_of summary.now.request)) }
@@ -61,11 +61,11 @@ fn messages_at(
     }
 }
 
-/// The messages of the set about the asker's request under the number: its request, and the
-/// verdicts on it, or those that wait for it. None exactly if different requests have the name: of
-/// these only one is kept, and all messages have to be read.
+/// The messages of the set about the asker's request under the number: the request and the verdicts
+/// on it, or the verdicts that wait for it. `None` exactly if different requests have the name:
+/// only one of them is kept, so that the caller has to read all messages.
 ///
-/// It costs what the name has, and the logarithm of how many names there are.
+/// The cost grows with the name's messages, and with the logarithm of the number of names.
 pub fn messages_in(
     alloc: Global,
     gathered: &Gathered,

@@ -55,7 +55,7 @@ impl Base {
     }
 }
 
-/// The policy's canonical text: what is kept, or else it is printed.
+/// The policy's canonical text: the kept one, or else one that is printed now.
 fn kept_or_printed(alloc: Global, kept: Option<String>, policy: &Policy) -> Result<String, NoMemory>
     requires { IfSome kept (λ text. string_bytes text ≡ canon policy.now) }
     ensures { IfOk result (λ text. string_bytes text ≡ canon policy.now) }

@@ -27,9 +27,9 @@ use std::marker::Model;
 use sudo_words::NoMemory;
 
 /// What is known of a set of messages: a summary for each name that somebody asks under, and the
-/// verdicts that wait for their request. Both are kept by name: a verdict is kept as it is until
-/// its request comes, and is part of the summary from then on. The index has the names by the ends
-/// that the requests ask for, for each host and of all, so that what has ended costs nothing.
+/// verdicts that wait for their request, by name. A verdict is kept as it is until its request
+/// comes, and is part of the summary from then on. The index has the names by the ends that the
+/// requests ask for, for each host and for all requests, so that ended ones cost nothing.
 #[derive(Drop)]
 pub struct Gathered {
     pub(crate) alloc: Global,
@@ -82,8 +82,8 @@ fn first_of(alloc: Global, request: &Request, verdicts: &[Verdict]) -> Result<Su
 }
 
 /// Adds the first request of its name: the verdicts that waited for it are part of its summary, and
-/// wait no longer. It is listed first: if memory runs out later, a name with no summary may stay
-/// listed, which no answer shows.
+/// wait no longer. The index lists the name before there is a summary. If memory runs out in
+/// between, the name stays listed without a summary, which no answer shows.
 fn put_first(
     alloc: Global,
     summaries: &mut BTreeMap<RequestName, Summary>,
@@ -267,8 +267,8 @@ impl Gathered {
         })
     }
 
-    /// Adds a verdict: what is known is then what is known of the set with the verdict. If memory
-    /// runs out, it is still what is known of the set.
+    /// Adds a verdict to the set that is gathered here. If memory runs out, the set without the
+    /// verdict is still gathered.
     fn hear(&mut self, verdict: &Verdict) -> Result<(), NoMemory>
         ensures ok { (set : List AnyMessage) → AreGathered set self.old
             → OnOk result (AreGathered (set ++ message_of.Verdict verdict.now ∷ []) self.new) }
@@ -278,8 +278,8 @@ impl Gathered {
         put_verdict(self.alloc, &mut self.summaries, &mut self.waiting, verdict)
     }
 
-    /// Adds a message: what is known is then what is known of the set with the message. If memory
-    /// runs out, it is still what is known of the set.
+    /// Adds a message to the set that is gathered here. If memory runs out, the set without the
+    /// message is still gathered.
     pub fn take(&mut self, message: &Message) -> Result<(), NoMemory>
         ensures ok { (set : List AnyMessage) → AreGathered set self.old
             → OnOk result (AreGathered (set ++ message.now ∷ []) self.new) }
@@ -298,7 +298,7 @@ impl Gathered {
         }
     }
 
-    /// What is known of these messages.
+    /// Gathers these messages, one after another.
     pub fn of(alloc: Global, set: &[Message]) -> Result<Gathered, NoMemory>
         ensures { IfOk result (AreGathered set.now) }
     {

@@ -64,9 +64,9 @@ pub fn one_of_each()
         → IsHostFileAfter f base set host moment b → a ≡ b }
 {}
 
-/// Under a roster that was read from a text, each set of messages has them all: for each name its
-/// status, or none; for each moment its grants in force; for each host its lines, and so its file
-/// for each base, the whole and that after each moment; and its parked texts and its summaries.
+/// Under a roster that was read from a text, each set of messages has all of these: for each name
+/// its status, or none; for each moment its grants in force; for each host its lines, and so its
+/// file for each base, whole and after each moment; and its parked texts and its summaries.
 pub fn each_has_one()
     ensures status { (text : List ℕ) (f : RosterFields Cmnd) (set : List Message) (name : AnyName)
         → IsRosterText text f → ((m : Message) → Contains set m → IsMessage m)
@@ -135,9 +135,9 @@ pub fn disputed_gives_nothing()
 {}
 
 /// Separation of duties (NIST SP 800-53 AC-5): adding or removing one of these verdicts changes
-/// nothing that is granted: the asker's own approval or refusal; that of somebody who at its moment
-/// holds a duty that conflicts with the approving duty; and the revocation of somebody who may not
-/// revoke then.
+/// nothing that is granted: the asker's own approval or refusal; the approval or refusal of
+/// somebody who at its moment holds a duty that conflicts with the approving duty; and the
+/// revocation of somebody who may not revoke then.
 pub fn who_changes_nothing()
     ensures asker { (f : RosterFields Cmnd) (set : List Message) (v : VerdictFields) →
         v.kind ≢ kinds.Revoke → v.by ≡ v.of → GrantTheSame f set (set ++ Verdict v ∷ []) }
@@ -156,8 +156,8 @@ pub fn revocation_ends()
         (moment : ℕ) → IsGiven f set q kinds.Revoke v → InWindow f set q moment → moment < v.at }
 {}
 
-/// A refusal that counts, and is not later than the completion, refuses; adding or removing a later
-/// one changes nothing that is granted.
+/// A refusal that counts, and is not later than the completion, refuses the request; adding or
+/// removing a later refusal changes nothing that is granted.
 pub fn refusal_in_time()
     ensures status { (f : RosterFields Cmnd) (set : List Message) (q : RequestFields)
         (v : VerdictFields) → StandsAlone set q → AdmitsRequest f q → IsGiven f set q kinds.Refuse v

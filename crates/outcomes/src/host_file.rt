@@ -27,8 +27,8 @@ use std::alloc::Global;
 use std::collections::BTreeMap;
 use sudo_words::{HostName, Moment, NoMemory};
 
-/// Adds the lines that are left of what was found under a name, for the host, and answers how many
-/// they are: none if nobody asks under the name.
+/// Adds the lines that the request found under a name gives the host and that are left, and answers
+/// how many these are: none if nobody asks under the name.
 fn push_name(
     alloc: Global,
     text: &mut String,
@@ -79,14 +79,14 @@ fn push_all(
     Ok(())
 }
 
-/// States that the set gives the host lines: all of them, also those that have ended, which nothing
-/// makes. The file is what is left of all.
+/// States that the set gives the host lines, also those that have ended: no code makes this list.
+/// The file has the lines of the list that are left.
 fn has_lines(roster: &Roster, summaries: &BTreeMap<RequestName, Summary>, host: &HostName)
     ensures { (set : List AnyMessage) → Gathers set summaries.now → AreRequests summaries.now
         → (ls : List Line) × AreLines roster.now.says set host.now ls }
 {
-    // Only under a roster does each request have a status, and so its lines or none. The text's
-    // clause says that this is one.
+    // Only under a roster that was read from a text does each request have a status, and so its
+    // lines or none. The clause of `text` says that this roster was.
     let _text = roster.text();
 }
 

@@ -12,8 +12,8 @@ use std::alloc::{AllocError, Global};
 use std::collections::{BTreeMap, BTreeSet};
 use sudo_words::{HostName, Moment, NoMemory};
 
-/// A request's name under the last moment that the request asks for: no grant of it ends later.
-/// Endings are in the order of these moments, and then in that of the names.
+/// A request's name under the last moment that the request asks for: no grant of the request ends
+/// later. Endings are in the order of these moments, and then in that of the names.
 #[derive(Debug, Drop, PartialEq, Eq, PartialOrd, Ord)]
 pub struct Ending {
     pub(crate) until: Moment,
@@ -98,10 +98,10 @@ fn is_left(after: &Option<Moment>, until: Moment) -> bool
     }
 }
 
-/// The names of the endings that are left, each once and in their order: without a moment all, and
-/// with one those of the requests that ask for an end then or later. It goes from the latest end
-/// down to the moment and stops, so what has ended costs nothing. The names are lent: no text is
-/// copied.
+/// The names of the endings that are left, each once and in order: without a moment all names, and
+/// with a moment the names of the requests that ask for an end then or later. The walk goes from
+/// the latest end down to the moment and stops, so that ended requests cost nothing. The names are
+/// lent: no text is copied.
 pub(crate) fn names_left<'a>(
     alloc: Global,
     endings: &'a BTreeSet<Ending>,

@@ -23,9 +23,9 @@ use sudo_words::{Label, Moment, NoMemory};
 pub struct Live {
     /// The request's name.
     pub name: RequestName,
-    /// The ceiling that it stays under.
+    /// The ceiling that the grant stays under.
     pub ceiling: Label,
-    /// Its first and its last moment.
+    /// The first and the last moment of the grant.
     pub window: Window,
 }
 

@@ -9,8 +9,8 @@ use messages::RequestName;
 use std::collections::BTreeMap;
 use std::collections::btree_map::Range;
 
-/// The summary of a name, or none where nobody asks under it; the rest of the walk then begins
-/// behind the name. The name is searched for.
+/// The summary of a name, or none where nobody asks under the name, found by a search. The rest of
+/// the walk then begins behind the name.
 fn sought<'a>(
     summaries: &'a BTreeMap<RequestName, Summary>,
     rest: &mut Range<'a, RequestName, Summary>,
@@ -26,8 +26,8 @@ fn sought<'a>(
     }
 }
 
-/// The same. Where the name is the next of the walk, as at a host that most requests list, nothing
-/// is searched.
+/// The same summary, without a search where the name is the next of the walk, as at a host that
+/// most requests list.
 pub(crate) fn summary_at<'a>(
     summaries: &'a BTreeMap<RequestName, Summary>,
     rest: &mut Range<'a, RequestName, Summary>,

@@ -1,4 +1,4 @@
--- What is left of a response, and what a write took of it.
+-- The rest of a response, and the part that a write took.
 use Rattle.std.proofs.Common.{◌≡◌, ◌≤◌, ◌+◌, ◌-◌, ℕ, List, [], ◌++◌, Option, Result, Ok, Err, IfOk, sym, ap, ◌∙◌}
 use Rattle.std.proofs.Common.{subst, take, drop, length, arith, ◌==◌, leb, append_assoc, length-append, length-drop, take-append-drop, ◌∷◌}
 use Rattle.std.proofs.lemmas.List.{append-nil, drop-take, drop-append-le, take-append-le}
@@ -9,7 +9,7 @@ use Rattle.relay_http.specs.Sent.{Began}
 use Rattle.relay_http.proofs.SentLemmas.{appends_both}
 use Rattle.relay_http.proofs.RequestLemmas.{take_rest}
 
--- a write of what is left took a beginning of it
+-- a write of the rest took a beginning of the rest
 pub took : {E : Type 0} (old new : Option (List ℕ)) (r : Result ℕ E) (bytes left : List ℕ) → bytes ≡ left → WriteAppends old new r bytes
     → IfOk r (λ n. Appends old new (take n left))
 took old new (Ok n) bytes left e h = subst (λ (l : List ℕ). Appends old new (take n l)) e h

@@ -26,9 +26,9 @@ use Rattle.relay_http.specs.declared.serving.ServeFault.TheVariants.{ReadFailed}
 use Rattle.relay_http.specs.declared.serving.ServeFault.TheVariants.{WriteFailed, NoMemory}
 use Rattle.relay_http.specs.declared.status.ResponseStatus.TheVariants.{Done}
 
--- The response of a desk of this roster and base to what is asked. `IsUp` says that the storage was
--- honest and no failure has shut it, `old` and `new` which messages it holds before and then,
--- `Same` that it keeps what it kept, and `Served` what storage did, as `desk_store` defines it: by
+-- The response of a desk of this roster and base to an action. `IsUp` says that the storage was
+-- honest and no failure has shut it, `old` and `new` which messages it holds before and after,
+-- `Same` that it keeps what it kept. `Served` says what storage did, as `desk_store` defines: by
 -- whether the answer tells of a failed storage, and whether of a want of memory or of storage.
 pub record IsAnswered (roster : Reading) (base : List Entry)
     (IsUp : Type 0) (old new : Message → Type 0) (Same : Type 0)
@@ -39,8 +39,8 @@ pub record IsAnswered (roster : Reading) (base : List Entry)
   pub leaves : IsUp → Leaves Same old new action response
   pub served : Served (response ≡ refusal Storage) (IsServerFailure response)
 
--- An exchange over such a desk, whose keeper `g` describes before and after: one response is its
--- answer, also by what it leaves after a crash, and `Wrote` holds of that response's bytes.
+-- An exchange over such a desk, whose keeper `g` describes before and after: one response is the
+-- desk's answer, also by what a crash would leave, and `Wrote` holds of that response's bytes.
 pub record IsExchange {K : Type 0} (g : Ghosts K) (roster : Reading) (base : List Entry)
     (before after : K) (Wrote : List ℕ → Type 0) (request : Request ℕ) : Type 0 where
   pub response : Response

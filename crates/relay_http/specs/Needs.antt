@@ -23,8 +23,8 @@ HasNoHead bytes = (h : RequestHead) → ¬ (HasHead bytes h)
 abbrev pub most_read : ℕ
 most_read = 24_576
 
--- Exactly n bytes of the content are missing, one or more: with fewer bytes than these the request
--- is refused as one that is cut short, and with as many no bytes that follow change what it asks.
+-- Exactly n bytes of the content are missing, one or more: with fewer than n more bytes the request
+-- is refused as cut short, and once n more have come no bytes that follow change the request.
 pub record LacksContent (bytes : List ℕ) (n : ℕ) : Type 0 where
   pub some : 0 < n
   pub fits : length bytes + n ≤ most_read

@@ -43,9 +43,9 @@ IsWantResponse with_body x = (x.status ≡ code_of (refusal refusals.NoMemory).s
     × (x.rest ≡ written (refusal refusals.NoMemory).status
     (refusal refusals.NoMemory).body with_body)
 
--- Why no more came behind these bytes, and what it comes to: a read that would block is waited for,
--- and any other that failed is told by its name. Where memory ran out it is told by its name before
--- anything had come, and else in the desk's response. For the program alone.
+-- What a step comes to where no more came behind these bytes, by the reason: a read that would
+-- block is waited for, and another failed read is told by its name. Want of memory is told by its
+-- name if nothing had come, and else in the desk's response. For the program alone.
 abbrev pub IsStopped : (come : Taken) → ReceiveFault → Result Reception ServeFault → Type 0
 IsStopped come why (Ok (reception.Came x)) = ⊥
 IsStopped come why (Ok (reception.Waits x)) =

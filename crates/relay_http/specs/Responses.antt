@@ -1,5 +1,5 @@
--- The response of a desk to what is asked of it, by the set of messages that it holds, and what it
--- holds then.
+-- The response of a desk to a request, by the set of messages that the desk holds, and the set that
+-- the desk holds then.
 use Rattle.std.specs.Prelude.{◌≡◌, ◌≢◌, ◌⊎◌, ◌≤◌, ◌<◌, ◌&&◌, ℕ, true, false, Bool, List}
 use Rattle.std.specs.Prelude.{[], ◌∷◌, ◌++◌, Option, Some, None, Result, Ok, Err, codes, decimal}
 use Rattle.std.specs.Prelude.{length, map}
@@ -95,7 +95,7 @@ refusal_status Storage = status.ServiceUnavailable
 refusal_status NoMemory = status.ServiceUnavailable
 refusal_status BaseTooLarge = status.ServiceUnavailable
 
--- its body is its code and name
+-- the body of a refusal is its code and name
 abbrev pub refusal : Refusal → Response
 refusal e = record { status = refusal_status e; body = refusal_text e ++ newline ∷ [] }
 
@@ -112,8 +112,8 @@ delivery relay body = record { relay = relay; body = body }
 abbrev pub is_known_host : RosterFields Cmnd → List ℕ → Bool
 is_known_host f host = is_host_name host && is_among f.hosts host
 
--- The response to who asks for a host's file with the lines that `left` leaves: the roster lacks
--- the host; or few enough lines are left, and it is the base with these; or too many are.
+-- The response to a question for a host's file with the lines that `left` leaves: the roster lacks
+-- the host; or few enough lines are left, and the body is the base with them; or too many are left.
 abbrev pub IsFileResponse : (left : List Line → List Line) → RosterFields Cmnd
     → (base : List Entry) → List Message → (host : List ℕ) → Response → Type 0
 IsFileResponse left f base set host response =
@@ -172,7 +172,7 @@ abbrev pub Stores : (body : List ℕ) → Response → Message → Type 0
 Stores body response m = IsMessage m × (body ≡ wire m) × (response.status ≡ status.Done)
 
 -- What is held then: after a delivery exactly what was held, and the message that is acknowledged.
--- All is kept the same, except after a delivery with the response 200.
+-- The keeper stays the same, except after a delivery with the response 200.
 abbrev pub Leaves : (Same : Type 0) → (old new : Message → Type 0) → Action ℕ → Response → Type 0
 Leaves Same old new (deliver relay body) response =
     SameSet (λ m. old m ⊎ Stores body response m) new × (response.status ≢ status.Done → Same)

@@ -39,7 +39,7 @@ abbrev pub cut : Result ℕ RequestFault → List ℕ → Result (List ℕ) Requ
 cut (Ok n) rest = sized n rest
 cut (Err fault) rest = Err fault
 
--- the bytes begin with the head h, and what was kept of it is there
+-- the bytes begin with the head h, and what was kept is that head's
 pub record IsHeadAt (bytes : List ℕ) (head : Head) (h : RequestHead) : Type 0 where
   pub has : HasHead bytes h
   pub len : head.len ≡ length (print_request h)

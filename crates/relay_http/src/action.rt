@@ -14,7 +14,7 @@ pub enum Action<'b> {
     Count,
     /// What became of every request.
     Requests,
-    /// The same of what does not end before the moment.
+    /// What became of every request that does not end before the moment.
     RequestsAfter(Moment),
     /// What became of the request that the asker made under the number.
     NamedRequest { asker: &'b str, no: u32 },
@@ -24,11 +24,11 @@ pub enum Action<'b> {
     Parked,
     /// The sudoers file of a host, whose name may have any form.
     HostFile(&'b str),
-    /// The same without the lines that end before the moment.
+    /// The sudoers file of a host without the lines that end before the moment.
     HostFileAfter(&'b str, Moment),
     /// The report at the moment.
     Report(Moment),
-    /// None: the first fault that applies.
+    /// No action: the first fault that applies.
     Refused(RequestFault),
 }
 

@@ -11,7 +11,7 @@ pub enum Body {
 }
 
 impl Body {
-    /// Its bytes.
+    /// The body's bytes.
     pub fn as_bytes(&self) -> &[u8]
         ensures { result.now ≡ body_bytes self.now }
     {
@@ -21,7 +21,7 @@ impl Body {
         }
     }
 
-    /// Its bytes where the response has its body, and else none.
+    /// The body's bytes where the response has a body, and else none.
     pub fn part(&self, with_body: bool) -> &[u8]
         ensures { result.now ≡ part_of self.now with_body }
     {

@@ -7,8 +7,8 @@ ghost use Rattle.relay_http.specs.Counting.{after_read, after_write, one_failure
 
 use std::io::{self, Read, Write};
 
-/// Reads or writes through what it holds, and counts the failures: each `Err`, and each write that
-/// takes nothing, up to the greatest number.
+/// A reader or writer whose failures are counted: each `Err`, and each write that takes nothing, up
+/// to the greatest number.
 #[derive(Debug, Drop)]
 pub struct Counted<T> {
     inner: T,

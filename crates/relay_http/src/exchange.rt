@@ -41,7 +41,7 @@ const MOST_ROOM: usize = 28_672;
 /// What has to come before the request is known.
 #[derive(Clone, Copy, Debug, PartialEq, Eq)]
 pub enum Need {
-    /// Nothing: no bytes that follow change it.
+    /// Nothing: no bytes that follow change the request.
     Nothing,
     /// The rest of the head.
     Head,
@@ -72,7 +72,7 @@ pub(crate) enum Stage {
 }
 
 /// What has come of a request. Its head is parsed once it is there, and then not again; each byte
-/// before its end is looked at by one scan, however the bytes come.
+/// before the head's end is looked at by one scan, however the bytes come.
 #[derive(Drop)]
 pub struct Exchange {
     come: Vec<u8>,
@@ -91,8 +91,8 @@ impl Model for Exchange {
     ghost invariant = { λ e. IsStage e.come.items e.stage };
 }
 
-/// How many bytes of a content of this size are missing where so many have come. None are of one
-/// that no head may ask for.
+/// How many bytes of a content of this size are missing where so many have come: none if the size
+/// is a fault or over the limit.
 fn lacking(size: Result<u64, RequestFault>, come: usize) -> Option<usize>
     ensures some { IfSome result (λ missing. (n : ℕ) × (size ≡ Ok n) × (missing ≡ n - come)) }
     ensures none { result ≡ None → (n : ℕ) → size ≡ Ok n → n ≤ most_content → n ≤ come }
@@ -103,8 +103,8 @@ fn lacking(size: Result<u64, RequestFault>, come: usize) -> Option<usize>
     }
 }
 
-/// How far a request has come whose head was found. Where no content can be missing, the target's
-/// route is not looked up for it.
+/// How far a request has come whose head was found. The target's route is looked up only where
+/// bytes of the content are missing.
 fn found(routes: &Routes, head: Head, bytes: &[u8]) -> Stage
     requires { IsFoundHead bytes.now head }
     ensures { IsStage bytes.now result }
@@ -121,7 +121,7 @@ fn found(routes: &Routes, head: Head, bytes: &[u8]) -> Stage
     }
 }
 
-/// How far these bytes have come, where the scan has come so far before those from this place on.
+/// How far the request of these bytes has come, where the scan had come so far before this place.
 fn looked(routes: &Routes, line: HeadScan, bytes: &[u8], from: usize) -> Stage
     requires from { from ≤ length bytes.now }
     requires line { line ≡ scanned Blank (take from bytes.now) }
@@ -139,9 +139,9 @@ fn looked(routes: &Routes, line: HeadScan, bytes: &[u8], from: usize) -> Stage
     }
 }
 
-/// How far the scan comes with the bytes from this place on, if they are not worth a look. They are
-/// where they are the first, once the request line is there, once the head is, and once no more
-/// bytes can be a head.
+/// How far the scan comes with the bytes from this place on, unless the bytes are worth a look. A
+/// look is due at the first bytes, at the end of the request line, at the end of the head, and once
+/// no more bytes can be a head.
 fn scanned_on(line: HeadScan, bytes: &[u8], from: usize) -> Option<HeadScan>
     requires from { from ≤ length bytes.now }
     requires line { line ≡ scanned Blank (take from bytes.now) }
@@ -155,7 +155,7 @@ fn scanned_on(line: HeadScan, bytes: &[u8], from: usize) -> Option<HeadScan>
     if line.is_due(next) { None } else { Some(next) }
 }
 
-/// Looks at the bytes. It is done seldom, and stands apart so that the loop that reads is short.
+/// Looks at the bytes. A look is seldom due; this stands apart to keep the loop that reads short.
 #[inline(never)]
 fn look_again(stage: &mut Stage, routes: &Routes, line: HeadScan, bytes: &[u8], from: usize)
     requires from { from ≤ length bytes.now }
@@ -165,7 +165,7 @@ fn look_again(stage: &mut Stage, routes: &Routes, line: HeadScan, bytes: &[u8], 
     *stage = looked(routes, line, bytes, from);
 }
 
-/// The content that was missing is there. It stands apart for the same reason.
+/// Notes that the missing content is there. This stands apart for the same reason.
 #[inline(never)]
 fn complete(stage: &mut Stage)
     ensures { (head : Head) (n : ℕ) → stage.old ≡ stages.Lacks head n
@@ -177,7 +177,7 @@ fn complete(stage: &mut Stage)
 }
 
 /// Goes on with a request after more bytes came, from this place on. A byte before the head's end
-/// only moves the scan, and one of the content the count of those that are missing.
+/// only moves the scan, and a byte of the content only lowers the count of missing bytes.
 #[inline(always)]
 fn go_on(stage: &mut Stage, routes: &Routes, bytes: &[u8], from: usize)
     requires from { from ≤ length bytes.now }
@@ -235,10 +235,10 @@ impl Exchange {
         })
     }
 
-    /// Takes the bytes that came next, and answers what all that have come still need. Where memory
-    /// runs out, nothing is taken; it does not run out where there is room.
+    /// Takes the bytes that came next, and answers what the request still needs. Where memory runs
+    /// out, nothing is taken; memory does not run out where there is room.
     ///
-    /// It is made part of the loop that reads, and there a single byte that has room costs little.
+    /// The function is inlined into the loop that reads, so that a byte that has room costs little.
     #[inline(always)]
     pub fn take(&mut self, routes: &Routes, bytes: &[u8]) -> Result<Need, NoMemory>
         ensures taken { IfOk result (λ _. self.new.bytes ≡ self.old.bytes ++ bytes.now) }
@@ -258,7 +258,7 @@ impl Exchange {
         Ok(self.need())
     }
 
-    /// Takes bytes that are many, or that need room. It stands apart, so that the loop is short.
+    /// Takes many bytes, or bytes that need room. This stands apart, so that the loop is short.
     #[inline(never)]
     fn take_many(&mut self, routes: &Routes, bytes: &[u8]) -> Result<(), NoMemory>
         ensures taken { IfOk result (λ _. self.new.bytes ≡ self.old.bytes ++ bytes.now) }
@@ -284,8 +284,8 @@ impl Exchange {
         }
     }
 
-    /// Whether no bytes that follow change the request that those that have come are. So it is once
-    /// 24,576 have come.
+    /// Whether no bytes that follow change the request. Once 24,576 bytes have come,
+    /// no further byte changes it.
     pub fn is_settled(&self) -> bool
         ensures settled { result ≡ true → IsSettled self.now.bytes }
         ensures open { result ≡ false → length self.now.bytes < most_read }
@@ -314,7 +314,7 @@ impl Exchange {
         self.come.capacity() - self.come.len()
     }
 
-    /// Makes room for another read. It is done seldom, and stands apart so that the loop is short.
+    /// Makes room for another read. This is seldom due, and stands apart so that the loop is short.
     #[inline(never)]
     fn grow(&mut self) -> Result<(), NoMemory>
         ensures bytes { self.new.bytes ≡ self.old.bytes }
@@ -338,9 +338,9 @@ impl Exchange {
         Ok(())
     }
 
-    /// Reads once, and takes the bytes that came. It answers how many, and 0 at the end of the
-    /// stream. Room is made before: where there is none, nothing is read. Where the read fails,
-    /// nothing is taken.
+    /// Reads once, takes the bytes that came, and answers how many: 0 at the end of the stream.
+    /// Room is made before the read: where memory runs out for that, nothing is read. Where the
+    /// read fails, nothing is taken.
     pub fn read_on<R: Read>(
         &mut self,
         routes: &Routes,
@@ -400,7 +400,7 @@ impl Exchange {
         }
     }
 
-    /// The request that the bytes that have come are, if no more come. It takes no memory.
+    /// The request of the bytes that have come, if no more come. Reading it takes no memory.
     pub fn request(&self, routes: &Routes) -> HttpRequest<'_>
         ensures { IsHttpRequest self.now.bytes (request_of result) }
     {

@@ -6,7 +6,7 @@ use desk::Refusal;
 use std::error::Error;
 use std::fmt;
 
-/// Why a request is refused by its bytes alone. It is shown as its code and name.
+/// Why a request is refused by its bytes alone. A fault is shown as its code and name.
 #[derive(Clone, Copy, Debug, PartialEq, Eq)]
 pub enum RequestFault {
     /// The first 8,192 bytes do not begin with a request head of at most 32 fields, or a head of
@@ -73,7 +73,7 @@ impl RequestFault {
         self.text().as_bytes()
     }
 
-    /// Its code and name, and a newline, as a text.
+    /// The fault's code and name, and a newline, as a text.
     fn text(self) -> &'static str
         ensures { result.now ≡ fault_line self }
     {

@@ -24,11 +24,11 @@ const MOST_FIELDS: usize = 32;
 pub struct Head {
     pub method: Span,
     pub target: Span,
-    /// How many bytes it has.
+    /// How many bytes the head has.
     pub len: usize,
-    /// A Host field is missing, or there is more than one.
+    /// Whether a Host field is missing, or there is more than one.
     pub is_bad_host: bool,
-    /// The length of its content, by its fields.
+    /// The length of the content, by the head's fields.
     pub size: Result<u64, RequestFault>,
 }
 

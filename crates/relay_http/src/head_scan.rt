@@ -71,8 +71,8 @@ impl HeadScan {
         matches!(self, HeadScan::Ended)
     }
 
-    /// Whether the bytes are worth another look where the scan came on to here: the request line
-    /// has ended since, or the head has.
+    /// Whether the bytes are worth another look once the scan has come to `next`: the request line
+    /// has ended since, or the head has ended.
     pub fn is_due(self, next: HeadScan) -> bool
         ensures { result ≡ false → next ≢ Ended }
     {

@@ -29,7 +29,7 @@ ghost use Rattle.relay_http.specs.declared.status.ResponseStatus.{ResponseStatus
 // worked requests and responses
 pub use crate::worked::{worked_refusals, worked_requests, worked_responses};
 
-/// Bytes are one request.
+/// Bytes are at most one request.
 #[tactic(auto, using(crate::proofs::RequestLemmas::one_request))]
 pub fn one_request()
     ensures { (bytes : List ℕ) (a b : Request ℕ) → IsHttpRequest bytes a
@@ -42,13 +42,13 @@ pub fn one_head()
         → ReadsRequest (front bytes) h rest → ReadsRequest (take n (front bytes)) k [] → k ≡ h }
 {}
 
-/// Bytes that follow a head, with its content where it is asked for, change nothing.
+/// Bytes that follow a head, and its content where the head asks for one, change nothing.
 pub fn rest_ignored()
     ensures { (bytes more : List ℕ) (request : Request ℕ) → IsHttpRequestByHead bytes request
         → (request.action ≡ refused ShortBody → ⊥) → IsHttpRequest (bytes ++ more) request }
 {}
 
-/// HEAD asks for what GET does, and the response to it is that to GET without the body.
+/// HEAD asks for what GET does, and the response to HEAD is that to GET without the body.
 pub fn head_is_get()
     ensures asks { (target : List ℕ) (minor : ℕ) (fields : Fields) (rest : List ℕ) → action_by
         (codes "HEAD") target minor fields rest ≡ action_by (codes "GET") target minor fields rest }
@@ -73,17 +73,17 @@ pub fn first_bytes_decide()
         → IsHttpRequest bytes request → IsHttpRequest (bytes ++ more) request }
 {}
 
-/// What is asked of a roster, a base and a set of messages has at most one right response: so
-/// requests that ask for the same get the same.
+/// An action has at most one right response by a roster, a base and a set of messages: so requests
+/// that ask for the same get the same response.
 pub fn one_response()
     ensures { (roster : Reading) (base : List Entry) (set : List Message) (action : Action ℕ)
         (a b : Response) → IsResponse roster base set action a
         → IsResponse roster base set action b → a ≡ b }
 {}
 
-/// Steps of receiving, one behind the other, are one: what comes in both is what the reader gave in
-/// both, each byte once and in order, and a request that came at last asks for what all the bytes
-/// of the stream ask for. Steps of sending are one likewise.
+/// Two steps of receiving, one after the other, are like one step: the bytes that come are those
+/// that the reader gave in the two, each once and in order, and a request that came at last asks
+/// for what all the bytes of the stream ask for. Two steps of sending are like one step as well.
 pub fn steps_are_one()
     ensures come { (a b c : Option (List ℕ)) (before mid now : List ℕ)
         → HasCome a b before mid → HasCome b c mid now → HasCome a c before now }

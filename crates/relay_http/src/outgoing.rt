@@ -16,8 +16,8 @@ use std::io::{self, ErrorKind, Write};
 use std::marker::Model;
 use sudo_words::NoMemory;
 
-/// A buffer for what one read brings, and in which a short response is put together, so that one
-/// write sends it. What is in it before is never looked at.
+/// A buffer for what one read brings. A short response is put together there too, so that one write
+/// sends it. What an earlier use left in the buffer is never looked at.
 #[derive(Drop)]
 pub struct ExchangeBuffer {
     pub(crate) bytes: Vec<u8>,
@@ -41,7 +41,7 @@ pub struct Outgoing {
     end: usize,
     body: Body,
     with_body: bool,
-    /// How many bytes of both went out.
+    /// How many bytes of the head and the body went out.
     sent: usize,
 }
 
@@ -57,8 +57,8 @@ impl Model for Outgoing {
         × (o.sent ≤ length (take o.end o.head ++ part_of o.body o.with_body)) };
 }
 
-/// One write of what is left of a head and a body after the bytes that were sent: of both, if they
-/// fit in the buffer.
+/// One write of the rest of a head and a body, after the bytes that were sent. A write that begins
+/// in the head goes on with the body, if both fit in the buffer.
 fn write_on<W: Write>(
     writer: &mut Counted<W>,
     buffer: &mut [u8],
@@ -104,7 +104,7 @@ impl Outgoing {
         }
     }
 
-    /// Whether all of it went out.
+    /// Whether all of the response went out.
     pub fn is_out(&self) -> bool
         ensures { result ≡ (length self.now == 0) }
     {
@@ -112,7 +112,7 @@ impl Outgoing {
         self.sent >= head.len() + self.body.part(self.with_body).len()
     }
 
-    /// Writes what the writer takes at once of what is left. Each byte goes out once, in order.
+    /// Writes as much of the rest as the writer takes at once. Each byte goes out once, in order.
     pub fn send<W: Write>(
         &mut self,
         writer: &mut Counted<W>,

@@ -12,12 +12,12 @@ use crate::exchange::Exchange;
 #[derive(Drop)]
 pub struct Received {
     pub(crate) come: Exchange,
-    /// Its stream ended, so that some of it may be missing.
+    /// Whether the stream ended, so that some of the request may be missing.
     pub(crate) is_ended: bool,
 }
 
 impl Received {
-    /// Whole: no bytes that follow change what it asks for.
+    /// A request that came whole: no bytes that follow change what it asks for.
     pub(crate) fn whole(come: Exchange) -> Received
         requires { IsSettled come.bytes }
         ensures come { result.come ≡ come }
@@ -29,7 +29,7 @@ impl Received {
         }
     }
 
-    /// As far as a stream went that ended.
+    /// A request as far as it came before its stream ended.
     pub(crate) fn ended(come: Exchange) -> Received
         ensures come { result.come ≡ come }
         ensures ended { result.is_ended ≡ true }
@@ -40,7 +40,7 @@ impl Received {
         }
     }
 
-    /// Whether it is a POST, by its head.
+    /// Whether the request is a POST, by its head.
     pub fn is_post(&self) -> bool
         ensures head { (h : RequestHead) → HasHead self.now.come.bytes h
             → result ≡ allow Post h.method }

@@ -28,13 +28,13 @@ pub struct Receiving {
 pub enum Reception {
     /// The request has come.
     Came(Received),
-    /// No more of it comes for now.
+    /// No more of the request comes for now.
     Waits(Receiving),
-    /// Memory ran out after some of it had come, and this is the response.
+    /// Memory ran out after some of the request had come, and this is the response.
     Starved(HttpResponse),
 }
 
-/// No more came behind these bytes, for this reason.
+/// What a step comes to where no more came behind these bytes, for this reason.
 fn stopped(come: Exchange, fault: ReceiveFault) -> Result<Reception, ServeFault>
     ensures { IsStopped come fault result }
 {
@@ -70,9 +70,9 @@ impl Receiving {
         })
     }
 
-    /// Reads until the request has come, or no more of it comes for now: that is where a read would
-    /// block. Any other failed read is `ReadFailed`. Room for a read is made before it: where there
-    /// is none, and nothing has come yet, it is `NoMemory`.
+    /// Reads until the request has come, or until a read would block. Any other failed read is
+    /// `ReadFailed`. Room for a read is made before the read: where memory runs out for that and
+    /// nothing has come yet, the result is `NoMemory`.
     pub fn receive<R: Read>(
         self,
         routes: &Routes,

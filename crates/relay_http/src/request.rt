@@ -234,7 +234,7 @@ pub fn is_cut_short(routes: &Routes, head: &Head, bytes: &[u8]) -> bool
     so_far(routes, head, bytes).is_short
 }
 
-/// The request that the bytes of a connection are. It takes no memory.
+/// The request that the bytes of a connection are. Reading it takes no memory.
 pub fn request_in<'b>(routes: &Routes, bytes: &'b [u8]) -> HttpRequest<'b>
     ensures found { IsHttpRequest bytes.now (request_of result) }
     ensures only { (request : Request ℕ) → IsHttpRequest bytes.now request

@@ -21,11 +21,11 @@ use std::alloc::Global;
 /// A response that is to be written.
 #[derive(Drop)]
 pub struct HttpResponse {
-    /// Its status.
+    /// The response's status.
     pub status: StatusCode,
-    /// The desk's refusal that it tells. Each 503 tells one.
+    /// The desk's refusal that the response tells. Each 503 tells one.
     pub refusal: Option<Refusal>,
-    /// What has not gone out of it yet.
+    /// The bytes of the response that have not gone out yet.
     pub rest: Outgoing,
 }
 
@@ -43,7 +43,7 @@ impl HttpResponse {
         }
     }
 
-    /// The response where memory ran out. It takes none.
+    /// The response where memory ran out. Making it takes no memory.
     pub(crate) fn of_want(with_body: bool) -> HttpResponse
         ensures { IsWantResponse with_body result }
     {
@@ -52,7 +52,7 @@ impl HttpResponse {
 }
 
 impl Received {
-    /// Has the desk answer what the bytes that have come ask for. Once a message is acknowledged no
+    /// The desk's response to the request whose bytes have come. Once a message is acknowledged no
     /// memory is taken.
     pub fn answer<K: Keeper>(
         self,
@@ -70,7 +70,7 @@ impl Received {
         HttpResponse::of(answer, request.with_body)
     }
 
-    /// The response where memory ran out before the desk was asked. It takes none.
+    /// The response where memory ran out before the desk was asked. Making it takes no memory.
     pub fn starve(self, routes: &Routes) -> HttpResponse
         ensures { (request : Request ℕ) × IsHttpRequest self.come.bytes request
             × IsWantResponse request.with_body result }

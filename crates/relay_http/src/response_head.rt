@@ -13,7 +13,7 @@ pub const BUFFER_SIZE: usize = 4_096;
 /// The room for the head of a response.
 pub const MOST_RESPONSE_HEAD: usize = 256;
 
-/// So many zeros.
+/// The zeros of an empty buffer.
 const ZEROS: [u8; BUFFER_SIZE] = [0; BUFFER_SIZE];
 
 /// An empty buffer.

@@ -11,7 +11,7 @@ pub enum Route {
     Count,
     /// What became of every request.
     Requests,
-    /// The same of those that were in force at a moment or are asked for then or later.
+    /// What became of every request that does not end before a moment.
     RequestsAfter,
     /// What became of one request.
     NamedRequest,

@@ -32,7 +32,7 @@ impl Model for Routes {
 }
 
 impl Routes {
-    /// The routes. It fails only for want of memory.
+    /// The routes of the desk. Making them fails only for want of memory.
     pub fn new(alloc: Global) -> Result<Routes, NoMemory> {
         Ok(Routes {
             router: router(alloc)?,

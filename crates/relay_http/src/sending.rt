@@ -13,13 +13,13 @@ use std::io::{ErrorKind, Write};
 pub enum Sending {
     /// All of the response is out.
     Out,
-    /// Its peer takes no more of it for now; this is left.
+    /// The peer takes no more for now; this is the rest of the response.
     Waits(Outgoing),
 }
 
 impl Outgoing {
-    /// Writes what is left, up to where a write would block. Where a write fails otherwise or takes
-    /// nothing, it is `WriteFailed`, and a beginning of it went out.
+    /// Writes the rest of the response, up to where a write would block. Where a write fails
+    /// otherwise or takes nothing, the result is `WriteFailed`; a beginning of the rest went out.
     pub fn send_on<W: Write>(
         self,
         writer: &mut Counted<W>,

@@ -28,7 +28,7 @@ use std::error::Error;
 use std::fmt;
 use std::io::{Read, Write};
 
-/// Why an exchange was not completed. It is shown as its code and name.
+/// Why an exchange was not completed. A fault is shown as its code and name.
 #[derive(Clone, Copy, Debug, PartialEq, Eq)]
 pub enum ServeFault {
     /// A read failed: nothing was written, and nothing was asked of the desk.
@@ -117,9 +117,9 @@ pub fn serve_one<K: Keeper, R: Read, W: Write>(
     reader: &mut Counted<R>,
     writer: &mut Counted<W>,
 ) -> Result<(), ServeFault>
-    // The bytes that the reader has left are one request. One response is the desk's to it, with
-    // what it leaves of the keeper, also over a disk that crashes; it was written, or where a write
-    // failed a beginning of it.
+    // The bytes that the reader has left are one request. One response is the desk's to this
+    // request, and fits the change of the keeper, also over a disk that crashes. That response was
+    // written, or a beginning of it where a write failed.
     ensures exchange { HasResponded result
         → IfSome (R.remaining reader.old.inner) (λ all. (request : Request ℕ)
         → IsHttpRequest all request

@@ -30,7 +30,7 @@ pub enum ResponseStatus {
 impl ResponseStatus {
     ghost use Rattle.relay_http.specs.Response.{code_of};
 
-    /// Its code.
+    /// The status's code.
     pub fn code(self) -> StatusCode
         ensures { result ≡ code_of self }
     {
@@ -47,7 +47,7 @@ impl ResponseStatus {
     }
 }
 
-/// The phrase of a status: that of RFC 9110, in which 413 is no longer the one that `http` has.
+/// The phrase of a status in RFC 9110. The phrase of 413 there is newer than that in `http`.
 pub(crate) fn phrase(status: ResponseStatus) -> &'static [u8]
     ensures text { result.now ≡ phrase_of status }
     ensures short { length result.now ≤ 30 }

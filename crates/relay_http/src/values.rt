@@ -13,9 +13,9 @@ use httparse::spans::HeaderSpan;
 pub enum Values<'b> {
     /// The head has no such field.
     Nothing,
-    /// It has one, with this value.
+    /// The head has one such field, with this value.
     One(&'b [u8]),
-    /// It has more than one.
+    /// The head has more than one such field.
     Many,
 }
 

@@ -16,10 +16,10 @@ ghost use Rattle.relay_http.specs.declared.fault.RequestFault.TheVariants.{Short
 ghost use Rattle.relay_http.specs.declared.route.Methods.TheVariants.{GetOrHead, Post};
 ghost use Rattle.relay_http.specs.declared.status.ResponseStatus.TheVariants as status;
 
-/// Requests that are answered by the desk: a delivery, one with zeros before its length, all
-/// messages, how many there are, what became of every request, of those after a moment and of one,
-/// the grants of a moment by HEAD, a host's file, the same after a moment, the report at a moment,
-/// and a query of HTTP/1.0 without Host.
+/// Requests that are answered by the desk: a delivery, a delivery with zeros before its length, all
+/// messages, how many messages there are, what became of every request, of the requests after a
+/// moment and of one request, the grants of a moment by HEAD, a host's file, the file after a
+/// moment, the report at a moment, and a query of HTTP/1.0 without Host.
 pub fn worked_requests()
     ensures delivery { IsHttpRequest (posted (codes "70"))
         (record { with_body = true; action = deliver (codes "web") approval_body }) }

@@ -26,7 +26,7 @@ pub(crate) struct Parts {
 }
 
 /// Adds the lines of a summary's name to each part. The name's status is worked out once, for all
-/// of them.
+/// parts.
 fn push_parts(
     alloc: Global,
     parts: &mut Parts,
@@ -47,7 +47,7 @@ fn push_parts(
 }
 
 /// The lines of the names of summaries, in their order. The base is compiled and measured once, for
-/// all of them.
+/// all names.
 pub(crate) fn parts_of(
     alloc: Global,
     roster: &Roster,

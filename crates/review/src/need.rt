@@ -21,12 +21,12 @@ pub(crate) enum Need {
     Needed,
     /// On each host the base gives all that the grant gives.
     Needless,
-    /// On some host there are too many cases to tell, and on none is it known to give more.
+    /// On some host there are too many cases to tell, and on none is the grant known to give more.
     Unknown,
 }
 
 impl Need {
-    /// How it is written.
+    /// How the need is written.
     pub(crate) fn text(self) -> &'static str
         ensures { result.now ≡ needs.need_text self }
     {
@@ -147,7 +147,7 @@ fn need_over(
     Ok(need)
 }
 
-/// Whether the grant is needed beside the base: whether it gives more on one of its hosts.
+/// Whether the grant is needed beside the base: whether the grant gives more on one of its hosts.
 pub(crate) fn need_of(
     alloc: Global,
     base: &Baseline<'_>,

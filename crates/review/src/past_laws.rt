@@ -12,10 +12,10 @@ ghost use Rattle.grants.specs.Past.{AreMadeBy};
 ghost use Rattle.review.specs.Columns.{lines_text};
 ghost use Rattle.review.specs.Report.{IsReport, conflicts_of, report_lines};
 
-/// The past is not rewritten. If two rosters agree until a moment, the reports by either of what
-/// was asked and answered up to it have the same lines under LIVE, BARRED, BROAD and PARKED,
-/// whenever they are made; under CONFLICTS each says who holds conflicting duties by its own roster
-/// when it is made. So reports made at that moment or before it are the same.
+/// The past is not rewritten. Let two rosters agree until a moment, and each give a report of what
+/// was asked and answered up to that moment. Whenever they are made, the two reports have the same
+/// lines under LIVE, BARRED, BROAD and PARKED; under CONFLICTS each says who holds conflicting
+/// duties by its own roster when it is made. So reports made by that moment are the same.
 pub fn past_reports_stay()
     ensures lines { (f g : RosterFields Cmnd) (moment : ℕ) (base : List Entry)
         (set : List Message) (at : ℕ) (text : List ℕ) → AgreeUntil moment f g

@@ -16,12 +16,12 @@ pub(crate) enum Reason {
     Asker,
     /// The person does not hold the approving duty.
     Duty,
-    /// The person holds a duty that conflicts with it.
+    /// The person holds a duty that conflicts with the approving duty.
     Conflict,
 }
 
 impl Reason {
-    /// How it is written.
+    /// How the reason is written.
     pub(crate) fn text(self) -> &'static str
         ensures { result.now ≡ barred.reason_text self }
     {
@@ -33,7 +33,7 @@ impl Reason {
     }
 }
 
-/// The reason of a weight; `None` of a verdict that counts.
+/// The reason of a weight; `None` for a verdict that counts.
 fn reason_of(weight: Weight) -> Option<Reason>
     ensures { result ≡ whys.reason_of weight }
 {

@@ -44,15 +44,15 @@ fn push_texts(out: &mut String, texts: &[String]) -> Result<(), NoMemory>
     Ok(())
 }
 
-/// States that the lines of what a report looks at are those of all names: the others have none. It
-/// does nothing: it is there for a proof.
+/// States that the lines of the names that a report looks at are those of all names: the other
+/// names have none. The function does nothing: it is there for a proof.
 fn is_whole(roster: &Roster, _base: &Policy, _summaries: &[Summary], _at: Moment, _parts: &Parts)
     ensures { (set : List AnyMessage) → ((m : AnyMessage) → Contains set m → IsMessage m)
         → AreReviewed roster.now.says set _at _summaries.now
         → HaveNames roster.now.says _base.now set _at _summaries.now _parts.now → (all : List Kept)
         × AreSummaries set all × HaveNames roster.now.says _base.now set _at all _parts.now }
 {
-    // Only under a roster does each request have a status. The text's clause says that this is one.
+    // Each request has a status only under a roster. The clause of `text` says that this is one.
     let _text = roster.text();
 }
 
@@ -88,8 +88,8 @@ fn joined(
 /// which grants are of ALL or of a directory, and which verdicts wait for their request (NIST SP
 /// 800-53 AC-5, AC-6(7)).
 ///
-/// It takes the summaries of the set in the order of their names, all or those that a report at the
-/// moment looks at, and the parked texts in byte order.
+/// The summaries are in the order of their names: those of the whole set, or those that a report at
+/// the moment looks at. The parked texts are in byte order.
 pub fn report_of(
     alloc: Global,
     roster: &Roster,

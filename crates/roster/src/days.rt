@@ -19,7 +19,7 @@ pub enum Days {
 }
 
 impl Days {
-    /// Whether the day is one of them. It takes no memory.
+    /// Whether the day is one of these days. It takes no memory.
     pub fn hold(&self, day: Day) -> bool
         ensures { result ≡ relations.hold self.now day }
     {
@@ -29,7 +29,7 @@ impl Days {
         }
     }
 
-    /// Whether they are every day, or from a day to the same or a later one, up to 2099-12-31.
+    /// Whether the days are every day, or from a day to the same or a later one, up to 2099-12-31.
     pub(crate) fn are_in_range(&self) -> bool
         ensures { result ≡ rules.are_in_range self.now }
     {

@@ -1,5 +1,5 @@
-//! The laws, each the contract of a function that does nothing. Those of rosters and their
-//! texts are in this file.
+//! The laws, each the contract of a function that does nothing. This file has the laws of rosters
+//! and of their texts.
 
 ghost use Rattle.std.specs.Prelude.{◌≡◌, ◌↔◌, ◌≤◌, ◌<◌, ◌⊎◌, ◌+◌, ◌*◌, ℕ};
 ghost use Rattle.std.specs.Prelude.{pos, List, [], true, false, codes};

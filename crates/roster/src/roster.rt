@@ -22,8 +22,8 @@ use sudo_words::{Day, HostName, Items, Label, Moment, Name};
 
 /// Who holds which duty, which duties conflict, and under which ceilings rights are granted.
 ///
-/// It is read from a TOML text, and keeps that text. Its look-ups take no memory, and may be made
-/// with any names: a person whom it does not list holds no duty.
+/// A roster is read from a TOML text, and keeps that text. The look-ups take no memory, and may be
+/// made with any names: a person whom the roster does not list holds no duty.
 #[derive(Drop)]
 pub struct Roster {
     text: String,
@@ -161,22 +161,22 @@ impl Roster {
     }
 
     /// Whether the person may approve or refuse at the moment what the asker asked for under the
-    /// ceiling: the person is someone else, holds the approving duty then, and holds none then that
-    /// conflicts with it (NIST SP 800-53 AC-5).
+    /// ceiling: the person is someone else, holds the approving duty then, and holds no duty then
+    /// that conflicts with the approving duty (NIST SP 800-53 AC-5).
     pub fn eligible(&self, person: &Name, asker: &Name, ceiling: &Ceiling, at: Moment) -> bool
         ensures { result ≡ relations.eligible self.now.says person.now asker.now ceiling.now at }
     {
         if *person == *asker {
             return false;
         }
-        // (the entries are looked up once for both)
+        // (one look-up of the entries serves both tests below)
         let entries = entries_of(self.people(), person);
         let day = at.day();
         give(entries, &ceiling.approve, day) && !self.is_one_against(entries, &ceiling.approve, day)
     }
 
-    /// Whether the person may revoke at the moment what the asker asked for under the ceiling: it
-    /// is the asker, or someone who holds the approving duty then.
+    /// Whether the person may revoke at the moment what the asker asked for under the ceiling: the
+    /// person is the asker, or holds the approving duty then.
     pub fn may_revoke(&self, person: &Name, asker: &Name, ceiling: &Ceiling, at: Moment) -> bool
         ensures { result ≡ relations.may_revoke self.now.says person.now asker.now ceiling.now at }
     {

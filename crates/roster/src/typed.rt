@@ -122,8 +122,8 @@ fn number_at(table: &Table, key: &str) -> Result<u64, RosterFault>
     number(value_at(table, key)?)
 }
 
-/// The day whose date the text is, or, if it is not the date of a day from 1970-01-01 to
-/// 2099-12-31, the day after these.
+/// The day whose date the text is, or the day after 2099-12-31, if the text is not the date of a
+/// day from 1970-01-01 to 2099-12-31.
 fn day_spelled(text: &str) -> Day
     ensures { result ≡ document.day_spelled text.now }
 {

@@ -11,8 +11,8 @@ use sqlite::{Alter, Transaction};
 use store_schema::DeskPart;
 use store_tables::Fault;
 
-/// Empties the table. A DELETE leaves a row whose rowid is not a whole number: if one is left, the
-/// answer is `Fault::Stray`.
+/// Empties the table. A DELETE leaves a row whose rowid is not a whole number: if such a row is
+/// left, the answer is `Fault::Stray`.
 fn clear<S: Alter>(tx: &mut Transaction<'_, S>, part: DeskPart) -> Result<(), Fault>
     ensures cleared { InStep (state S.Store tx.old.conn.now)
         (state S.Store tx.new.conn.now) (λ a b. OnOk result (Cleared part a b)) }

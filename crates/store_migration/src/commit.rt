@@ -22,18 +22,18 @@ use std::alloc::Global;
 use store_schema::is_migratable;
 use store_tables::Fault;
 
-/// Whether an older desk's tables can become those of one of today.
+/// Whether an older desk's tables can become those of a desk of today.
 fn can_migrate<S: Alter>(conn: &Connection<S>) -> bool
     ensures { IsTrue result ↔ IsMigratable (state S.Store conn.now).now.schema }
 {
     is_migratable(conn.schema())
 }
 
-/// Makes an older desk one of today, with another roster text and the messages that it has, in one
-/// commit.
+/// Makes an older desk one of today, in one commit. The desk gets another roster text, and keeps
+/// its messages.
 ///
-/// It is refused, as `Fault::Stray`, if a foreign key refers to its tables that lose rows or waits
-/// for `verdicts`, or if a table counts by AUTOINCREMENT without the table of the counts.
+/// The call is refused, as `Fault::Stray`, if a foreign key refers to tables that lose rows or
+/// waits for `verdicts`, or if a table counts by AUTOINCREMENT without the table of the counts.
 pub fn migrate<S: Alter>(
     alloc: Global,
     conn: &mut Connection<S>,

@@ -54,8 +54,8 @@ pub record IsKept (db : Database) : Type 0 where
   pub desk : IsDeskDatabase db
   pub unmarked : IsUnmarked db
 
--- Its tables are those of a desk of today, and its texts too; the rows that should follow from
--- these may be any.
+-- The database has the tables and the texts of a desk of today; the rows that should follow from
+-- the texts may be any.
 pub record IsDeskBesideRows (db : Database) : Type 0 where
   pub common : HasCommon db.schema
   pub verdicts : FindsPart db.schema Verdicts

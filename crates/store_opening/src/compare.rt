@@ -91,7 +91,7 @@ pub(crate) fn is_of_name(row: &Row, asker: &str, number: u32) -> bool
     is_text(row, 1, asker) && is_number(row, 2, number)
 }
 
-/// It is a request of the name.
+/// The message is a request of the name.
 fn is_named(stored: &Stored, asker: &str, number: u32) -> bool
     ensures { result ≡ compare.is_named asker.now number stored.now }
 {
@@ -108,7 +108,7 @@ fn asks(all: &[Stored], asker: &str, number: u32) -> bool
     all.iter().any(|stored| is_named(stored, asker, number))
 }
 
-/// It is another request of the same name.
+/// The message is another request with the name of the request `of`.
 fn is_other(stored: &Stored, of: &Stored) -> bool
     ensures { result ≡ compare.is_other of.now stored.now }
 {
@@ -120,7 +120,7 @@ fn is_other(stored: &Stored, of: &Stored) -> bool
     }
 }
 
-/// One of the messages is another request of its name.
+/// One of the messages is another request with the name of the request `of`.
 fn is_disputed(all: &[Stored], of: &Stored) -> bool
     ensures { result ≡ compare.is_disputed all.now of.now }
 {
@@ -192,7 +192,7 @@ pub(crate) fn shows_parked(row: &Row, stored: &Stored) -> bool
     }
 }
 
-/// It is a verdict, and its name has a request.
+/// The message is a verdict, and its name has a request.
 pub(crate) fn counts(all: &[Stored], stored: &Stored) -> bool
     ensures { result ≡ compare.counts all.now stored.now }
 {
@@ -202,7 +202,7 @@ pub(crate) fn counts(all: &[Stored], stored: &Stored) -> bool
     }
 }
 
-/// It is a verdict, and its name has no request.
+/// The message is a verdict, and its name has no request.
 pub(crate) fn waits(all: &[Stored], stored: &Stored) -> bool
     ensures { result ≡ compare.waits all.now stored.now }
 {

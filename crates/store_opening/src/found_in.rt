@@ -127,7 +127,7 @@ fn has_marks<S: Alter>(conn: &mut Connection<S>) -> Result<bool, Error>
     Ok(!marks.is_empty())
 }
 
-/// Looks at a database that has a desk's tables, and those of the older desk that it was.
+/// Looks at a database that has a desk's tables, and `marks` of the older desk that it was.
 fn look_migrated<S: Alter>(alloc: Global, conn: &mut Connection<S>) -> Result<InDatabase, Fault>
     requires rests { Rests (state S.Store conn.old) }
     requires common { IsUp (state S.Store conn.old)
@@ -176,8 +176,8 @@ pub fn look<S: Alter>(alloc: Global, conn: &mut Connection<S>) -> Result<InDatab
     ensures reads { Reads (state S.Store conn.old) (state S.Store conn.new) }
     ensures up { IsUp (state S.Store conn.old) → HasCleanDisk (state S.Store conn.new)
         → OnOk result (IsUp (state S.Store conn.new)) }
-    // Where no table of a desk's is seen, no statement is run: so only the answer that there is a
-    // desk says that the connection is up.
+    // Where the schema shows no table of a desk, no statement is run: so only the answer that there
+    // is a desk says that the connection is up.
     ensures live { HasCleanDisk (state S.Store conn.new)
         → IfOk result (λ found. IsSomeDesk found → IsUp (state S.Store conn.new)) }
     ensures found { IsUp (state S.Store conn.new)

@@ -67,8 +67,8 @@ fn names_of<'a>(alloc: Global, told: &[Asked<'a>]) -> Result<Vec<NameKey<'a>>, N
     Ok(names)
 }
 
-/// Whether `verdicts` is to have a row of the message: those are found by what they say, and all
-/// others by their texts.
+/// Whether `verdicts` is to have a row of the message. Such messages are found by what their rows
+/// say, and all others by their texts.
 fn is_counted(names: &[NameKey<'_>], stored: &Stored) -> bool {
     match stored.message() {
         Message::Request(_) => false,
@@ -132,7 +132,7 @@ impl<'a> Known<'a> {
         is_among(self.names.as_slice(), &name)
     }
 
-    /// It is a verdict, and its name has a request.
+    /// The message is a verdict, and its name has a request.
     pub(crate) fn counts(&self, stored: &Stored) -> bool
         requires { IsIndex self.now.all.now self.now.names.items self.now.disputed.items }
         ensures { result ≡ compare.counts self.now.all.now stored.now }
@@ -143,7 +143,7 @@ impl<'a> Known<'a> {
         }
     }
 
-    /// It is a verdict, and its name has no request.
+    /// The message is a verdict, and its name has no request.
     pub(crate) fn waits(&self, stored: &Stored) -> bool
         requires { IsIndex self.now.all.now self.now.names.items self.now.disputed.items }
         ensures { result ≡ compare.waits self.now.all.now stored.now }
@@ -154,7 +154,7 @@ impl<'a> Known<'a> {
         }
     }
 
-    /// One of the messages is another request of its name.
+    /// The message is a request, and one of the messages is another request of its name.
     pub(crate) fn is_disputed(&self, stored: &Stored) -> bool
         requires index { IsIndex self.now.all.now self.now.names.items self.now.disputed.items }
         requires known { Contains self.now.all.now stored.now }
@@ -166,7 +166,7 @@ impl<'a> Known<'a> {
         }
     }
 
-    /// A message of this text that `verdicts` is to have no row of.
+    /// A message of this text for which `verdicts` is to have no row.
     pub(crate) fn with_text(&self, text: &[u8]) -> Option<&Stored>
         ensures { IfSome result (λ s. Contains self.now.all.now s.now) }
     {

@@ -56,7 +56,7 @@ fn is_same(a: &NameKey<'_>, b: &NameKey<'_>) -> bool
     b.by == a.by && b.number == a.number
 }
 
-/// They have the same name and different texts.
+/// The two requests have the same name and different texts.
 fn differ(a: &Asked<'_>, b: &Asked<'_>) -> bool
     ensures { result ≡ differ a.now b.now }
 {

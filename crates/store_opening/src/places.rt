@@ -89,8 +89,8 @@ pub(crate) fn key_in(row: &Row) -> VerdictKey<'_> {
     }
 }
 
-/// Keys in order, each with the place in a list that it was made of. So a key is made once, and not
-/// for each comparison.
+/// Keys in order, each with its place in the list that the keys were made of. So a key is made
+/// once, and not for each comparison.
 #[derive(Debug, Drop)]
 pub(crate) struct Places<K: Ord> {
     keyed: Vec<(K, usize)>,

@@ -1,7 +1,7 @@
 //! Whether the rows of a desk's tables are those that follow from its messages.
 //!
-//! The message for a row, or the row for a message, is found by binary search. If what is found
-//! does not fit, all of them are tried.
+//! A binary search finds the message for a row, or the row for a message. If the one found does not
+//! fit, every one is tried.
 
 ghost use Rattle.std.specs.Prelude.{◌≡◌, Contains, IfOk};
 ghost use Rattle.std.specs.List.{list_all, list_any};
@@ -205,8 +205,8 @@ fn are_parked(alloc: Global, known: &Known<'_>, rows: &[Row]) -> Result<bool, No
     Ok(is_each_parked_row(known, rows) && have_parked_rows(known, &waiting))
 }
 
-/// Whether the rows of the table are those that follow from the messages. For a table that does not
-/// follow from them the answer is always yes.
+/// Whether the rows of the table are those that follow from the messages. For a table whose rows do
+/// not follow from the messages the answer is always yes.
 pub(crate) fn are_rows_of(
     alloc: Global,
     part: DeskPart,

@@ -22,7 +22,7 @@ use sqlite::{Alter, Connection, Row};
 use std::alloc::Global;
 use store_tables::Fault;
 
-/// What the rows that follow from a desk's messages show of them.
+/// The requests and verdicts that `names`, `verdicts` and `parked` of a desk show.
 #[derive(Debug, Drop)]
 pub struct ShownSet {
     /// A row for each name with a request.

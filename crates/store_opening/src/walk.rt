@@ -1,7 +1,7 @@
 //! Every row compared with every message.
 //!
-//! This answers if binary search finds nothing that fits, which is rare: if rows are not those that
-//! a desk writes.
+//! The functions here answer where a binary search finds nothing that fits. That is rare: a desk
+//! writes no such rows.
 
 ghost use Rattle.std.specs.Prelude.{◌≡◌};
 ghost use Rattle.std.specs.List.{list_all, list_any};
@@ -63,14 +63,14 @@ pub(crate) fn has_name(rows: &[Row], asker: &str, number: u32) -> bool
     rows.iter().any(|row| is_of_name(row, asker, number))
 }
 
-/// A row is that of the verdict.
+/// One of the rows of `verdicts` is that of the verdict.
 pub(crate) fn has_verdict(rows: &[Row], stored: &Stored) -> bool
     ensures { result ≡ list_any (λ r. compare.shows_verdict r stored.now) rows.now }
 {
     rows.iter().any(|row| shows_verdict(row, stored))
 }
 
-/// A row is that of the verdict.
+/// One of the rows of `parked` is that of the verdict.
 pub(crate) fn has_parked(rows: &[Row], stored: &Stored) -> bool
     ensures { result ≡ list_any (λ r. compare.shows_parked r stored.now) rows.now }
 {

@@ -1,4 +1,4 @@
--- What a crash leaves of a store in two files, and what the next opening shows of it.
+-- The contents that a crash leaves in the two files of a store, and what the next opening shows.
 use Rattle.std.specs.Prelude.{◌≡◌, IsTrue}
 use Rattle.sqlite_disk.specs.declared.Disk.{Ghosts}
 use Rattle.sqlite_wal.specs.Recovery.{Image}
@@ -15,7 +15,7 @@ use Rattle.desk_store.specs.Crash.{IsFound}
 use Rattle.desk_store.specs.Left.{Left}
 
 -- The disk has been honest, and a crash may leave these contents of the log and of the database
--- file: of each file, what was synced, with any of the writes since. This is where the hypothesis
+-- file: each file has what was synced, with any of the writes since. This is where the hypothesis
 -- on disks stands.
 abbrev pub MayLeaveFiles : {D : Type 0} {g : Ghosts D} → FileStore D g → Image → Type 0
 MayLeaveFiles {D} {g} it image =

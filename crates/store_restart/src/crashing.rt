@@ -50,10 +50,11 @@ fn keeper_over<D: Disk + Drop>(
     }
 }
 
-/// Has both files of a store that stopped crash, and opens them again, and the desk in them.
+/// Crashes both files of a store that stopped, opens the files again, and opens the desk in them.
 ///
 /// Whatever the crash leaves, the desk holds all that the run had acknowledged, or one message
-/// more, and is refused only for its base, or for want of memory or of the storage.
+/// more. If a crash leaves nothing but a desk of this roster, the desk is refused only for its
+/// base, or for want of memory or of the storage.
 pub fn open_after_crash<D: Crash + Drop>(
     alloc: Global,
     stopped: FileStore<D>,
@@ -77,11 +78,11 @@ pub fn open_after_crash<D: Crash + Drop>(
     Ok(Desk::open(alloc, roster, base, keeper))
 }
 
-/// Delivers to a desk over two files, has both crash, and opens them again.
+/// Delivers to a desk over two files, crashes both files, and opens the desk in them again.
 ///
-/// Whatever the crash leaves, the desk that is opened holds what the first one held and all that
-/// was acknowledged, or that with one message more. A disk that fails from some call on has crashed
-/// at that call: so this is said of a crash at any moment.
+/// Whatever the crash leaves, the desk that is opened holds what the first desk held and all that
+/// was acknowledged, or one message more. A disk that fails from some call on has crashed at that
+/// call: so this is said of a crash at any moment.
 pub fn deliver_and_open_after_crash<D: Crash + Drop>(
     alloc: Global,
     desk: Desk<SqliteKeeper<FileStore<D>>>,

@@ -9,8 +9,8 @@ ghost use Rattle.store_restart.specs.Stopped.{LeavesDesk, MayLeaveFiles, ShowsFo
 use sqlite::{Connection, FileStore};
 use sqlite_disk::Disk;
 
-/// Where two files hold what a crash may leave of a store, a connection that was opened over them
-/// finds of a desk what the crash may leave.
+/// If two files hold what a crash may leave of a store, then a connection that was opened over the
+/// files finds only what the crash may leave of a desk.
 pub fn left_is_found<D: Disk, E: Disk>(_stopped: &FileStore<D>, _found: &Connection<FileStore<E>>)
     ensures { (image : Image) → WasConnected _stopped.now → MayLeaveFiles _stopped.now image
         → ShowsFound image (file_state _found.now)

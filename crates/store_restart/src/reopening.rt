@@ -36,11 +36,11 @@ fn keeper_at<S: Start>(rt: &HostRuntime, path: &str, start: S) -> Result<StoredI
 /// Opens the file at this path, and the desk in it, after a stop. `S` and `T` stand for what the
 /// files held before the run that stopped, and for what they hold now.
 ///
-/// The clauses say what holds if the files hold now what a crash may leave of the store that
-/// stopped: the desk holds all that the run had acknowledged, or one message more, which a delivery
-/// brought that the crash cut off; and it is refused only for its base, or for want of memory or
-/// of the storage. What may be left of the run, `stop` and the clauses `crash`, `lasting` and
-/// `durable` of its calls say.
+/// The clauses speak of files that hold now what a crash may leave of the store that stopped. The
+/// desk then holds all that the run had acknowledged, or one message more, brought by a delivery
+/// that the crash cut off. If a crash leaves nothing but a desk of this roster, the desk is refused
+/// only for its base, or for want of memory or of the storage. `stop` and the clauses `crash`,
+/// `lasting` and `durable` of the run's calls say what the run may have left.
 ///
 /// The store that stopped is closed first. It is an argument for the proof, and for its lock.
 pub fn open_file_after_stop<S: Start, T: Start>(

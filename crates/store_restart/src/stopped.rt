@@ -12,11 +12,11 @@ use desk_store::SqliteKeeper;
 use sqlite::FileStore;
 use sqlite_disk::Disk;
 
-/// Gives a keeper up, and its connection, for the store below: what was not committed is undone.
+/// Gives up a keeper and its connection, for the store below: what was not committed is undone.
 ///
-/// A crash leaves nothing of the store that it might not have left of the keeper. To a store whose
-/// disk fails from some call on, as at a crash, no call does anything more: so this is the store as
-/// the crash meets it, also where the crash came within a call of the keeper.
+/// Whatever a crash may leave of the store, it might have left of the keeper. To a store whose disk
+/// fails from some call on, as at a crash, no call does anything more. So this is the store as the
+/// crash meets it, also where the crash came within a call of the keeper.
 pub fn stop<D: Disk + Drop>(keeper: SqliteKeeper<FileStore<D>>) -> FileStore<D>
     ensures connected { WasConnected result }
     ensures clean { IsClean (view result) → HasCleanDisk (file_state keeper.conn) }

@@ -39,7 +39,7 @@ pub record Makes (roster : List ℕ) (new : Database) : Type 0 where
   pub marks : Lacks new.schema Marks
   pub content : content_of new ≡ fresh roster
 
--- It was made, and the tables that were there keep their rows.
+-- The desk was made, and the tables that were there keep their rows.
 pub record Founds (roster : List ℕ) (old new : Database) : Type 0 where
   pub makes : Makes roster new
   pub kept : KeepsRows old.schema.tables old.trees new.trees

@@ -1,4 +1,4 @@
-//! Whether an older desk's tables can become those of one of today.
+//! Whether an older desk's tables can become those of a desk of today.
 
 ghost use Rattle.std.specs.Prelude.{◌↔◌, IsTrue};
 ghost use Rattle.store_schema.specs.Migratable.{IsMigratable};

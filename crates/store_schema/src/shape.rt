@@ -3,7 +3,7 @@
 /// What a schema has of a desk's tables.
 #[derive(Clone, Copy, Debug, PartialEq, Eq)]
 pub enum Shape {
-    /// None of their names is used.
+    /// No name of a desk's tables, or of an older desk's tables, is used.
     Free,
     /// A desk's five tables.
     Desk,

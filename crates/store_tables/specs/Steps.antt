@@ -14,7 +14,7 @@ use Rattle.messages.specs.declared.message.Message.{Message}
 use Rattle.store_tables.specs.Stored.{Texts, recorded, tree_of}
 use Rattle.store_tables.specs.Kept.{HasRows, IsTidy, Spares, table_in}
 
--- It commits nothing, so a crash leaves what it left before.
+-- The step commits nothing, so a crash leaves what it left before.
 pub record IsStep (old new : State) : Type 0 where
   pub survives : Survives old new (λ _. ⊥)
   pub kept : HasCleanDisk new → IsTrue old.in_transaction → KeepsCommit old new

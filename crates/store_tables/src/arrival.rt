@@ -30,9 +30,9 @@ use std::alloc::Global;
 /// What an arrival tells of its message.
 #[derive(Clone, Copy, Debug, PartialEq, Eq)]
 pub enum Arrival {
-    /// It was not there before.
+    /// The message was not there before.
     New,
-    /// It was there already, and nothing changed.
+    /// The message was there already, and nothing changed.
     Held,
 }
 
@@ -84,8 +84,8 @@ fn settle_verdict<S: Alter>(
     }
 }
 
-/// Replaces the name's row, if it has one, by the request's. The new row is disputed if there was
-/// one.
+/// Replaces the name's row, if the name has one, by the request's. The new row is disputed if there
+/// was a row before.
 fn rename<S: Alter>(tx: &mut Transaction<'_, S>, request: &Request, body: &str) -> Result<(), Fault>
     requires { body.now ≡ wire (message_of.Request request.now) }
     ensures turned { InStep (state S.Store tx.old.conn.now) (state S.Store tx.new.conn.now)
@@ -169,7 +169,7 @@ fn settle_request<S: Alter>(
     join_parked(alloc, tx, request)
 }
 
-/// Settles a new message: the rows become those of the messages with it.
+/// Settles a new message: the rows become those of all the messages, including this one.
 pub(crate) fn settle<S: Alter>(
     alloc: Global,
     tx: &mut Transaction<'_, S>,
@@ -187,7 +187,7 @@ pub(crate) fn settle<S: Alter>(
     }
 }
 
-/// Takes a message in. One that is there already changes nothing.
+/// Takes a message in. A message that is there already changes nothing.
 pub(crate) fn receive<S: Alter>(
     alloc: Global,
     tx: &mut Transaction<'_, S>,
@@ -201,7 +201,7 @@ pub(crate) fn receive<S: Alter>(
     ensures told { InStep (state S.Store tx.old.conn.now) (state S.Store tx.new.conn.now)
         (λ a b. IfOk result (λ arrival. IsDeskDatabase a.now
         → IsTold (has (content_of a.now) body.now ≡ true) arrival)) }
-    // Of a message that is there.
+    // Why a message that is there already is refused.
     ensures explained { InStep (state S.Store tx.old.conn.now) (state S.Store tx.new.conn.now)
         (λ a b. IfErr result (λ e. IsTrue a.is_open → IsDeskDatabase a.now
         → has (content_of a.now) body.now ≡ true → IsExplained a b e)) }

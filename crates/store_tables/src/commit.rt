@@ -21,15 +21,15 @@ use messages::Message;
 use sqlite::{Alter, Connection};
 use std::alloc::Global;
 
-/// The database obeys its schema, as long as the store is open. It is called for this contract.
+/// The database obeys its schema, as long as the store is open. The call is made for this contract.
 fn obeys<S: Alter>(conn: &Connection<S>)
     ensures { IsLive (state S.Store conn.now) }
 {
     let _schema = conn.schema();
 }
 
-/// Takes a message into a desk, with all that it changes, in one commit. One that is there already
-/// changes nothing. The answer tells which it was.
+/// Takes a message into a desk, with all that the message changes, in one commit. A message that is
+/// there already changes nothing. The answer tells whether it was there.
 pub fn arrive<S: Alter>(
     alloc: Global,
     conn: &mut Connection<S>,
@@ -60,7 +60,7 @@ pub fn arrive<S: Alter>(
         → OnOk result (Spares (state S.Store conn.old).now (state S.Store conn.new).now) }
     ensures unchanged { IsUp (state S.Store conn.new)
         → OnErr result ((state S.Store conn.new).now ≡ (state S.Store conn.old).now) }
-    // Why one that is there already is refused.
+    // Why a message that is there already is refused.
     ensures explained { IsUp (state S.Store conn.old) → HasCleanDisk (state S.Store conn.new)
         → has (content_of (state S.Store conn.old).now) body.now ≡ true
         → IfErr result (IsExplained (state S.Store conn.old) (state S.Store conn.new)) }

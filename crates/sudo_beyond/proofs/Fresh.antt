@@ -109,7 +109,7 @@ look taken (suc m) =
     last : (k : ℕ) → k < suc m → (k ≡ m) ⊎ (k < m)
     last k below = grind arith
 
--- for one of them, what f makes of it is not in the list
+-- the first other word that f takes to a value outside the list: one of the first length xs + 1 words
 pub found_other : {X : Type 0} (eq : X → X → Bool) → ((a b : X) → Decides (eq a b) (a ≡ b)) → (f : List ℕ → X) → ((v w : List ℕ) → f v ≡ f w → v ≡ w)
     → (xs : List X) → length xs < 2 ^ 64 → Found (λ w. list_any (λ y. eq y (f w)) xs) (length xs + 1)
 found_other {X} eq decides f apart xs short =

@@ -57,7 +57,7 @@ first_of_same P Q cases (Some i) on back first = record {
   none_before = weaker_none P Q first.before back first.none_before;
 }
 
--- the same, where P and Q hold of the same cases among those of which S holds, and S holds of all
+-- the same, where S holds of all cases, and P and Q hold of the same cases wherever S holds
 weaker_none_on : (S P Q : Invocation → Type 0) (cases : List Invocation)
     → ((i : Invocation) → S i → Q i → P i) → AllByRecursion S cases → NoGap P cases → NoGap Q cases
 weaker_none_on S P Q [] back all none = tt

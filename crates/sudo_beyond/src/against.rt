@@ -63,8 +63,8 @@ fn is_shown(alloc: Global, scope: &Scope, a: &Policy, b: &Baseline<'_>) -> Resul
     }
 }
 
-/// Whether an invocation is seen to lie beyond without the baseline's cases, where the cases are
-/// surely few.
+/// Whether the cases are surely few, and an invocation that lies beyond the baseline is found
+/// without gathering the baseline's cases.
 fn is_seen(alloc: Global, scope: &Scope, a: &Policy, b: &Baseline<'_>) -> Result<bool, NoMemory>
     ensures { IfOk result (λ seen. seen ≡ true
         → AreFew scope.now a.now b.now × SomethingBeyond scope.now a.now b.now) }

@@ -57,7 +57,7 @@ impl<'p> Baseline<'p> {
         self.policy
     }
 
-    /// Whether it refuses the invocation.
+    /// Whether the baseline refuses the invocation.
     pub(crate) fn refuses(&self, i: &Invocation) -> bool
         ensures { result ≡ true → Decides self.now i.now Deny }
     {

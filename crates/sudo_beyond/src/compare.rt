@@ -18,21 +18,21 @@ pub(crate) const MOST_CASES: usize = 1_000_000;
 /// An invocation in the scope that the first policy allows and the second refuses (NIST SP 800-53,
 /// AC-6(7)).
 ///
-/// `None` says that there is none at all, whatever the user, host, target, path, arguments and
-/// moment. Where there are some, the answer is the first of them among the cases that stand for all
-/// invocations. It fails with `B1 TooManyCases`, before any case is tried, if there are more than
-/// 1,000,000 cases.
+/// `None` says that there is no such invocation, whatever the user, host, target, path, arguments
+/// and moment. If there are some, the answer is the first of them among the cases, which stand for
+/// all invocations. The comparison fails with `B1 TooManyCases`, before it tries any case, if there
+/// are more than 1,000,000 cases.
 pub fn beyond(
     alloc: Global,
     scope: &Scope,
     a: &Policy,
     b: &Policy,
 ) -> Result<Option<Invocation>, BeyondFault>
-    // nothing lies beyond, or what is answered does
+    // `None` says that nothing lies beyond, and an invocation that is found does lie beyond
     ensures exact { IfOk result (λ found. MatchOption found
         (SomethingBeyond scope.now a.now b.now → ⊥) (LiesBeyond scope.now a.now b.now)) }
-    // the answer is the first gap among the cases, of which there are at most 1,000,000; and
-    // `TooManyCases` comes only where there are more
+    // an answer is the first gap among at most 1,000,000 cases, or that there is no gap, and
+    // `TooManyCases` comes only if there are more cases
     ensures answer { MatchResult result (IsFirstBeyond scope.now a.now b.now)
         (λ e. e ≡ fault.TooManyCases → AreTooMany scope.now a.now b.now) }
 {

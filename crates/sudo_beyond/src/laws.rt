@@ -41,8 +41,8 @@ pub fn alike_names()
         names_say defs x list ≡ names_say defs y list }
 {}
 
-/// The same holds for two paths with their arguments, and the commands in a list and in the
-/// definitions.
+/// If each command in a list and in the definitions matches two paths with their arguments alike,
+/// then the list answers both alike, through aliases.
 pub fn alike_commands()
     ensures { (defs : List (Definition CmndItem)) (list : List (Signed CmndItem))
         (path other : List ℕ) (args others : List (List ℕ))
@@ -61,7 +61,7 @@ pub fn alike_decide()
 
 // ---- the five lists
 
-/// For each user in the scope, the list has one that every user name in either policy answers
+/// For each user in the scope, the list has a user that every user name in either policy answers
 /// alike.
 pub fn each_user_has_a_case()
     ensures { (s : Scope) (a b : List Entry) (c : Cases) → IsPolicy a → IsPolicy b
@@ -69,7 +69,7 @@ pub fn each_user_has_a_case()
         → (y : List ℕ) × Contains c.users y × AlikeNames (users a ++ users b) x y }
 {}
 
-/// For each host in the scope, the list has one that every host name in either policy answers
+/// For each host in the scope, the list has a host that every host name in either policy answers
 /// alike.
 pub fn each_host_has_a_case()
     ensures { (s : Scope) (a b : List Entry) (c : Cases) → IsPolicy a → IsPolicy b
@@ -77,16 +77,16 @@ pub fn each_host_has_a_case()
         → (y : List ℕ) × Contains c.hosts y × AlikeNames (hosts a ++ hosts b) x y }
 {}
 
-/// For each target in the scope, the list has one that every target name in either policy answers
-/// alike.
+/// For each target in the scope, the list has a target that every target name in either policy
+/// answers alike.
 pub fn each_target_has_a_case()
     ensures { (s : Scope) (a b : List Entry) (c : Cases) → IsPolicy a → IsPolicy b
         → AreCases s a b c → (x : List ℕ) → is_name x ≡ true → Agrees s.runas x
         → (y : List ℕ) × Contains c.targets y × AlikeNames (runas a ++ runas b) x y }
 {}
 
-/// For each path with its arguments, the list has one that every command in either policy matches
-/// alike.
+/// For each path with its arguments, the list has a path with arguments that every command in
+/// either policy matches alike.
 pub fn each_command_has_a_case()
     ensures { (s : Scope) (a b : List Entry) (c : Cases) → IsPolicy a → IsPolicy b
         → AreCases s a b c → (path : List ℕ) (args : List (List ℕ)) → is_file_path path ≡ true
@@ -95,7 +95,7 @@ pub fn each_command_has_a_case()
         × AlikeCmnds (commands a ++ commands b) path args other others }
 {}
 
-/// For each moment, the list has one at which the same rules of both policies take part.
+/// For each moment, the list has a moment at which the same rules of both policies take part.
 pub fn each_moment_has_a_case()
     ensures { (s : Scope) (a b : List Entry) (c : Cases) → IsPolicy a
         → IsPolicy b → AreCases s a b c → (t : ℕ) → IsMoment t
@@ -116,8 +116,8 @@ pub fn each_has_cases()
         → AreFew s a b ⊎ AreTooMany s a b }
 {}
 
-/// Where the cases are few, they have an answer: the first that lies beyond, or that none does. So
-/// something lies beyond, or nothing does.
+/// If the cases are few, there is an answer: the first case that lies beyond, or that no case does.
+/// So something lies beyond, or nothing does.
 pub fn each_has_an_answer()
     ensures first { (s : Scope) (a b : List Entry) → AreFew s a b
         → (found : Option Invocation) × IsFirstBeyond s a b found }
@@ -147,8 +147,8 @@ pub fn cases_suffice()
 // ---- policies
 
 /// A text that spells a policy has no command, in rules or in aliases, used or not, whose file sudo
-/// takes for its own command `sudoedit`; and no user, host or target in it is named by a word with
-/// which sudo begins a command.
+/// takes for its own command `sudoedit`. No user, host or target in the text is named by a word
+/// with which sudo begins a command.
 pub fn nothing_of_sudos_own()
     ensures commands { (text : Text) (es : List Entry) → Spells text es
         → AllByRecursion (λ c. (front : List ℕ) (rule : Ruled)
@@ -166,8 +166,8 @@ pub fn nothing_beyond_itself()
     ensures { (s : Scope) (a : List Entry) → SomethingBeyond s a a → ⊥ }
 {}
 
-/// Where nothing of one policy lies beyond a second, and nothing of the second beyond a third,
-/// nothing of the first lies beyond the third.
+/// If one policy allows nothing beyond a second, and the second allows nothing beyond a third, then
+/// the first allows nothing beyond the third.
 pub fn nothing_beyond_a_third()
     ensures { (s : Scope) (a b c : List Entry) → (SomethingBeyond s a b → ⊥)
         → (SomethingBeyond s b c → ⊥) → SomethingBeyond s a c → ⊥ }
@@ -188,9 +188,9 @@ pub fn beyond_is_decided()
         → LiesBeyond s a b i → Decides b i d → d ≡ Deny }
 {}
 
-/// Worked cases: `ALL, !bob db1 = ALL` allows somebody whom neither text names, but not bob, what
-/// `ann db1 = ALL` refuses them; the moment after a rule's last moment is one second later, and the
-/// last moment of all has none after it.
+/// Worked cases: `ALL, !bob db1 = ALL` allows somebody whom neither text names, but not bob, beyond
+/// `ann db1 = ALL`. The moment after a rule's last moment is one second later, and the last moment
+/// of all has no moment after it.
 pub fn worked_beyond()
     ensures somebody { LiesBeyond anything all_except_bob ann_alone (runs_other (codes "other0")) }
     ensures bob { LiesBeyond anything all_except_bob ann_alone (runs_other (codes "bob")) → ⊥ }

@@ -1,4 +1,4 @@
-//! Other words: `other0`, `other1` and so on, of which the first that is not taken is used.
+//! Other words: `other0`, `other1` and so on. The first word that is not taken is used.
 
 ghost use Rattle.std.specs.Prelude.{◌≡◌, ◌<◌, true, IfOk};
 ghost use Rattle.std.specs.List.Sorted.{IsStrictlySortedBy};

@@ -6,8 +6,8 @@ use sudo_words::{Arg, FilePath};
 
 /// The arguments of a command, in order.
 ///
-/// Two lists of them are compared as lists of texts: the first that differs decides, and else the
-/// length.
+/// Two lists of arguments are compared as lists of texts: the first text that differs decides, and
+/// otherwise the length.
 #[derive(Clone, Drop)]
 pub struct Args {
     items: Vec<Arg>,

@@ -58,7 +58,7 @@ fn invocation_of(
     })
 }
 
-/// Sets what the invocation runs, and leaves the rest of it as it is.
+/// Sets the invocation's path and arguments, and keeps its user, host and target.
 fn set_run(i: &mut Invocation, run: &Run) -> Result<(), NoMemory>
     ensures user { i.new.user ≡ i.old.user }
     ensures host { i.new.host ≡ i.old.host }
@@ -70,8 +70,8 @@ fn set_run(i: &mut Invocation, run: &Run) -> Result<(), NoMemory>
     Ok(())
 }
 
-/// Tries each moment of a path with its arguments. At the first case that is a gap it stops, and
-/// the invocation is that case.
+/// Tries each moment of a path with its arguments. The search stops at the first case that is a
+/// gap, and the invocation is then that case.
 fn try_run(
     a: &[PlainRule],
     b: &[PlainRule],
@@ -115,8 +115,8 @@ fn try_runs(
     Ok(None)
 }
 
-/// Searches the cases of one user, host and target. Of each policy only the rules from the first to
-/// the last that are about these three are asked.
+/// Searches the cases of one user, host and target. The search asks, in each policy, only the rules
+/// from the first to the last that are about these three.
 fn of_target(
     a: &Compiled,
     b: &Compiled,
@@ -192,8 +192,8 @@ fn first_of_compiled(
     Ok(None)
 }
 
-/// The first of the cases that the first policy allows and the second refuses, or `None` where
-/// there is none. Both are compiled once.
+/// The first case that the first policy allows and the second refuses, or `None` if there is no
+/// such case. Each policy is compiled once.
 pub fn first_gap(
     alloc: Global,
     a: &Policy,

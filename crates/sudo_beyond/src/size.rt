@@ -16,11 +16,11 @@ use sudo_words::NoMemory;
 /// How many parts of a policy make cases of commands and of moments.
 #[derive(Clone, Copy)]
 pub struct Size {
-    /// Its commands.
+    /// The policy's commands.
     pub commands: usize,
-    /// The lists of arguments among them.
+    /// The lists of arguments among the commands.
     pub listings: usize,
-    /// The moments at which its rules begin and cease to take part.
+    /// The moments at which the policy's rules begin and cease to take part.
     pub turns: usize,
 }
 
@@ -42,8 +42,8 @@ impl Size {
         })
     }
 
-    /// The most cases that both make together for one user, host and target, or `None` if the count
-    /// overflows.
+    /// The most cases that both policies make together for one user, host and target, or `None` if
+    /// the count overflows.
     fn most_cases(&self, other: &Size) -> Option<usize>
         ensures { IfSome result (λ most. most ≡ most_of (self.now.commands + other.now.commands)
             (self.now.listings + other.now.listings) (self.now.turns + other.now.turns)) }
@@ -57,7 +57,7 @@ impl Size {
         runs.checked_mul(turns.checked_add(1)?)
     }
 
-    /// Whether both make together, for one user, host and target, so few cases that all are tried.
+    /// Whether both policies make so few cases for one user, host and target that all are tried.
     pub fn makes_few_with(&self, other: &Size) -> bool
         ensures { result ≡ true
             → most_of (self.now.commands + other.now.commands) (self.now.listings

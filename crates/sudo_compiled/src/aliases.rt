@@ -38,7 +38,7 @@ impl Aliases {
         }
     }
 
-    /// Adds the alias that an entry defines, if it defines one that is used, written out by those
+    /// Adds the alias that an entry defines, if that alias is used, written out by the aliases
     /// above it.
     fn enter(&mut self, alloc: Global, used: &Used, entry: &Entry) -> Result<(), NoMemory>
         ensures { OnOk result ((above : List PolicyEntry)

@@ -7,11 +7,11 @@ use crate::plain::PlainRule;
 use crate::rule::{is_about, spoken};
 use sudo_decide::{Decision, Invocation};
 
-/// What the rules answer: the last one that speaks decides, and where none does, it is denied
-/// (sudoers(5), "SUDOERS FILE FORMAT").
+/// What the rules answer: the last rule that speaks decides, and if none speaks, the invocation is
+/// denied (sudoers(5), "SUDOERS FILE FORMAT").
 ///
-/// It goes from the last rule back to the first, and in each list from the last item back, stops at
-/// the first answer, and takes no memory.
+/// The search goes from the last rule back to the first, and in each list from the last item back,
+/// stops at the first answer, and takes no memory.
 pub fn decide_among(rules: &[PlainRule], i: &Invocation) -> Decision
     ensures { result ≡ answer rules.now i.now }
 {
@@ -54,7 +54,7 @@ fn without_first<'a>(rules: &'a [PlainRule], i: &Invocation) -> &'a [PlainRule]
 }
 
 /// The rules from the first to the last that are about the user, the host and the target. Whatever
-/// is run, and whenever, they answer what all of the rules answer.
+/// is run, and whenever, these rules answer what all of the rules answer.
 pub fn bearing_on<'a>(rules: &'a [PlainRule], i: &Invocation) -> &'a [PlainRule]
     ensures { AnswerAlikeFor rules.now result.now i.now }
 {

@@ -21,8 +21,8 @@ use sudo_decide::{Decision, Invocation};
 use sudo_policy::{Entry, Policy, Rule};
 use sudo_words::NoMemory;
 
-/// A policy whose aliases are written out, with copies of its own of all names and commands.
-/// Contracts see it as its rules.
+/// A policy with its aliases written out, and with its own copies of all names and commands.
+/// Contracts see a compiled policy as the list of its rules.
 #[derive(Drop)]
 pub struct Compiled {
     rules: Vec<PlainRule>,
@@ -57,8 +57,8 @@ fn written_rule(alloc: Global, known: &Aliases, rule: &Rule) -> Result<PlainRule
     })
 }
 
-/// Adds an entry's rule, if it is one: rules that answered what some entries decide then answer
-/// what those entries and this one decide.
+/// Adds the entry's rule, if the entry is a rule. Rules that answered what some entries decide then
+/// answer what those entries and this one decide.
 fn push_rule(
     alloc: Global,
     rules: &mut Vec<PlainRule>,
@@ -78,10 +78,10 @@ fn push_rule(
 
 /// The policy compiled: whatever is asked, it answers what the policy decides.
 ///
-/// Every alias that a rule uses is written out, once, in the order of the entries: the items of its
-/// list take its place in order, each turned over where the alias is negated. So its rules have as
-/// many names and commands as the policy weighs: at most 131,072. Aliases that no rule uses are
-/// left out, since their weight has no limit.
+/// Every alias that a rule uses is written out, once, in the order of the entries: the items of the
+/// alias's list take its place in order, each turned over where the alias is negated. So the
+/// compiled rules have as many names and commands as the policy weighs: at most 131,072. Aliases
+/// that no rule uses are left out, since their weight has no limit.
 pub fn compile(alloc: Global, p: &Policy) -> Result<Compiled, NoMemory>
     ensures { IfOk result (λ c. (i : Asked) → Decides p.now i (answer c i)) }
 {
@@ -108,7 +108,7 @@ fn take_rule(
     push_rule(alloc, rules, known, &entry)
 }
 
-/// Frees the room of entries that are done with, once it is half of all.
+/// Frees the room of entries that were taken out, once that room is half of the whole.
 fn give_back(rest: &mut Vec<Entry>)
     ensures { rest.new.items ≡ rest.old.items }
 {
@@ -134,8 +134,8 @@ fn rules_of(alloc: Global, known: &Aliases, entries: Vec<Entry>) -> Result<Vec<P
     Ok(rules)
 }
 
-/// The policy compiled, as `compile` compiles it. It is freed on the way, which takes less memory
-/// at once.
+/// The policy compiled, as `compile` compiles it. The policy is freed on the way, so that less
+/// memory is used at once.
 pub fn compile_owned(alloc: Global, p: Policy) -> Result<Compiled, NoMemory>
     ensures { IfOk result (λ c. (i : Asked) → Decides p i (answer c i)) }
 {
@@ -145,15 +145,15 @@ pub fn compile_owned(alloc: Global, p: Policy) -> Result<Compiled, NoMemory>
 }
 
 impl Compiled {
-    /// Its rules.
+    /// The rules of the compiled policy.
     pub fn rules(&self) -> &[PlainRule]
         ensures { result.now ≡ self.now }
     {
         &self.rules
     }
 
-    /// What the compiled policy answers, as `decide_among` finds it in its rules. It takes no
-    /// memory.
+    /// What the compiled policy answers, as `decide_among` finds the answer in its rules. The
+    /// search takes no memory.
     pub fn decide(&self, i: &Invocation) -> Decision
         ensures { result ≡ answer self.now i.now }
     {

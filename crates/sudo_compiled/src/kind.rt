@@ -17,7 +17,7 @@ use sudo_words::{AliasName, Cmnd, Form, HostName, Name, NoMemory, Word};
 
 /// What an item of a list is written out as.
 pub(crate) enum Written<'a, P> {
-    /// Itself.
+    /// The item itself.
     Own(P),
     /// What the alias's list says.
     Alias(&'a AliasName),
@@ -25,22 +25,22 @@ pub(crate) enum Written<'a, P> {
 
 /// A kind of aliases. One name may serve several kinds.
 pub(crate) trait Kind {
-    /// What its lists are made of.
+    /// An item of the lists of this kind.
     type Item;
 
-    /// What a list without aliases is made of.
+    /// An item of a list without aliases.
     type Plain: Drop;
 
     /// What an item says about the invocation, given what the aliases say.
     ghost says: { Invocation → (List ℕ → Option Bool) → Self.Item → Option Bool };
 
-    /// What an item that is not an alias says about it.
+    /// What an item that is not an alias says about the invocation.
     ghost plain: { Invocation → Self.Plain → Option Bool };
 
     /// The name of the alias, if the item is one.
     ghost alias_of: { Self.Item → Option (List ℕ) };
 
-    /// What an item says depends on what its alias says, and on no other.
+    /// What an item says depends on what its alias says, and on no other alias.
     ghost local: { (i : Invocation) (f g : List ℕ → Option Bool) (item : Self.Item)
         → AgreeAt f g (alias_of item) → says i f item ≡ says i g item };
 
@@ -48,7 +48,7 @@ pub(crate) trait Kind {
     fn alias<'a>(item: &'a Self::Item) -> Option<&'a AliasName>
         ensures { option_copied result ≡ alias_of item.now };
 
-    /// The item as it is written out: a copy of its own, or the alias that it is.
+    /// The item as it is written out: a copy of the item, or the alias that the item is.
     fn written<'a>(
         alloc: Global,
         item: &'a Self::Item,
@@ -78,7 +78,7 @@ fn alias_in<F: Form>(item: &Item<Word<F>>) -> Option<&AliasName>
     }
 }
 
-/// An item of users, hosts or targets.
+/// An item of users, hosts or targets, as it is written out.
 fn written_item<'a, F: Form>(
     alloc: Global,
     item: &'a Item<Word<F>>,

@@ -1,5 +1,5 @@
-//! What lists without aliases say. Each is read from its last item back, and the first answer is
-//! the list's.
+//! What lists without aliases say. Each list is read from its last item back, and the first answer
+//! is the list's answer.
 
 ghost use Rattle.std.specs.Prelude.{◌≡◌, Some, None, true, if◌then◌else◌};
 ghost use Rattle.sudo_decide.specs.Decision as answers;

@@ -13,12 +13,12 @@ use sudo_words::{Cmnd, Moment, NoMemory};
 pub enum Plain {
     /// `ALL`.
     All,
-    /// The one with this name.
+    /// The user, host or target with this name.
     Name(Short),
 }
 
 impl Plain {
-    /// A copy of its own.
+    /// A copy of the item.
     pub(crate) fn copied(&self, alloc: Global) -> Result<Plain, NoMemory>
         ensures { IfOk result (λ x. x ≡ self.now) }
     {

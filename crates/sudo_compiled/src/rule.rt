@@ -6,8 +6,8 @@ ghost use Rattle.sudo_compiled.specs.Compiled as compiled;
 use crate::plain::PlainRule;
 use sudo_decide::{Decision, Invocation, is_within};
 
-/// Whether the rule's users, hosts and targets each say yes. The first that does not is the last
-/// asked.
+/// Whether the rule's users, hosts and targets each say yes. The first list that does not ends the
+/// check.
 pub(crate) fn is_about(rule: &PlainRule, i: &Invocation) -> bool
     ensures { result ≡ compiled.plain_is_about rule.now i.now }
 {
@@ -25,7 +25,7 @@ pub(crate) fn is_about(rule: &PlainRule, i: &Invocation) -> bool
 }
 
 /// What the rule says: nothing outside its dates, or where it is not about the invocation; else
-/// what its commands say. These are asked before names are, since most rules have other commands.
+/// what its commands say. Commands are asked before names, since most rules have other commands.
 fn says(rule: &PlainRule, i: &Invocation) -> Option<bool>
     ensures { result ≡ compiled.plain_says rule.now i.now }
 {

@@ -56,7 +56,7 @@ impl Short {
         })
     }
 
-    /// A copy of its own.
+    /// A copy of the name.
     pub(crate) fn copied(&self, alloc: Global) -> Result<Short, NoMemory>
         ensures { IfOk result (λ s. s ≡ self.now) }
     {
@@ -66,14 +66,14 @@ impl Short {
         })
     }
 
-    /// Its bytes.
+    /// The name's bytes.
     pub(crate) fn as_bytes(&self) -> &[u8]
         ensures { result.now ≡ self.now }
     {
         self.bytes.as_slice()
     }
 
-    /// Its tag.
+    /// The name's tag.
     pub(crate) fn tag(&self) -> u32
         ensures { result ≡ tag_of self.now }
     {

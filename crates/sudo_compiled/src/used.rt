@@ -18,7 +18,7 @@ use sudo_words::{AliasName, NoMemory};
 /// Names of aliases of one kind.
 #[derive(Drop)]
 pub(crate) struct NameSet {
-    /// Whether every name is one of them.
+    /// Whether the set has every name.
     all: bool,
     names: HashSet<String>,
 }
@@ -34,7 +34,7 @@ impl NameSet {
         }
     }
 
-    /// Whether the name is one of them.
+    /// Whether the set has the name.
     pub(crate) fn has(&self, name: &AliasName) -> bool
         ensures { result ≡ has self.now name.now }
     {
@@ -63,7 +63,7 @@ impl NameSet {
         Ok(())
     }
 
-    /// Adds the names of an alias's list, if the alias is one of these.
+    /// Adds the names of the aliases in an alias's list, if the set has that alias.
     fn add_alias<K: Kind>(
         &mut self,
         alloc: Global,
@@ -76,7 +76,7 @@ impl NameSet {
         Ok(())
     }
 
-    /// Whether the item is one of these aliases, or is not an alias.
+    /// Whether the item is an alias that the set has, or is not an alias.
     fn has_item<K: Kind>(&self, item: &K::Item) -> bool
         ensures { result ≡ is_item_used self.now (K.alias_of item.now) }
     {
@@ -86,14 +86,14 @@ impl NameSet {
         }
     }
 
-    /// Whether the aliases in the list are all among these.
+    /// Whether the set has every alias in the list.
     fn has_list<K: Kind>(&self, list: &[Signed<K::Item>]) -> bool
         ensures { result ≡ is_list_used K.alias_of self.now list.now }
     {
         list.iter().all(|x| self.has_item::<K>(&x.item))
     }
 
-    /// Whether the aliases in an alias's list are all among these, if the alias is.
+    /// Whether the set has every alias in an alias's list, or does not have that alias.
     fn has_alias<K: Kind>(&self, name: &AliasName, list: &[Signed<K::Item>]) -> bool
         ensures { result ≡ is_alias_used K.alias_of self.now name.now list.now }
     {
@@ -136,7 +136,7 @@ impl Used {
             .add_list::<Cmnds>(alloc, slice::from_ref(&rule.cmnd))
     }
 
-    /// Adds what a rule uses, or what an alias that is one of these uses.
+    /// Adds the aliases that the entry uses, if the entry is a rule or an alias that is used.
     fn add(&mut self, alloc: Global, entry: &Entry) -> Result<(), NoMemory> {
         match entry {
             Entry::UserAlias(name, list) => {
@@ -156,8 +156,8 @@ impl Used {
         }
     }
 
-    /// What the rules use. An alias is defined above its uses, so one pass from the last entry to
-    /// the first finds them all.
+    /// The aliases that the rules use. An alias is defined above its uses, so one pass from the
+    /// last entry to the first finds every used alias.
     fn found(alloc: Global, entries: &[Entry]) -> Result<Used, NoMemory> {
         let mut used = Used::new(alloc, false);
         for entry in entries.iter().rev() {
@@ -166,7 +166,7 @@ impl Used {
         Ok(used)
     }
 
-    /// Whether the aliases in the rule's lists are all among these.
+    /// Whether the sets have every alias in the rule's lists.
     fn has_rule(&self, rule: &Rule) -> bool
         ensures { result ≡ is_rule_used self.now rule.now }
     {
@@ -176,8 +176,8 @@ impl Used {
             && self.cmnds.has_list::<Cmnds>(slice::from_ref(&rule.cmnd))
     }
 
-    /// Whether these are all the aliases that the entry uses: those in its lists, if it is a rule
-    /// or an alias that is one of these.
+    /// Whether the sets have every alias in the entry's lists, or the entry defines an alias that
+    /// the sets do not have.
     fn has_entry(&self, entry: &Entry) -> bool
         ensures { result ≡ is_entry_used self.now entry.now }
     {
@@ -196,8 +196,8 @@ impl Used {
         entries.iter().all(|entry| self.has_entry(entry))
     }
 
-    /// The aliases that the rules use, directly or through other aliases: those that one pass
-    /// finds, which is tested, or else every alias.
+    /// The aliases that the rules use, directly or through other aliases: the aliases that one pass
+    /// finds, if a test shows that no used alias is missing, or else every alias.
     pub(crate) fn of(alloc: Global, entries: &[Entry]) -> Result<Used, NoMemory>
         ensures { IfOk result (λ used. list_all (is_entry_used used) entries.now ≡ true) }
     {

@@ -49,8 +49,8 @@ fn push_copies<K: Kind>(
     Ok(())
 }
 
-/// Adds what an alias stands for, turned over under a negation. One that is not known stands for
-/// nothing.
+/// Adds what an alias stands for, turned over under a negation. An alias that is not known stands
+/// for nothing.
 fn push_alias<K: Kind>(
     alloc: Global,
     known: &Known<K::Plain>,

@@ -25,8 +25,8 @@ pub(crate) fn signed_answer(negated: bool, answer: Option<bool>) -> Option<bool>
     if negated { answer.map(|b| !b) } else { answer }
 }
 
-/// An alias answers what its list answers by the definitions above its own. One that is not defined
-/// before the place `below` is silent.
+/// An alias answers what its list answers by the definitions above its own. An alias that is not
+/// defined before the place `below` is silent.
 #[cycle(answers)]
 fn alias_answer<K: Kind>(p: &Policy, below: usize, name: &AliasName, i: &Invocation) -> Option<bool>
     requires { IsPolicy p.now }

@@ -8,14 +8,14 @@ use sudo_policy::Tags;
 
 /// The answer to an invocation.
 ///
-/// It is printed as `deny`, `allow` or `allow nopasswd`.
+/// A decision is printed as `deny`, `allow` or `allow nopasswd`.
 #[derive(Clone, Copy, Debug, PartialEq, Eq)]
 pub enum Decision {
-    /// It may not run.
+    /// The command may not run.
     Deny,
-    /// It may run, once the user has given a password.
+    /// The command may run, once the user has given a password.
     Allow,
-    /// It may run, and no password is asked for.
+    /// The command may run, and no password is asked for.
     AllowNoPassword,
 }
 

@@ -26,7 +26,7 @@ pub(crate) enum Meaning<'a> {
 
 /// A kind of aliases. One name may serve several kinds.
 pub(crate) trait Kind {
-    /// What its lists are made of.
+    /// An item of the lists of this kind.
     type Item;
 
     /// The aliases of the kind that an entry defines.

@@ -1,4 +1,4 @@
-//! The laws, each the contract of a function that does nothing. Those of decisions are written
+//! The laws, each the contract of a function that does nothing. The laws of decisions are written
 //! here, and the others are re-exported.
 
 ghost use Rattle.std.specs.Prelude.{◌≡◌, ℕ, ◌<◌, Bool, true, false, Option};

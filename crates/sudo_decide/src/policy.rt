@@ -9,8 +9,8 @@ use crate::invocation::Invocation;
 use crate::rule::says;
 use sudo_policy::{Entry, Policy};
 
-/// The decision of some entries followed by this one, from the decision of those before it, where
-/// the policy defines the aliases.
+/// The decision of some entries followed by this entry, given the decision of the entries before
+/// it. The policy defines the aliases.
 fn decision_after(p: &Policy, before: Decision, entry: &Entry, i: &Invocation) -> Decision
     ensures { (es : List PolicyEntry) → DecidesBy (reverse p.now) es i.now before
         → DecidesBy (reverse p.now) (es ++ entry.now ∷ []) i.now result }
@@ -27,8 +27,8 @@ fn decision_after(p: &Policy, before: Decision, entry: &Entry, i: &Invocation) -
 /// The policy's decision on the invocation: the last rule that speaks decides, and if none speaks,
 /// the invocation is denied (sudoers(5), "SUDOERS FILE FORMAT").
 ///
-/// It looks at each entry once, in order, follows each alias that it meets to its list, and takes
-/// no memory.
+/// The search looks at each entry once, in order, follows each alias that it meets to the alias's
+/// list, and takes no memory.
 pub fn decide(p: &Policy, i: &Invocation) -> Decision
     ensures { Decides p.now i.now result }
 {

@@ -9,7 +9,7 @@ use crate::kind::{Cmnds, Hosts, Targets, Users};
 use sudo_policy::{Policy, Rule};
 use sudo_words::Moment;
 
-/// Whether the moment is within these dates of a rule, both of them included. An absent one is no
+/// Whether the moment is within these dates of a rule, both dates included. An absent date is no
 /// bound.
 pub fn is_within(not_before: Option<Moment>, not_after: Option<Moment>, at: Moment) -> bool
     ensures { result ≡ rules.is_within not_before not_after at }
@@ -25,7 +25,7 @@ pub fn is_within(not_before: Option<Moment>, not_after: Option<Moment>, at: Mome
     begun && lasts
 }
 
-/// Whether the rule's users, hosts and targets each say yes. The first that does not ends the
+/// Whether the rule's users, hosts and targets each say yes. The first list that does not ends the
 /// check.
 fn is_about(p: &Policy, rule: &Rule, i: &Invocation) -> bool
     ensures { result ≡ rules.is_about (reverse p.now) rule.now i.now }

@@ -1,4 +1,4 @@
-//! Policies that are read, and what both functions say of them.
+//! Policies as they are read, and the decisions of both functions by each policy.
 
 use crate::trouble::Trouble;
 use std::alloc::Global;
@@ -9,15 +9,15 @@ use sudo_policy::{Policy, print_owned, print_policy};
 use sudo_syntax::read_policy;
 use sudo_words::{Arg, FilePath, HostName, Items, Moment, Name};
 
-/// A policy, and the same compiled.
+/// A policy, and the same policy compiled.
 #[derive(Drop)]
 struct Both {
     policy: Policy,
     compiled: Compiled,
 }
 
-/// The text of a policy as far as it was read, the policy once something is asked of it, and how
-/// many questions were asked and were answered in two ways.
+/// The text of a policy as far as it was read, the policy once a question was asked about it, how
+/// many questions were asked, and how many times two functions decided or printed differently.
 #[derive(Drop)]
 pub struct Asking {
     text: String,
@@ -26,7 +26,7 @@ pub struct Asking {
     pub otherwise: u64,
 }
 
-/// The policy that the text spells, and the same compiled.
+/// The policy that the text spells, and the same policy compiled.
 fn both_of(alloc: Global, text: &str) -> Result<Both, Trouble> {
     let Ok(policy) = read_policy(alloc, text.as_bytes()) else {
         return Err(Trouble::BadInput);
@@ -35,8 +35,8 @@ fn both_of(alloc: Global, text: &str) -> Result<Both, Trouble> {
     Ok(Both { policy, compiled })
 }
 
-/// Whether the policy's text is the same by both of the functions that print it, of which the
-/// second gives the policy up.
+/// Whether both functions that print a policy print the same text of this one. The second function
+/// frees the policy.
 fn is_one_text(alloc: Global, policy: Policy) -> Result<bool, Trouble> {
     let lent = print_policy(alloc, &policy)?;
     let owned = print_owned(alloc, policy)?;
@@ -55,7 +55,7 @@ fn args_of(alloc: Global, words: &[&str]) -> Result<Items<Arg>, Trouble> {
     Ok(Items::new(args))
 }
 
-/// The invocation of a question's words.
+/// The invocation that a question's words describe.
 fn invocation_of(alloc: Global, words: &[&str]) -> Result<Invocation, Trouble> {
     let [user, host, runas, at, path, rest @ ..] = words else {
         return Err(Trouble::BadInput);
@@ -86,7 +86,7 @@ fn invocation_of(alloc: Global, words: &[&str]) -> Result<Invocation, Trouble> {
     })
 }
 
-/// Adds what both say, as one line.
+/// Adds one line: the decision, or both decisions if they differ.
 fn say(said: &mut String, followed: Decision, compiled: Decision) -> Result<(), Trouble> {
     if followed == compiled {
         write!(said, "{followed}\n")?;
@@ -97,7 +97,7 @@ fn say(said: &mut String, followed: Decision, compiled: Decision) -> Result<(), 
 }
 
 impl Asking {
-    /// Before any line.
+    /// The state before any line.
     pub fn new(alloc: Global) -> Asking {
         Asking {
             text: String::new(alloc),
@@ -107,7 +107,7 @@ impl Asking {
         }
     }
 
-    /// Asks both.
+    /// Asks both functions about the invocation of these words, and adds their answer.
     fn ask(&mut self, alloc: Global, said: &mut String, words: &str) -> Result<(), Trouble> {
         if self.both.is_none() {
             self.both = Some(both_of(alloc, self.text.as_str())?);
@@ -126,7 +126,7 @@ impl Asking {
         say(said, followed, compiled)
     }
 
-    /// Ends with a policy, and adds a line if it is printed in two ways.
+    /// Ends a policy. If the policy was asked about and is printed in two ways, adds a line.
     pub fn end(&mut self, alloc: Global, said: &mut String) -> Result<(), Trouble> {
         self.text = String::new(alloc);
         let Some(both) = self.both.take() else {
@@ -139,7 +139,7 @@ impl Asking {
         Ok(())
     }
 
-    /// Takes a line of the input, and adds what both say if it is a question.
+    /// Takes a line of the input. If the line is a question, adds the answer of both functions.
     pub fn take(&mut self, alloc: Global, said: &mut String, line: &str) -> Result<(), Trouble> {
         if line == "%%" {
             return self.end(alloc, said);

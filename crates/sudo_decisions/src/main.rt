@@ -1,11 +1,11 @@
-//! What both of the functions that decide say of the policies on the standard input: `decide` of
-//! `sudo_decide`, which follows each alias where it meets it, and the one of `sudo_compiled`, for
-//! which all aliases are written out first.
+//! Asks both functions that decide about the policies on the standard input: `decide` of
+//! `sudo_decide`, which follows each alias where it meets it, and `Compiled::decide` of
+//! `sudo_compiled`, for which all aliases are written out first.
 //!
 //! The input has a policy's lines, then a line `? USER HOST TARGET MOMENT PATH [ARGUMENT ..]` for
 //! each invocation that is asked about, and `%%` before the next policy. Each decision is a line of
-//! the output; where the two differ it begins with `OTHERWISE`, and the program fails. So it does
-//! where `print_policy` and `print_owned` print a policy that was asked about in two ways.
+//! the output, which begins with `OTHERWISE` if the two functions differ. The program fails if they
+//! differ, or if `print_policy` and `print_owned` differ for a policy that was asked about.
 #![tactic(auto)]
 
 mod asking;
@@ -31,8 +31,8 @@ fn whole(rt: &HostRuntime) -> Result<Vec<u8>, Trouble> {
     }
 }
 
-/// Adds what is said of each line, and then how many questions were asked and how many were
-/// answered in two ways; and whether none was.
+/// Adds the answer to each question, and then how many questions were asked and how many times two
+/// functions differed. Returns whether they never did.
 fn say_all(alloc: Global, said: &mut String, input: &[u8]) -> Result<bool, Trouble> {
     let Ok(text) = str::from_utf8(input) else {
         return Err(Trouble::BadInput);
@@ -48,7 +48,7 @@ fn say_all(alloc: Global, said: &mut String, input: &[u8]) -> Result<bool, Troub
     Ok(otherwise == 0)
 }
 
-/// Reads the input, and adds what is said of it.
+/// Reads the input, and adds the answers and their counts, as `say_all` does.
 fn say(rt: &HostRuntime, said: &mut String) -> Result<bool, Trouble> {
     let input = whole(rt)?;
     say_all(rt.alloc(), said, &input)

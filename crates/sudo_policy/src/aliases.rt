@@ -18,7 +18,7 @@ use sudo_words::{AliasName, Form, Word};
 /// The greatest weight of a policy.
 pub const MOST_WEIGHT: usize = 131_072;
 
-/// One more than that: a greater weight is kept as this.
+/// One more than the greatest weight: a weight past the limit is kept as this.
 const TOO_HEAVY: usize = MOST_WEIGHT + 1;
 
 /// The greatest depth of an alias.
@@ -61,7 +61,7 @@ impl Aliased for CmndItem {
 pub struct Measure {
     /// The weight, which stops at `TOO_HEAVY`.
     pub weight: usize,
-    /// The greatest depth of its aliases, or 0 where it has none.
+    /// The greatest depth of the aliases in the list, or 0 if the list has none.
     pub depth: usize,
 }
 
@@ -81,9 +81,9 @@ impl Measure {
 /// What is kept for each alias.
 #[derive(Clone, Copy)]
 pub struct Alias {
-    /// The place of its definition among the policy's entries.
+    /// The place of the alias's definition among the policy's entries.
     pub place: usize,
-    /// Its weight, and its depth.
+    /// The alias's weight, and its depth.
     pub measure: Measure,
 }
 
@@ -103,14 +103,14 @@ impl Aliases {
         }
     }
 
-    /// What is kept for the alias of this name, if it is one of these. It takes no memory.
+    /// What is kept for the alias of this name, if the alias is known. The search takes no memory.
     pub fn get(&self, name: &AliasName) -> Option<Alias>
         ensures { result ≡ alias_at self.now name.now }
     {
         self.known.get(name.as_str()).copied()
     }
 
-    /// The measure of an item, or `None` if it is an alias that is not one of these.
+    /// The measure of an item, or `None` if the item is an alias that is not known.
     fn measured_item<T: Aliased>(&self, item: &T) -> Option<Measure>
         ensures { MatchOption result (IsItemUnmeasured self.now (T.alias_of item.now))
             (IsItemMeasured self.now (T.alias_of item.now)) }
@@ -127,7 +127,7 @@ impl Aliases {
         }
     }
 
-    /// The measure of a list, or `None` if an alias in it is not one of these.
+    /// The measure of a list, or `None` if an alias in the list is not known.
     pub fn measured<T: Aliased>(&self, list: &[Signed<T>]) -> Option<Measure>
         ensures { MatchOption result (IsUnmeasured T.alias_of self.now list.now)
             (IsMeasured T.alias_of self.now list.now) }

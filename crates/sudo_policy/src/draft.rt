@@ -24,7 +24,7 @@ fn push<T: Drop>(items: &mut Vec<T>, item: T) -> Result<(), LineFault>
     Ok(())
 }
 
-/// Adds one more to a list if it was entered without a fault, and returns that fault otherwise.
+/// Adds an item to a list if it was entered without a fault, and returns that fault otherwise.
 fn push_entered<T: Drop>(
     items: &mut Vec<T>,
     item: T,

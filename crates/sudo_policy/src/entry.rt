@@ -17,7 +17,7 @@ pub struct Signed<T> {
 pub enum Item<N> {
     /// `ALL`.
     All,
-    /// The one of this name.
+    /// The user, host or target of this name.
     Name(N),
     /// What the alias's list says.
     Alias(AliasName),

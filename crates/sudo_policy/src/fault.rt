@@ -99,8 +99,8 @@ impl fmt::Display for FaultKind {
 
 impl Error for FaultKind {}
 
-/// Why a text was not read: what is wrong, and in which line, from 1. It is shown as `S5
-/// UnknownAlias line 3`.
+/// Why a text was not read: what is wrong, and in which line, from 1. Such a fault is shown like
+/// this: `S5 UnknownAlias line 3`.
 #[derive(Clone, Copy, Debug, PartialEq, Eq)]
 pub struct ReadFault {
     /// The line, from 1; 0 where there is no text.

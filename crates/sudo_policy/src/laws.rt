@@ -1,4 +1,4 @@
-//! The laws, each the contract of a function that does nothing. Those of policies' texts are
+//! The laws, each the contract of a function that does nothing. The laws of policies' texts are
 //! written here, and the others are re-exported.
 
 ghost use Rattle.std.specs.Prelude.{◌≡◌, ℕ, List};

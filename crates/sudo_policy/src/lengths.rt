@@ -15,7 +15,7 @@ use sudo_words::{AliasName, Form, Moment, Word, cmnd_len};
 /// The most bytes of a text, and of the canonical text of a policy: 16 MiB.
 pub const MOST_TEXT_BYTES: usize = 16_777_216;
 
-/// One more than that: a greater length is counted as this.
+/// One more than the most bytes: a length past the limit is counted as this.
 const TOO_LONG: usize = MOST_TEXT_BYTES + 1;
 
 /// Two lengths together.
@@ -29,10 +29,10 @@ fn plus(first: usize, second: usize) -> usize
 pub trait Lengthy: Sized {
     ghost text: { Self → List ℕ };
 
-    /// What must hold of one.
+    /// What must hold of an item or a command whose length is asked.
     ghost holds: { Self → Type 0 };
 
-    /// How long its text is.
+    /// How long the text is.
     fn text_len(&self) -> usize
         requires { holds self.now }
         ensures { result ≡ length (text self.now) };
@@ -65,7 +65,7 @@ impl Lengthy for CmndItem {
     }
 }
 
-/// An item, and the `!` before one that is negated.
+/// The length of an item, with the `!` before an item that is negated.
 fn signed_len<T: Lengthy>(signed: &Signed<T>) -> usize
     requires { T.holds signed.now.item }
     ensures { result ≡ stopped (length (signed_text T.text signed.now)) }
@@ -74,7 +74,7 @@ fn signed_len<T: Lengthy>(signed: &Signed<T>) -> usize
     plus(bang, signed.item.text_len())
 }
 
-/// The items after the first, with a comma and a space before each.
+/// The length of the items after the first, with a comma and a space before each item.
 fn tail_len<T: Lengthy>(items: &[Signed<T>]) -> usize
     requires { AllByRecursion (λ s. T.holds s.item) items.now }
     ensures { result ≡ stopped (length (tail_text (signed_text T.text) items.now)) }
@@ -96,7 +96,7 @@ fn list_len<T: Lengthy>(items: &[Signed<T>]) -> usize
     }
 }
 
-/// What stands before the dates and the command: the three lists, ` `, ` = (` and `) `.
+/// The length of the text before the dates and the command: three lists, ` `, ` = (` and `) `.
 fn who_len(rule: &Rule) -> usize
     requires { IsRule rule.now }
     ensures { result ≡ stopped (length (who_text rule.now)) }
@@ -107,7 +107,7 @@ fn who_len(rule: &Rule) -> usize
     plus(plus(users, hosts), plus(runas, 7))
 }
 
-/// A date, with its option, `=` and the blank after it. A stamp has 15 bytes.
+/// The length of a date, with its option, `=` and the blank after it. A stamp has 15 bytes.
 fn date_len(option: &str, date: Option<Moment>) -> usize
     requires { length option.now ≤ 16 }
     ensures value { result ≡ length (date_option_text option.now date) }
@@ -119,7 +119,7 @@ fn date_len(option: &str, date: Option<Moment>) -> usize
     }
 }
 
-/// The line of a rule, with its newline.
+/// The length of a rule's line, with its newline.
 fn rule_line_len(rule: &Rule) -> usize
     requires { IsRule rule.now }
     ensures { result ≡ stopped (length (line_text (entries.Rule rule.now))) }
@@ -131,7 +131,7 @@ fn rule_line_len(rule: &Rule) -> usize
     )
 }
 
-/// The line of an alias: after the kind a blank, after the name ` = `, and a newline.
+/// The length of an alias's line: after the kind a blank, after the name ` = `, and a newline.
 fn alias_line_len<T: Lengthy>(kind: &str, name: &AliasName, list: &[Signed<T>]) -> usize
     requires kind { length kind.now ≤ 16 }
     requires list { AllByRecursion (λ s. T.holds s.item) list.now }
@@ -142,8 +142,8 @@ fn alias_line_len<T: Lengthy>(kind: &str, name: &AliasName, list: &[Signed<T>]) 
     plus(plus(kind.len() + 5, name.as_str().len()), list_len(list))
 }
 
-/// The line of an entry, with its newline. A length past the limit of a policy's text is counted as
-/// one past it.
+/// The length of an entry's line, with its newline. A length past the limit of a policy's text is
+/// counted as one past the limit.
 pub fn line_len(entry: &Entry) -> usize
     requires { IsEntry entry.now }
     ensures { result ≡ stopped (length (line_text entry.now)) }

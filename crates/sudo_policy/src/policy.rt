@@ -16,8 +16,8 @@ use sudo_words::{AliasName, HostName, Name};
 
 /// A policy in normal form, which contracts see as the list of its entries.
 ///
-/// It has at most 16,384 entries, a weight of at most 131,072, and a canonical text of at most 16
-/// MiB. Each alias is defined once in its kind, above its uses, and has a depth of at most 64.
+/// A policy has at most 16,384 entries, a weight of at most 131,072 and a canonical text of at most
+/// 16 MiB. Each alias is defined once in its kind, above its uses, with a depth of at most 64.
 #[derive(Drop)]
 pub struct Policy {
     draft: Draft,
@@ -60,7 +60,7 @@ impl Policy {
         self.draft.weight
     }
 
-    /// How many bytes its canonical text has.
+    /// How many bytes the policy's canonical text has.
     pub fn text_len(&self) -> usize
         ensures { result ≡ length (canon self.now) }
     {

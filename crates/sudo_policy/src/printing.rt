@@ -37,7 +37,7 @@ fn push_signed<F: Form>(out: &mut String, signed: &Signed<Item<Word<F>>>) -> Res
     push_item(out, &signed.item)
 }
 
-/// The items after the first, with a comma and a space before each.
+/// Adds the items after the first, with a comma and a space before each.
 fn push_tail<F: Form>(out: &mut String, items: &[Signed<Item<Word<F>>>]) -> Result<(), AllocError>
     ensures { OnOk result (string_bytes out.new
         ≡ string_bytes out.old ++ tail_text (signed_text item_text) items.now) }
@@ -61,7 +61,7 @@ fn push_names<F: Form>(out: &mut String, items: &[Signed<Item<Word<F>>>]) -> Res
     }
 }
 
-/// What stands before the dates and the command.
+/// Adds what stands before the dates and the command.
 fn push_who(out: &mut String, rule: &Rule) -> Result<(), AllocError>
     ensures { OnOk result (string_bytes out.new ≡ string_bytes out.old ++ who_text rule.now) }
 {
@@ -134,7 +134,7 @@ fn push_cmnd(alloc: Global, out: &mut String, signed: &Signed<CmndItem>) -> Resu
     push_cmnd_item(alloc, out, &signed.item)
 }
 
-/// The commands after the first, with a comma and a space before each.
+/// Adds the commands after the first, with a comma and a space before each.
 fn push_cmnd_tail(
     alloc: Global,
     out: &mut String,
@@ -164,7 +164,7 @@ fn push_cmnds(alloc: Global, out: &mut String, items: &[Signed<CmndItem>]) -> Re
     }
 }
 
-/// What stands before an alias's list.
+/// Adds what stands before an alias's list.
 fn push_head(out: &mut String, kind: &str, name: &AliasName) -> Result<(), AllocError>
     ensures { OnOk result
         (string_bytes out.new ≡ string_bytes out.old ++ alias_text kind.now name.now []) }
@@ -227,7 +227,7 @@ fn push_entry(alloc: Global, out: &mut String, entry: &Entry) -> Result<(), NoMe
     }
 }
 
-/// One entry and a newline.
+/// Adds one entry and a newline.
 fn push_line(alloc: Global, out: &mut String, entry: &Entry) -> Result<(), NoMemory>
     requires { IsEntry entry.now }
     ensures { OnOk result (string_bytes out.new ≡ string_bytes out.old ++ line_text entry.now) }

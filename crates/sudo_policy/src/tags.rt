@@ -1,5 +1,5 @@
 //! The tags of commands (sudoers(5), "Tag_Spec"): their words, what they override, and how they are
-//! printed. No other module names one, but where it is asked what a tag does.
+//! printed. No other module names a tag, except to ask what the tag does.
 
 ghost use Rattle.std.specs.Prelude.{◌≡◌, ◌≤◌, ◌++◌, MatchOption, OnOk, length, string_bytes};
 ghost use Rattle.sudo_policy.specs.Tags as means;
@@ -29,7 +29,7 @@ impl Tag {
         }
     }
 
-    /// Its word.
+    /// The tag's word.
     fn word(self) -> &'static str
         ensures word { result.now ≡ tag_word self }
         ensures few { length result.now ≤ 14 }
@@ -40,7 +40,7 @@ impl Tag {
         }
     }
 
-    /// Adds its text, where it holds.
+    /// Adds the tag's text, if the tag holds.
     fn push(self, out: &mut String, holds: bool) -> Result<(), AllocError>
         ensures { OnOk result
             (string_bytes out.new ≡ string_bytes out.old ++ tag_text self holds) }
@@ -52,7 +52,7 @@ impl Tag {
         Ok(())
     }
 
-    /// The length of that text.
+    /// The length of the text that `push` adds.
     fn len(self, holds: bool) -> usize
         ensures value { result ≡ length (tag_text self holds) }
         ensures few { result ≤ 16 }
@@ -61,7 +61,7 @@ impl Tag {
     }
 }
 
-/// What the tags before one command say, each kind where one of its tags stands there.
+/// What the tags before one command say, for each kind that has a tag there.
 #[derive(Clone, Copy, Debug)]
 pub struct GivenTags {
     /// Whether the last of `PASSWD` and `NOPASSWD` is `NOPASSWD`.
@@ -76,7 +76,7 @@ impl GivenTags {
         GivenTags { nopasswd: None }
     }
 
-    /// What they say with one tag more behind them.
+    /// What the tags say with one more tag behind them.
     pub fn with(self, tag: Tag) -> GivenTags
         ensures { result ≡ means.with_tag self tag }
     {
@@ -106,7 +106,7 @@ impl Tags {
         Tags { nopasswd: false }
     }
 
-    /// The tags of a command that gives these, where the others held before it.
+    /// The tags of a command that gives these tags, where `self` held before the command.
     pub fn with(self, given: GivenTags) -> Tags
         ensures { result ≡ means.with_tags self given }
     {
@@ -115,7 +115,7 @@ impl Tags {
         }
     }
 
-    /// Adds their text.
+    /// Adds the text of the tags.
     pub(crate) fn push(self, out: &mut String) -> Result<(), AllocError>
         ensures { OnOk result
             (string_bytes out.new ≡ string_bytes out.old ++ means.tags_text self) }
@@ -123,7 +123,7 @@ impl Tags {
         Tag::NoPasswd.push(out, self.nopasswd)
     }
 
-    /// The length of their text.
+    /// The length of the text of the tags.
     pub(crate) fn len(self) -> usize
         ensures value { result ≡ length (means.tags_text self) }
         ensures few { result ≤ 16 }

@@ -9,20 +9,20 @@ use sudo_words::{AliasName, HostName, Items, Moment, Name};
 pub struct Definition<T> {
     /// The alias.
     pub name: AliasName,
-    /// Its list.
+    /// The alias's list.
     pub list: Items<Signed<T>>,
 }
 
 /// A command of a user specification, with the settings that it gives itself.
 #[derive(Drop)]
 pub struct CmndSpec {
-    /// The targets in parentheses, if it has any.
+    /// The targets in parentheses, if the command has any.
     pub runas: Option<Items<Signed<Item<Name>>>>,
-    /// The date of `NOTBEFORE`, if it has that option.
+    /// The date of `NOTBEFORE`, if the command has that option.
     pub not_before: Option<Moment>,
-    /// The date of `NOTAFTER`, if it has that option.
+    /// The date of `NOTAFTER`, if the command has that option.
     pub not_after: Option<Moment>,
-    /// What its own tags say.
+    /// What the command's own tags say.
     pub tags: GivenTags,
     /// The command, or its alias.
     pub cmnd: Signed<CmndItem>,
@@ -37,7 +37,7 @@ pub struct Part {
     pub specs: Items<CmndSpec>,
 }
 
-/// What holds after some commands of a list, for those that follow.
+/// The settings after some commands of a list, which hold for the commands that follow.
 #[derive(Drop)]
 pub struct Settings {
     /// The targets that were given last, or `root` if none were.

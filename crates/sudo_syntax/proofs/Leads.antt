@@ -1,4 +1,4 @@
--- A reader's way through tokens: what is spelled as a whole, and what is left of it.
+-- A reader's way through tokens: what is spelled as a whole, and what is left to read.
 use Rattle.std.proofs.Common.{List}
 use Rattle.sudo_policy.specs.Lex.{Tok}
 

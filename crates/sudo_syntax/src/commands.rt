@@ -78,8 +78,8 @@ fn args_at<'a, 'b>(
     Ok((Items::new(args), read.1))
 }
 
-/// The rule of the arguments listed at the front, and what follows them. Any are allowed if none is
-/// listed.
+/// The rule of the arguments listed at the front, and what follows them. Any arguments are allowed
+/// if none are listed.
 fn listed_at<'a, 'b>(
     alloc: Global,
     tokens: &'b [Token<'a>],

@@ -127,7 +127,7 @@ pub(crate) fn date_at<'a, 'b>(
     }
 }
 
-/// The word before this mark at the front, and what follows them.
+/// The word at the front that this mark follows, and what follows the mark.
 pub(crate) fn head_at<'a, 'b>(
     mark: Mark,
     tokens: &'b [Token<'a>],

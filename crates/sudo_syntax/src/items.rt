@@ -1,4 +1,4 @@
-//! Lists of what tokens spell in one way, and the items of users, hosts and targets.
+//! Lists of values that tokens spell in one way, and the items of users, hosts and targets.
 
 ghost use Rattle.std.specs.Prelude.{◌≡◌, ◌<◌, ◌∷◌, [], Bool, List, ℕ};
 ghost use Rattle.std.specs.Prelude.{length, IfOk, MatchResult, true, false};
@@ -20,15 +20,15 @@ use std::alloc::Global;
 use sudo_policy::{Item, LineFault, Signed};
 use sudo_words::{Form, HostForm, Items, UserForm, Word, WordFault};
 
-/// What tokens spell in one way.
+/// A value that tokens spell in one way.
 pub(crate) trait Spelled: Sized + Drop {
-    /// Tokens, what stands at their front, and those after it.
+    /// Tokens, the value at their front, and the tokens after it.
     ghost spells: { List Tok → Self → List Tok → Type 0 };
 
-    /// What may stand after one.
+    /// The tokens that may stand after a value.
     ghost follows: { List Tok → Type 0 };
 
-    /// The one at the front, and what follows it.
+    /// The value at the front, and what follows it.
     fn at<'a, 'b>(
         alloc: Global,
         tokens: &'b [Token<'a>],
@@ -39,7 +39,7 @@ pub(crate) trait Spelled: Sized + Drop {
             → MatchResult result (λ x. (x.0 ≡ v) × (toks x.1.now ≡ rest)) (λ e. e ≡ NoMemory) };
 }
 
-/// One or more with this mark between, and what follows them.
+/// One or more values with this mark between them, and what follows them.
 pub(crate) fn list_at<'a, 'b, T: Spelled>(
     alloc: Global,
     mark: Mark,
@@ -65,7 +65,7 @@ pub(crate) fn list_at<'a, 'b, T: Spelled>(
     Ok((Items::new(items), rest))
 }
 
-/// One or more with `:` between, after blanks and up to the last token.
+/// One or more values with `:` between them, after blanks and up to the last token.
 pub(crate) fn rest_as<T: Spelled>(
     alloc: Global,
     tokens: &[Token<'_>],
@@ -125,7 +125,7 @@ fn item_of<F: NameForm>(alloc: Global, text: &str) -> Result<Item<Word<F>>, Line
     if text == "ALL" {
         return Ok(Item::All);
     }
-    // A name is tested once, by reading it; what is none can only be an alias.
+    // A name is tested once, by reading it; a text that is no name can only be an alias.
     match Word::read(alloc, text) {
         Ok(name) => Ok(Item::Name(name)),
         Err(WordFault::BadWord) => Ok(Item::Alias(word_of(alloc, text)?)),

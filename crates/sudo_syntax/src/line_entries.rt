@@ -182,8 +182,8 @@ fn add_copy(
     Ok(settings)
 }
 
-/// Adds one rule for each command before the last, and returns the settings after them. Each is
-/// added before the next is made, so that the limits of a policy bound what is copied.
+/// Adds one rule for each command before the last, and returns the settings after them. Each rule
+/// is added before the next is made, so that the limits of a policy bound what is copied.
 fn add_front(
     alloc: Global,
     draft: &mut Draft,
@@ -208,8 +208,8 @@ fn add_front(
     Ok(held)
 }
 
-/// Adds the rule of the last command of a list, where these settings hold before it: it takes the
-/// lists.
+/// Adds the rule of the last command of a list, where these settings hold before the command. The
+/// rule takes the lists.
 fn add_last(
     alloc: Global,
     draft: &mut Draft,

@@ -85,7 +85,7 @@ pub(crate) fn bad_option(name: &str) -> LineFault {
     }
 }
 
-/// What is wrong with tokens that the grammar does not allow there: quoted words are left out.
+/// What is wrong with tokens that the grammar does not allow: the desk leaves out quoted words.
 pub(crate) fn misplaced(tokens: &[Token<'_>]) -> LineFault {
     match tokens {
         [

@@ -16,9 +16,9 @@ use sudo_policy::LineFault;
 /// What a line of the text says.
 #[derive(Clone, Copy)]
 pub(crate) enum Piece<'a> {
-    /// It ends here: what stands before its comment.
+    /// The line ends here: what stands before its comment.
     Ends(&'a [u8]),
-    /// It goes on in the next line: what stands before the backslash.
+    /// The line goes on in the next line: what stands before the backslash.
     GoesOn(&'a [u8]),
 }
 
@@ -29,8 +29,8 @@ fn body_len(line: &[u8]) -> usize
     line.iter().take_while(|b| **b != b'#').count()
 }
 
-/// Whether the bytes have no `#`. All are looked at, even after one, so that many are tested at
-/// once.
+/// Whether the bytes have no `#`. All bytes are looked at, even after a `#`, so that many are
+/// tested at once.
 fn lacks_hash(line: &[u8]) -> bool
     ensures { result ≡ list_all lines.is_no_hash line.now }
 {

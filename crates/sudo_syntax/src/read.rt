@@ -82,8 +82,8 @@ fn add_joined(alloc: Global, draft: &mut Draft, line: &[u8]) -> Result<(), LineF
     add_line(alloc, draft, line)
 }
 
-/// Adds what a line of the text stands for. The front that the lines before it left goes before it.
-/// If the line goes on, it is added to that front; otherwise the front is empty afterwards.
+/// Adds what a line of the text stands for, after the front that the lines before it left. If the
+/// line goes on, it is added to that front; otherwise the front is empty afterwards.
 fn add_piece(
     alloc: Global,
     draft: &mut Draft,
@@ -117,8 +117,8 @@ fn add_piece(
     }
 }
 
-/// The line number of a fault that came up at a line: its own, if its comment or its continuation
-/// is wrong, and otherwise that of the line where the joined line begins.
+/// The line number of a fault that came up at a line: the number of this line, if its comment or
+/// its continuation is wrong, and otherwise the number of the line where the joined line begins.
 fn fault_line(line: &[u8], begins: usize, here: usize) -> usize
     ensures { (result ≡ begins) ⊎ (result ≡ here) }
 {
@@ -129,8 +129,8 @@ fn fault_line(line: &[u8], begins: usize, here: usize) -> usize
     }
 }
 
-/// Adds what the lines of a text stand for. Each is read in place in the text: no list of
-/// them is made.
+/// Adds what the lines of a text stand for. Each line is read in place in the text: no list of
+/// lines is made.
 fn add_lines(alloc: Global, draft: &mut Draft, text: &[u8]) -> Result<(), ReadFault>
     requires draft { IsDraft draft.old }
     requires none { draft.old.entries.items ≡ [] }
@@ -185,10 +185,10 @@ fn policy_of(alloc: Global, text: &[u8]) -> Result<Policy, ReadFault>
 /// no text may have, else the first fault of a line, with its number from 1; `NoMemory` where
 /// memory runs out.
 pub fn read_policy(alloc: Global, text: &[u8]) -> Result<Policy, ReadFault>
-    // What is read is what the text spells.
+    // A policy that is read is a policy that the text spells.
     ensures found { IfOk result (λ p. Spells text.now p) }
-    // What the text spells is read, unless memory runs out: a text that spells a policy gives no
-    // other fault.
+    // The policy that a text spells is read, unless memory runs out: a text that spells a policy
+    // gives no other fault.
     ensures only { (es : List Entered) → Spells text.now es
         → MatchResult result (λ p. p ≡ es) (λ f. f.kind ≡ Line NoMemory) }
     // `TooLong` comes exactly where the text is too long.

@@ -65,9 +65,9 @@ pub(crate) struct Token<'a> {
 pub(crate) enum TokenKind<'a> {
     /// A word.
     Word {
-        /// How many `!` stand directly before it.
+        /// How many `!` stand directly before the word.
         bangs: usize,
-        /// Its bytes as they are in the line.
+        /// The word's bytes as they are in the line.
         text: &'a str,
     },
     /// A mark.
@@ -136,8 +136,8 @@ fn text_len(bytes: &[u8]) -> usize
     bytes.iter().take_while(|b| is_text_byte(**b)).count()
 }
 
-/// Whether a text may have each of the bytes. All are looked at, even after one that no text may
-/// have, so that many are tested at once.
+/// Whether a text may have each of the bytes. All bytes are looked at, even after a byte that no
+/// text may have, so that many are tested at once.
 pub(crate) fn is_text(bytes: &[u8]) -> bool
     ensures { result ≡ list_all lex.is_text_byte bytes.now }
 {
@@ -206,7 +206,7 @@ fn text_of(word: &[u8]) -> &str
     requires { lex.is_word_text word.now ≡ true }
     ensures { result.now ≡ word.now }
 {
-    // So they are UTF-8, which is proved for this call and not tested.
+    // ASCII bytes are UTF-8, which is proved for this call and not tested.
     unsafe { str::from_utf8_unchecked(word) }
 }
 

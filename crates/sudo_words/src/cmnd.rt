@@ -57,7 +57,7 @@ fn is_directly_in(dir: &[u8], path: &[u8]) -> bool
 }
 
 impl Cmnd {
-    /// Whether it matches a path that is run with these arguments. It takes no memory.
+    /// Whether the command matches a path that is run with these arguments. It takes no memory.
     pub fn matches(&self, path: &FilePath, args: &[Arg]) -> bool
         ensures { result ≡ command.matches self.now path.now args.now }
     {

@@ -33,7 +33,7 @@ impl Day {
         Day { number }
     }
 
-    /// The number of days from 1970-01-01 to it.
+    /// The number of days from 1970-01-01 to this day.
     pub fn number(&self) -> u32
         ensures { result ≡ self.now }
     {

@@ -6,7 +6,7 @@ use std::marker::Model;
 
 /// A list, which contracts see as the list of its elements.
 ///
-/// It is made from a `Vec` and gives it back, and takes no memory of its own.
+/// The list is made from a `Vec` and gives it back, and takes no memory of its own.
 #[derive(Clone, Debug, Drop)]
 pub struct Items<T> {
     items: Vec<T>,
@@ -28,7 +28,7 @@ impl<T> Items<T> {
         Items { items }
     }
 
-    /// Its elements, in order.
+    /// The elements, in order.
     pub fn as_slice(&self) -> &[T]
         ensures { result.now ≡ self.now }
     {

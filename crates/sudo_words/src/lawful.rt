@@ -51,7 +51,7 @@ fn args_length(args: &[Arg]) -> usize
     total
 }
 
-/// The length of the rule's text; `None` if it lists no argument, or too many.
+/// The length of the rule's text; `None` if the rule is a list of no arguments, or of too many.
 fn rule_length(rule: &ArgRule) -> Option<usize>
     ensures { MatchOption result (¬ IsArgRule rule.now)
         (λ n. IsArgRule rule.now × (n ≡ length (arg_rule_text rule.now)) × (n ≤ 2064)) }

@@ -1,4 +1,4 @@
-//! The laws, each the contract of a function that does nothing. Those of names, paths, commands
+//! The laws, each the contract of a function that does nothing. The laws of names, paths, commands
 //! and commands' texts are written here.
 
 ghost use Rattle.std.specs.Prelude.{◌≡◌, ◌↔◌, ◌++◌, ℕ, List, true, false, codes};

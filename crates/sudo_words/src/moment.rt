@@ -20,7 +20,7 @@ const STAMP_LENGTH: usize = 15;
 
 /// A moment: a whole second of UTC in the years 1970 to 2099, without leap seconds.
 ///
-/// It is read from Generalized Time (RFC 4517, section 3.3.13) in one of the forms
+/// A moment is read from Generalized Time (RFC 4517, section 3.3.13) in one of the forms
 /// `yyyymmddHHMMSSZ`, `yyyymmddHHMMZ` and `yyyymmddHHZ`, and printed in the first, which is
 /// canonical. `+hhmm` or `-hhmm` may stand in place of `Z`, for a clock that is so far ahead of UTC
 /// or behind it. Fractions and offsets in hours alone are also part of that syntax, but not read.
@@ -55,8 +55,8 @@ impl Moment {
         moment_at(date(front)?, clock(time)?, offset(end)?)
     }
 
-    /// The moment whose canonical text this is, or `None` if it is the text of none. It takes no
-    /// memory.
+    /// The moment whose canonical text this is, or `None` if no moment has this text. Reading takes
+    /// no memory.
     pub fn read_stamp(text: &str) -> Option<Moment>
         ensures found { IfSome result (λ t. IsStamp text.now t) }
         ensures only { (t : ℕ) → IsStamp text.now t → result ≡ Some t }
@@ -75,7 +75,7 @@ impl Moment {
         u64::from(self.secs)
     }
 
-    /// The day that it is in.
+    /// The day that the moment is in.
     pub fn day(&self) -> Day
         ensures { result ≡ day_of self.now }
     {

@@ -15,7 +15,7 @@ pub fn in_order<T: Ord + Drop>(mut elements: Vec<T>) -> Vec<T>
     elements
 }
 
-/// Whether the element is one of these, which are in order. It is a binary search.
+/// Whether `x` is one of the elements, which are in order. The search is binary.
 pub fn is_among<T: Ord>(elements: &[T], x: &T) -> bool
     requires { IsStrictlySortedBy T.cmp elements.now }
     ensures { result ≡ list_any (λ y. T.eq y x.now) elements.now }

@@ -66,7 +66,7 @@ impl<F: Form> Word<F> {
         }
     }
 
-    /// Its text.
+    /// The word's text.
     pub fn as_str(&self) -> &str
         ensures value { result.now ≡ self.now }
         ensures form { F.has self.now ≡ true }

@@ -57,7 +57,7 @@ abbrev pub AreSuspects : RosterFields Cmnd → List Message → List RequestName
 AreSuspects f messages names =
     (name : RequestName) → ¬ Contains names name → AllCount f messages name
 
--- the same of those that are known, if they are
+-- the same of the suspects that are known, if any are
 abbrev pub AreKnownSuspects : RosterFields Cmnd → List Message
     → Option (BTreeSet RequestName) → Type 0
 AreKnownSuspects f messages None = Unit {0}

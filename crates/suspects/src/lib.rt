@@ -1,5 +1,5 @@
-//! Which names a report has to look at. What has ended and was approved by those who may approve
-//! costs a report nothing.
+//! Which names a report has to look at. A grant that has ended costs a report nothing, if all who
+//! approved the grant were eligible.
 #![tactic(auto)]
 
 mod part;

@@ -23,7 +23,7 @@ fn take_each(part: &mut Gathered, list: &[Message]) -> Result<(), NoMemory>
     Ok(())
 }
 
-/// Adds the messages about a name to a part, unless it is disputed.
+/// Adds the messages about a name to a part, unless the name is disputed.
 fn add_about(
     alloc: Global,
     part: &mut Gathered,

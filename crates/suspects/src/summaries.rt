@@ -36,9 +36,9 @@ fn reviewed_beside(
 }
 
 /// The summaries that a report at the moment looks at, by the asker in byte order, then by the
-/// number: those of the suspects and of the requests whose grants are in force then; or all, where
-/// the suspects are not known. It costs what these names have, and the logarithm of how many names
-/// there are.
+/// number: those of the suspects and of the requests whose grants are in force then. Where the
+/// suspects are not known, these are the summaries of all names. The cost is that of the messages
+/// about these names, and the logarithm of how many names there are.
 pub fn reviewed_in(
     alloc: Global,
     roster: &Roster,

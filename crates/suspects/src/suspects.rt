@@ -109,8 +109,8 @@ fn add_name(names: &mut BTreeSet<RequestName>, message: &Message) -> Result<(), 
     Ok(())
 }
 
-/// The suspects with one message more: the name that it is about is one, and is looked at when the
-/// next report is made. They are not known any more where memory runs out.
+/// The suspects with one message more: the name that the message is about is a suspect, so that the
+/// next report looks at it. Where memory runs out, the suspects are not known any more.
 pub fn with_suspect(
     suspects: Option<BTreeSet<RequestName>>,
     message: &Message,

@@ -16,13 +16,13 @@ use sudo_syntax::Policy;
 pub enum Call {
     /// The desk is opened.
     Open,
-    /// It is opened, and the request is delivered.
+    /// The desk is opened, and the request is delivered.
     Request,
-    /// It is opened, and the approval is delivered.
+    /// The desk is opened, and the approval is delivered.
     Approval,
-    /// It is opened, and the approval is delivered, and then the request.
+    /// The desk is opened, and the approval is delivered, and then the request.
     Both,
-    /// It is rebuilt with this roster.
+    /// The desk is rebuilt with this roster.
     Rebuild(Rules),
 }
 
@@ -53,8 +53,8 @@ pub fn deliver<K: Keeper>(desk: &mut Desk<K>, body: &str) -> Ended {
     }
 }
 
-/// Delivers the bodies in order, each once the one before it was acknowledged, and gives the keeper
-/// up.
+/// Delivers the bodies in order, until one is not acknowledged, and gives the keeper up. The answer
+/// is that of the last delivery.
 fn delivered<K: Keeper>(mut desk: Desk<K>, bodies: &[&str]) -> (Ended, K) {
     let mut answer = Ended::Done;
     for body in bodies {

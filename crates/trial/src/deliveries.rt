@@ -56,7 +56,7 @@ fn deliver_both<K: Keeper>(alloc: Global, desk: &mut Desk<K>) -> Result<Both, Tr
     Ok(Both { approval, request })
 }
 
-/// Opens a desk of these parts over the keeper, and delivers both to it.
+/// Opens a desk of these parts over the keeper, and delivers both messages to the desk.
 fn open_and_deliver<K: Keeper>(
     alloc: Global,
     parts: (Roster, Policy),
@@ -75,8 +75,8 @@ fn open_and_deliver<K: Keeper>(
     }
 }
 
-/// Opens a desk over the keeper, and delivers both to it: how they ended, or how the opening was
-/// refused.
+/// Opens a desk over the keeper, and delivers both messages to the desk: how the deliveries ended,
+/// or how the opening was refused.
 pub fn make_both<K: Keeper>(
     alloc: Global,
     keeper: K,
@@ -110,7 +110,7 @@ pub fn are_delivered(both: Both) -> bool {
     is_delivered(approval, State::Fresh, State::Parked) && is_second_right
 }
 
-/// Whether both were acknowledged, and each question after each was answered.
+/// Whether both deliveries were acknowledged, and all questions after each were answered.
 pub fn are_well(both: Both) -> bool {
     let Both { approval, request } = both;
     approval.answer == Ended::Done
@@ -119,9 +119,9 @@ pub fn are_well(both: Both) -> bool {
         && request.then == State::Granted
 }
 
-/// Whether the next opening may find the message there, or missing, after its delivery. What was
-/// acknowledged is there. What was refused is missing where the desk went on to answer; otherwise
-/// it may be there.
+/// Whether the next opening may find the message there, or missing, after its delivery. An
+/// acknowledged message is there. A refused message is missing where the desk went on to answer;
+/// otherwise it may be there.
 fn may_be(delivered: Delivered, is_there: bool) -> bool {
     if delivered.answer == Ended::Done {
         is_there
@@ -130,7 +130,7 @@ fn may_be(delivered: Delivered, is_there: bool) -> bool {
     }
 }
 
-/// Whether the next opening may find the desk in this state after both.
+/// Whether the next opening may find the desk in this state after both deliveries.
 pub fn may_be_found(both: Both, found: State) -> bool {
     let (has_approval, has_request) = match found {
         State::Fresh => (false, false),

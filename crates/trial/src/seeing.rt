@@ -6,7 +6,7 @@ use crate::trouble::Trouble;
 use desk::Keeper;
 use std::alloc::Global;
 
-/// What is found in a keeper, and after a call that is made over it without a fault.
+/// What is found in a keeper, before and after a call that is made over it without a fault.
 #[derive(Clone, Copy, PartialEq, Eq)]
 pub struct Seen {
     pub found: State,

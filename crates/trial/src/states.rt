@@ -5,7 +5,7 @@ use std::fmt;
 /// What a desk answers to every question, or what is found where there is no desk.
 #[derive(Clone, Copy, PartialEq, Eq)]
 pub enum State {
-    /// There is nothing of a desk's.
+    /// There is no part of a desk.
     Nothing,
     /// There is a desk of an older form.
     Older,
@@ -15,9 +15,9 @@ pub enum State {
     Parked,
     /// The request came, and waits for an approval.
     Waiting,
-    /// Both came.
+    /// The request and the approval came.
     Granted,
-    /// Both came, and the roster does not admit the request.
+    /// The request and the approval came, and the roster does not admit the request.
     Lapsed,
     /// Each question is refused over the storage.
     Silent,

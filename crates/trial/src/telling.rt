@@ -3,7 +3,7 @@
 use crate::trouble::Trouble;
 use std::io::Write;
 
-/// Writes what is told, or why there is none; and whether all of it is as it should be.
+/// Writes the text, or the trouble; answers whether the text is written and has no `OTHERWISE`.
 pub fn write_told<W: Write>(out: &mut W, told: String, done: Result<(), Trouble>) -> bool {
     let is_right = done.is_ok() && !told.as_str().contains("OTHERWISE");
     let is_written = match done {

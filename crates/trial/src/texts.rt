@@ -13,16 +13,16 @@ const ROSTER: &str =
 pub const REQUEST: &str =
     "{\"at\":\"20260105060000Z\",\"by\":\"ann\",\"ceiling\":\"db-root\",\"cmnds\":[\"/bin/ls\"],\"from\":\"20260105090000Z\",\"hosts\":[\"db1\"],\"kind\":\"request\",\"no\":7,\"runas\":\"root\",\"until\":\"20260105110000Z\"}";
 
-/// An approval of it.
+/// An approval of that request.
 pub const APPROVAL: &str =
     "{\"at\":\"20260105083000Z\",\"by\":\"bob\",\"kind\":\"approve\",\"no\":7,\"of\":\"ann\"}";
 
-/// Which roster.
+/// One of the two rosters.
 #[derive(Clone, Copy, PartialEq, Eq)]
 pub enum Rules {
-    /// The one under which the request is admitted: its longest time is two hours.
+    /// The roster under which the request is admitted: its longest time is two hours.
     Full,
-    /// One whose longest time is a second shorter, so that the request is not admitted.
+    /// A roster whose longest time is a second shorter, so that the request is not admitted.
     Short,
 }
 

@@ -4,7 +4,7 @@ use std::alloc::{AllocError, AllocFailed};
 use std::fmt;
 use sudo_words::NoMemory;
 
-/// Why the program ends early. None of it comes where memory is ample and the program is right.
+/// Why the program ends early. No trouble comes where memory is ample and the program is right.
 #[derive(Clone, Copy)]
 pub enum Trouble {
     /// Memory ran out.

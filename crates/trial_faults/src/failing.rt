@@ -21,7 +21,7 @@ struct Outcome {
     /// Both deliveries, or how the opening was refused.
     made: Result<Both, Refusal>,
     failures: u64,
-    /// What is kept, and after the same deliveries once more, without a fault.
+    /// What is kept, and what is kept after the same deliveries once more, without a fault.
     kept: Seen,
 }
 
@@ -57,7 +57,7 @@ fn is_kept(made: Result<Both, Refusal>, kept: State) -> bool {
     }
 }
 
-/// Whether both were acknowledged and answered, where no call of the keeper failed.
+/// Whether both deliveries were acknowledged and answered, if no call of the keeper failed.
 fn is_well(outcome: Outcome) -> bool {
     match outcome.made {
         Ok(both) => are_well(both) || outcome.failures > 0,
@@ -65,8 +65,8 @@ fn is_well(outcome: Outcome) -> bool {
     }
 }
 
-/// Whether both deliveries once more are acknowledged, and lead to what they come to without a
-/// fault.
+/// Whether only what was acknowledged is kept, nothing was refused without a failed call, and both
+/// deliveries once more are acknowledged and lead to what they come to without a fault.
 fn is_right(outcome: Outcome) -> bool {
     let kept = outcome.kept;
     is_kept(outcome.made, kept.found)
@@ -102,8 +102,8 @@ fn say_outcome(said: &mut String, calls: u64, outcome: Outcome) -> Result<(), Tr
     Ok(())
 }
 
-/// Adds what the deliveries come to where the keeper fails after so many calls; and whether none
-/// failed.
+/// Adds what the deliveries come to where the keeper fails after so many calls; answers whether no
+/// call failed.
 fn say_failing<K: Keeper + Drop>(
     alloc: Global,
     said: &mut String,
@@ -139,7 +139,7 @@ fn say_stored<S: Alter + Drop>(
     say_failing(alloc, said, calls, keeper)
 }
 
-/// The same over a database.
+/// Adds what the two deliveries come to over a database, in the same way.
 pub(crate) fn say_in_database(alloc: Global, said: &mut String) -> Result<(), Trouble> {
     said.push_str("A keeper over a database fails after so many calls\n")?;
     for calls in 0..MOST {

@@ -48,7 +48,7 @@ fn say_part(alloc: Global, said: &mut String, part: Part) -> Result<(), Trouble>
     }
 }
 
-/// Writes a part on the standard output; and whether all of it is as it should be.
+/// Writes a part on the standard output; answers whether it is written and has no `OTHERWISE`.
 fn write_part(rt: &HostRuntime, part: Part) -> bool {
     let alloc = rt.alloc();
     let mut said = String::new(alloc);

@@ -32,7 +32,7 @@ enum Given {
     UnknownRelay,
 }
 
-/// The relay that brings it.
+/// The relay that brings the delivery.
 fn relay_of(given: Given) -> &'static str {
     match given {
         Given::UnknownRelay => "mail",
@@ -188,7 +188,7 @@ fn say_refusal(said: &mut String, refusal: Refusal) -> Result<(), Trouble> {
     Ok(())
 }
 
-/// The roster and the base of a desk, and those with which it is opened again.
+/// The roster and the base of a desk, and the roster and the base of the desk that is opened again.
 fn both_parts(
     alloc: Global,
     rules: Rules,

@@ -52,8 +52,8 @@ fn deliver_verdict(alloc: Global, desk: &mut Desk<MemoryKeeper>, row: &str) -> R
     done
 }
 
-/// Delivers the request and these verdicts on it, and adds what it comes to, and how many rules it
-/// gives.
+/// Delivers the request and these verdicts on it, and adds what the request comes to, and how many
+/// rules it gives.
 fn deliver_row(
     alloc: Global,
     said: &mut String,

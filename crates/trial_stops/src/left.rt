@@ -13,7 +13,7 @@ pub(crate) fn files_at<D: Disk + Drop>(keeper: SqliteKeeper<FileStore<D>>) -> Fi
     keeper.into_connection().into_store().close()
 }
 
-/// Whether the file would pass on one more call. Once it refused to sync, it may not be asked.
+/// Whether the file would pass on one more call. A file that refused to sync may not be asked.
 fn is_whole(file: &mut Fused) -> bool {
     file.may_be_used() && file.len().is_ok()
 }
@@ -37,7 +37,7 @@ pub(crate) fn synced_in(alloc: Global, mut files: Files<Fused>) -> Result<Pair, 
     pair
 }
 
-/// The files of the keeper's store, once its log is copied into the database.
+/// The files of the connection's store, once its log is copied into the database.
 fn closed<D: Disk + Drop>(conn: Connection<FileStore<D>>) -> Result<Files<D>, Trouble> {
     match conn.close_files() {
         Ok(files) => Ok(files),
@@ -48,12 +48,12 @@ fn closed<D: Disk + Drop>(conn: Connection<FileStore<D>>) -> Result<Files<D>, Tr
     }
 }
 
-/// The same for the keeper.
+/// The files of the keeper's store, once its log is copied into the database.
 fn closed_by<D: Disk + Drop>(keeper: SqliteKeeper<FileStore<D>>) -> Result<Files<D>, Trouble> {
     closed(keeper.into_connection())
 }
 
-/// The same after these statements.
+/// The same files after these statements.
 fn run_over<D: Disk + Drop>(
     keeper: SqliteKeeper<FileStore<D>>,
     sql: &str,

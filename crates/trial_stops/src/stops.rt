@@ -24,9 +24,9 @@ pub(crate) struct Case {
     pub(crate) call: Call,
     /// The state before the call.
     pub(crate) first: State,
-    /// The state after its first commit.
+    /// The state after the call's first commit.
     pub(crate) committed: State,
-    /// The state after all of it.
+    /// The state after the whole call.
     pub(crate) second: State,
 }
 
@@ -205,7 +205,7 @@ fn seen_in(alloc: Global, left: &Pair, call: Call) -> Result<Seen, Trouble> {
     }
 }
 
-/// What is found in the bytes. Where they are those that were looked at last, it is known already.
+/// What is found in the bytes, which is known already if they were looked at last.
 fn looked_at(alloc: Global, last: &mut Last, left: Pair, call: Call) -> Result<Seen, Trouble> {
     if are_same(&last.left, &left) {
         drop(left);
@@ -277,8 +277,8 @@ fn add_stops(
     Ok(())
 }
 
-/// Whether the next opening may find this after what was made: where a call was refused, the state
-/// before it or after its first commit; after two deliveries one that goes with their answers.
+/// Whether the next opening may find this state: after a refused call, the state before it or after
+/// its first commit; after two deliveries, a state that goes with their answers.
 fn may_find(made: Made, found: State, case: Case) -> bool {
     match made {
         Made::Called(Ended::Done) => found == case.second,
@@ -367,7 +367,7 @@ fn last_of(alloc: Global, start: &Pair, seen: Seen) -> Result<Last, Trouble> {
     })
 }
 
-/// The same for both.
+/// The same for the end of the process and for the power failure.
 fn lasts_of(alloc: Global, start: &Pair, seen: Seen) -> Result<Lasts, Trouble> {
     let killed = last_of(alloc, start, seen)?;
     match last_of(alloc, start, seen) {

@@ -19,7 +19,8 @@ abbrev pub IsCounted : List Message → Option ℕ → Type 0
 IsCounted set None = Unit {0}
 IsCounted set (Some count) = IsCount set count
 
--- the set once the message came, which was new, or which it had
+-- the set after the message came: with the message where it was new, and as it was where the set
+-- had the message
 abbrev pub set_after : Arrival → List Message → Message → List Message
 set_after New set m = set ++ m ∷ []
 set_after Held set m = set
@@ -40,14 +41,16 @@ abbrev pub IsKnownOfUp : (Clean Up : Type 0) → Option Known → Type 0
 IsKnownOfUp Clean Up None = Unit {0}
 IsKnownOfUp Clean Up (Some known) = Clean → Up
 
--- A desk that was made holds nothing. What the look told of the messages of one that was found, if
--- it told anything, is known of what the desk holds, and so is how many they are.
+-- A desk that was made holds nothing. Where a desk was found, what the look told of its messages,
+-- if anything, is known of what the desk holds, and so is the number of messages that the look
+-- told, if any.
 abbrev pub IsOriginOf : (Message → Type 0) → Origin → Type 0
 IsOriginOf S Made = IsNothing S
 IsOriginOf S (Found told count) = IfSome told (IsKnownOf S) × IfSome count (IsCountOf S)
 
--- At first what is gathered from no messages is known of a desk that was made, and of one that was
--- found what the look told, and how many its messages are, if it told that; no report was made.
+-- What is known at first: for a desk that was made, what is gathered from no messages; for a desk
+-- that was found, what the look told, and how many messages there are, if the look told that. No
+-- report was made yet.
 abbrev pub IsKnownAtFirst : Origin → Option Known → Type 0
 IsKnownAtFirst Made None = Unit {0}
 IsKnownAtFirst Made (Some known) =

@@ -18,7 +18,7 @@ IsBehind messages m = (n : Message) → Contains messages n → TextPrecedes (wi
 abbrev pub NobodySpeaks : List Message → RequestName → Type 0
 NobodySpeaks messages name = (m : Message) → Contains messages m → name_in m ≡ name → ⊥
 
--- some message of the set is about the name, and these are all that are
+-- some message of the set is about the name, and these are all such messages
 pub record IsToldAt (messages : List Message) (name : RequestName) (about : About) : Type 0 where
   pub spoken : (m : Message) × Contains messages m × (name_in m ≡ name)
   pub told : TellsMessages messages name about

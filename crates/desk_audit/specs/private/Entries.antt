@@ -9,7 +9,8 @@ use Rattle.outcomes.specs.Outcomes.{ComesTo}
 use Rattle.desk_audit.specs.Told.{TellsMessages, name_in}
 use Rattle.findings.specs.declared.entry.AuditEntry.{AuditEntry}
 
--- a name that a message of the list is about, with all of the list, and what the set comes to there
+-- a name that a message of the list is about, with all the list's messages about the name, and the
+-- status that the set comes to there
 pub record IsEntryOf (f : RosterFields Cmnd)
     (messages list : List Message) (entry : AuditEntry) : Type 0 where
   pub spoken : (m : Message) × Contains list m × (name_in m ≡ entry.name)

@@ -21,8 +21,8 @@ use Rattle.desk_commands.specs.declared.refusal.JobRefusal.TheVariants as reason
 use Rattle.desk_args.specs.declared.task.Job.{Job}
 use Rattle.desk_args.specs.declared.task.Store.{Store}
 
--- It has an answer, and what is to be said beside it was said on the standard error; or it is
--- refused for a reason that it may be refused for.
+-- The job has an answer, and what is to be said beside the answer was said on the standard error;
+-- or the job is refused for a reason that it may be refused for.
 pub record IsOutcome (job : Job) (files : List (List ℕ))
     (k : AroundJob) (input : Option (List ℕ)) (result : Result Answer JobRefusal)
     (err_before err_after : Option (List ℕ)) : Type 0 where

@@ -15,8 +15,8 @@ IsPut old m new = (Contains old m × (new ≡ old)) ⊎ ((¬ Contains old m) × 
 abbrev pub has_text : List (String Global) → List ℕ → Bool
 has_text texts bytes = list_any (λ t. bytes_eq bytes (string_bytes t)) texts
 
--- Each is a message, none comes twice, and a message is among them exactly where its text is among
--- the texts.
+-- Each member of the list is a valid message, no message comes twice, and a message is in the list
+-- exactly where its text is among the texts.
 pub record IsKept (messages : List Message) (texts : List (String Global)) : Type 0 where
   pub only : (m : Message) → Contains messages m → IsMessage m
   pub once : AllPairs (λ m n. m ≢ n) messages

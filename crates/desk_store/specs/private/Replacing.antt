@@ -22,7 +22,7 @@ abbrev pub BecomesAt : List ℕ → Database → Trees → Type 0
 BecomesAt roster old trees =
     (db : Database) → db.trees ≡ trees → IsDatabase db → Becomes roster old db
 
--- All of it was done in one commit, or nothing.
+-- The whole replacing was done in one commit, or nothing was.
 pub record Replaces {A E : Type 0} (roster : List ℕ)
     (old new : State) (result : Result A E) : Type 0 where
   pub rests : Rests new

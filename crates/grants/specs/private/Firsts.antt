@@ -28,8 +28,8 @@ abbrev pub is_sooner : Mark → Option Mark → Bool
 is_sooner mark None = true
 is_sooner mark (Some other) = nat_lt mark.at other.at
 
--- the earliest of this mark and of those that pass; of two at one moment, the one that comes first
--- in the list
+-- the earliest of this mark and the marks that pass the test; where two have one moment, the mark
+-- that comes first in the list
 abbrev pub earliest_from : Option Mark → (Mark → Bool) → List Mark → Option Mark
 earliest_from first test [] = first
 earliest_from first test (mark ∷ more) =

@@ -33,6 +33,6 @@ is_left (Some moment) last = nat_le moment last
 abbrev pub names : RequestFields → List ℕ → Bool
 names q host = list_any (λ h. bytes_eq h host) q.hosts
 
--- It names the host, and asks for a window that ends late enough for a line to be left.
+-- The request names the host, and asks for a window that ends late enough for a line to be left.
 abbrev pub may_have : Option ℕ → List ℕ → RequestFields → Bool
 may_have after host q = is_left after q.until && names q host

@@ -1,4 +1,4 @@
--- Those whose verdicts of a kind count. For private clauses.
+-- People whose verdicts of a kind count. For private clauses.
 use Rattle.std.specs.Prelude.{Bool}
 use Rattle.grants.specs.private.Firsts.{has_counting}
 use Rattle.grants.specs.declared.marks.Mark.{Mark}

@@ -54,7 +54,7 @@ AreListed index summaries =
     (name : RequestName) (k : Kept) → at_name summaries name ≡ Some k
     → IsListed index name k.request
 
--- ---- what is left of it
+-- ---- which grants are left
 
 -- Whether a grant whose request asks for this end can be left: without a moment each can, and with
 -- one each that may end then or later.

@@ -1,4 +1,4 @@
--- The messages of a set about some of its names, and what is known of them.
+-- The messages of a set about some of the set's names, and the knowledge that they give.
 use Rattle.std.specs.Prelude.{◌≡◌, ◌⊎◌, List, Contains}
 use Rattle.messages.specs.Wire.{IsMessage}
 use Rattle.messages.specs.declared.message.Message.{Message}
@@ -18,8 +18,8 @@ IsCovered messages part name =
     IsDisputed messages name
     ⊎ ((m : Message) → Contains messages m → name_in m ≡ name → Contains part m)
 
--- This is known of a part of the set: it has no message of its own, all that the set has about the
--- name of each of its messages, and all about these names, but for disputed ones.
+-- This is known of a part of the set. The part has only messages of the set: with each message all
+-- that the set has about the same name, and all about these names, but for disputed ones.
 pub record IsPartFor (messages : List Message) (names : List RequestName) (known : Known)
     : Type 0 where
   pub part : List Message

@@ -26,7 +26,7 @@ pub returns-in_err-look-clause-served : goal.returns-in_err-look-clause-served
 returns-in_err-look-clause-served g c =
     handed_on c.in_err-look.field-0.0 c.look.result c.from_residual.result c.in_err-look.was c.from_residual.ensures.1 c.look.ensures.served
 
--- ---- nothing of a desk's
+-- ---- no part of a desk
 
 pub returns-in_ok-make-in-Empty-clause-served : goal.returns-in_ok-make-in-Empty-clause-served
 returns-in_ok-make-in-Empty-clause-served g c =
@@ -72,7 +72,7 @@ pub returns-in_err-make-in-Empty-clause-fits : goal.returns-in_err-make-in-Empty
 returns-in_err-make-in-Empty-clause-fits g c =
     told_no_base c.in_err-make-in-Empty.field-0.0 c.from_residual-in_err-make-in-Empty.result c.from_residual-in_err-make-in-Empty.ensures.1
 
--- ---- something of a desk's
+-- ---- something that is not a desk
 
 pub returns-in-NotADesk-clause-refused : goal.returns-in-NotADesk-clause-refused
 returns-in-NotADesk-clause-refused g c up =

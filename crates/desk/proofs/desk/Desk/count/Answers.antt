@@ -11,7 +11,7 @@ use Rattle.desk.proofs.CountLemmas.{count_of_texts}
 use Rattle.desk.proofs.KnownLemmas.{count_known, known_of_up_with, known_with, lists_still}
 use Rattle.desk.proofs.desk.Desk.count.Goals as goal
 
--- they were counted before
+-- the messages were counted before
 pub returns-in-Some-clause-count : goal.returns-in-Some-clause-count
 returns-in-Some-clause-count g c =
     let K = g.K.Keeper in
@@ -23,7 +23,7 @@ returns-in-Some-clause-count g c =
     subst (λ (o : Option ℕ). IfSome o (IsCount set)) c.in-Some.is found in
     rw (← c.self.view_is) answer
 
--- they are counted now
+-- the messages are counted now
 pub returns-clause-count : goal.returns-clause-count
 returns-clause-count g c = λ set up lists.
     let K = g.K.Keeper in
@@ -34,7 +34,7 @@ returns-clause-count g c = λ set up lists.
     let count : IsCount set (length (map string_bytes list)) = count_of_texts set (map string_bytes list) messages (told set up lists) in
     subst (IsCount set) (length-map list string_bytes ∙ sym c.in_ok-texts.texts.ok.0 ∙ sym c.len-count.ensures) count
 
--- and stay so
+-- and they stay counted
 pub invariant_of-self : goal.invariant_of-self
 invariant_of-self g c =
     let K = g.K.Keeper in
