@@ -25,7 +25,10 @@ from tests.common import desk
 from tests.common.sudo_peer import host_program
 from tests.packages.package_test import furnish
 
+SECOND = "\n## A second desk\n"
+# (and the one of docs/SEVERAL.md)
 PAGE = desk.read("docs", "RUNBOOKS.md")
+PAGE += SECOND + desk.read("docs", "SEVERAL.md").split(SECOND)[1]
 PROGRAM = os.path.abspath(os.environ.get("DESK", desk.PROGRAM[0]))
 BOOK = "/runbooks"  # the folder of the stand-ins
 HERE = "/var/lib/desk"
