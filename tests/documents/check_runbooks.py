@@ -247,6 +247,9 @@ def change(room: Room, roster: str) -> tuple[desk.Run, desk.Run]:
     return room.follow(heading, 1), room.follow(heading, 2)
 
 
+SAYS_YES = 'desk-change-roster() { echo y | command desk-change-roster "$@"; }\n'
+
+
 def by_one_command(room: Room) -> None:
     """The runbook's one command, and a person who says yes."""
     heading = "A roster is changed"
@@ -254,9 +257,8 @@ def by_one_command(room: Room) -> None:
     room.begin(asked, approved)
     new = with_lines("bob = []")
     room.write(f"{BOOK}/new.toml", new)
-    says_yes = 'desk-change-roster() { echo y | command desk-change-roster "$@"; }\n'
     room.says(heading, "it shows which grants change, asks, rebuilds, starts the desk")
-    done = room.follow(heading, 0, says_yes)
+    done = room.follow(heading, 0, SAYS_YES)
     room.holds("it is changed", done.returncode == 0, done)
     shown = re.search(r"ENDS\nann 7 .*\n(?s:.*) bob counts no more \(duty\)\n", done.stdout)
     room.holds("what ends", shown is not None, done)
@@ -381,19 +383,23 @@ def mails(room: Room, *subjects: str) -> str:
 
 
 def with_relay(room: Room) -> None:
-    """The desk of examples/break-glass.toml, and a relay that rings the bells."""
+    """The desk with what examples/break-glass.toml adds, and a relay that rings the bells."""
     heading = "Nobody can approve"
     (notify,) = blocks(section(heading), "toml")
     example = desk.read("examples", "break-glass.toml")
     room.says(heading, "`examples/break-glass.toml` has a person `glass`")
     has_both = "\nglass = [" in example and "\n[ceilings.break-glass]\n" in example
     room.holds("the example has its part", has_both, example)
-    shutil.copy(f"{desk.EXAMPLES}/break-glass.toml", room.path(FILES[0]))
+    shutil.copy(f"{desk.EXAMPLES}/break-glass.toml", room.path(DOC))
+    on_call = example.replace("[people]\n", '[people]\nann = ["on-call"]\n')
+    room.write(f"{BOOK}/new.toml", on_call)
     settings = desk.read("relays", "relay.example.toml")
     room.write("/etc/desk/relay.toml", settings.partition("[page]")[0] + notify)
     room.write("/etc/desk/bells", "# all\nbob robert@site\ndave dave@site\nann ann@site\n")
+    added = room.follow(heading, 0, SAYS_YES)
+    room.holds("it is added", added.returncode == 0, added)
     made = room.run(
-        f"systemctl stop desk; rm {HERE}/*; systemctl start desk; systemctl start desk-relay-post;"
+        "systemctl start desk-relay-post;"
         " ssh-keygen -q -t ed25519 -N '' -f /root/ann && desk-relay-person add ann /root/ann.pub"
     )
     room.holds("the relay", made.returncode == 0, made)
@@ -403,7 +409,7 @@ def no_approver(room: Room) -> None:
     heading = "Nobody can approve"
     room.begin()
     with_relay(room)
-    done = room.follow(heading, 0)
+    done = room.follow(heading, 1)
     phrase = re.search(r"for the envelope: \S{24}\n", done.stdout)
     room.holds("the envelope", phrase is not None, done)
     # (it tells what comes from its first round on; root's sqlite3 would make an outbox that is not
@@ -412,7 +418,7 @@ def no_approver(room: Room) -> None:
     told = f"[ -s {box} ] && grep -q told_from <(sqlite3 {box} .dump)"
     room.run(f"for _ in $(seq 600); do {told} && break; sleep 0.1; done")
     room.says(heading, "its use rings every bell", "An asker's own approval counts under no")
-    done = room.follow(heading, 1)
+    done = room.follow(heading, 2)
     room.holds("the key approves", "It is in force from" in done.stdout, done)
     room.holds("everything on the host", room.may("/usr/bin/env"), done)
     subjects = ("ann asks.", "glass approved ann 1.", "ann 1 is granted.")
@@ -421,9 +427,9 @@ def no_approver(room: Room) -> None:
         part = rung.partition(f"Subject: [desk] BREAK-GLASS: {subject}")[0].split("To: ")[-1]
         everybody = all(f"{it}@site" in part for it in ("ann", "dave", "robert"))
         room.holds(f"every bell: {subject}", everybody, rung)
-    done = room.follow(heading, 2)
-    room.holds("it ends", done.returncode == 0 and not room.may("/usr/bin/env"), done)
     done = room.follow(heading, 3)
+    room.holds("it ends", done.returncode == 0 and not room.may("/usr/bin/env"), done)
+    done = room.follow(heading, 4)
     reviewed = re.search(r"approve +\d+Z glass counts\n(?s:.*)nobody answers", done.stdout)
     room.holds("it is reviewed", reviewed is not None, done)
     alone = "-o IdentitiesOnly=yes -o IdentityAgent=none"
@@ -729,7 +735,7 @@ def relay_account_lost(room: Room) -> None:
     is_shown = forged in done.stdout.splitlines()
     is_said = "its outbox proves nothing" in " ".join(section(heading).split())
     room.holds("a forged line in the outbox is shown, or said not to be", is_shown or is_said, done)
-    room.says(heading, "A relay's account `desk-relay`, or its machine**: the same, off the")
+    room.says(heading, "`deluser desk-relay desk-front`; then as above, but **its outbox proves")
     room.says(heading, "ask people which lines of `/root/held` are theirs")
     made = room.run(f"{FRONT_CA} auditor web && cp /etc/desk/front/auditor-web.* /root/stolen")
     before = by_certificate(room, "/root/stolen/auditor-web", "/v1/messages")
