@@ -29,6 +29,7 @@ SSH = f"Host desk\n    HostName localhost\n    User desk-relay\nHost *\n{sites.Q
 MAY = "sudo -n -l -U ann -u root --"
 SERVED = ("desk.service", "desk-relay-post.service")
 FULL = "head -c 99M /dev/zero > /mnt/small/filler"
+ASKS = "ask db-care --on db1 --as root --for 1h --yes --again /usr/bin/id"
 PEOPLE = ("ann", "bob", "carol", "dave")
 
 
@@ -209,7 +210,7 @@ def large_disk(books: Books, folders: tuple[str, ...]) -> None:
 
 def granted(books: Books) -> str:
     """A request of ann's by ssh that is granted: its number."""
-    asked = books.as_person("ann", "ask db-care --on db1 --as root --for 1h --yes --again /usr/bin/id")
+    asked = books.as_person("ann", ASKS)
     number = books.number(asked.stdout)
     done = books.as_person("bob", f"approve ann {number} --yes")
     books.holds("it is granted", "It is in force from" in done.stdout, (asked, done))
@@ -225,7 +226,7 @@ def ends_on_a_full_disk(books: Books, number: str, what: str) -> None:
     books.holds(f"{what}: it is revoked", "acknowledged that you revoked it" in done.stdout, done)
     grants = on.out(f"{ASK}/v1/grants/{near(0)}")
     books.holds(f"{what}: it is over", f"ann {number} " not in grants, grants)
-    late = books.as_person("carol", "ask db-care --on db1 --as root --for 1h --yes /usr/bin/id")
+    late = books.as_person("carol", ASKS)
     books.holds(f"{what}: nothing else is granted", "acknowledged" not in late.stdout, late)
 
 
@@ -251,7 +252,7 @@ def the_disk_is_full(books: Books) -> None:
     small_disk(books, folders[:1])
     number = granted(books)
     on.run(FULL)
-    done = books.as_person("ann", "ask db-care --on db1 --as root --for 1h --yes --again /usr/bin/id")
+    done = books.as_person("ann", ASKS)
     books.holds("a request waits at the relay", "not yet at the desk" in done.stdout, done)
     ends_on_a_full_disk(books, number, "the desk's own")
     books.holds("its reserve is given up", on.holds("test -e /run/desk-reserve/free"))

@@ -1,6 +1,6 @@
-"""The lives of a machine with all packages of the desk: installed, enabled, restarted, booted again,
-upgraded, and rid of them. `python3 -m tests.machines.lives [FOLDER]` takes the packages of a folder
-(build/deb).
+"""The lives of a machine with all packages of the desk: installed, enabled, restarted, booted
+again, upgraded, and rid of them. `python3 -m tests.machines.lives [FOLDER]` takes the packages of a
+folder (build/deb). With LAST=FOLDER it upgrades a machine from the packages of the last release.
 
 Nothing here is a stand-in: apt, dpkg and systemd are Debian's, on a machine that boots. (Nobody
 asks for mail, and the desk's messages are those of examples/.)
@@ -242,8 +242,8 @@ def again(life: Life) -> None:
     """Installed once more over what a purge leaves: the messages are those that were there."""
     life.does("apt installs again", f"cd {FIRST} && apt install ./*.deb")
     life.is_state("installed again", "desk.service", "inactive, disabled")
-    enabled_again = f"cd {EXAMPLES} && cp roster.toml /etc/desk/ && cp site.sudo /etc/desk/base.sudo"
-    life.does("enabled again", f"{enabled_again} && systemctl enable --now desk")
+    settings = f"cd {EXAMPLES} && cp roster.toml /etc/desk/ && cp site.sudo /etc/desk/base.sudo"
+    life.does("enabled again", f"{settings} && systemctl enable --now desk")
     kept(life, "installed again")
 
 
@@ -263,10 +263,11 @@ PARTS: tuple[Callable[[Life], None], ...] = (
 def from_release(site: Site, source: str, last: str) -> Life:
     """A machine of the last release's packages, which is upgraded to these."""
     life = Life(site.machine("db1").boot())
-    brought(life.machine, last)
-    life.machine.run(f"mv {FIRST} /root/last; rm -r {SECOND}; mkdir {FIRST}")
-    for deb in glob.glob(os.path.join(source, "*.deb")):
-        shutil.copy(deb, life.machine.path(FIRST))
+    os.mkdir(life.machine.path("/root/last"))
+    for deb in glob.glob(os.path.join(last, "*.deb")):
+        shutil.copy(deb, life.machine.path("/root/last"))
+    # (a version that is later than the last release's, whatever it is called)
+    brought(life.machine, source)
     life.does("the last release", "cd /root/last && apt install ./*.deb")
     machine = life.machine
     machine.run(f"cd {EXAMPLES} && cp roster.toml /etc/desk/ && cp site.sudo /etc/desk/base.sudo;"
@@ -274,7 +275,7 @@ def from_release(site: Site, source: str, last: str) -> Life:
     life.does("it is enabled", f"systemctl enable --now {' '.join(SERVED)} {FETCH}")
     for line in machine.read(f"{EXAMPLES}/approved.messages").splitlines():
         machine.run(f"{ASK}/v1/relays/chat/messages --data-binary '{line}'")
-    upgraded(life, FIRST)
+    upgraded(life, SECOND)
     return life
 
 

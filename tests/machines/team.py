@@ -1,8 +1,8 @@
 """docs/TEAM.md to the letter, on three machines that boot: the desk's, a host, and the people's.
 `python3 -m tests.machines.team [FOLDER]` takes the packages of a folder (build/deb).
 
-Each block is run where the page says, by Debian's own apt, systemd, ssh, scp, nginx and sudo. People
-type what the page has them type; what they are asked is answered with yes.
+Each block is run where the page says, by Debian's own apt, systemd, ssh, scp, nginx and sudo.
+People type what the page has them type; what they are asked is answered with yes.
 """
 
 from __future__ import annotations
@@ -176,7 +176,8 @@ def watched(team: Team) -> None:
         " scp -p /etc/desk/front/host-prod1.key prod1:/etc/desk/host.key"
     )
     found = host.run("desk-host check --textfile /tmp/host.prom; cat /tmp/host.prom")
-    team.holds("a certificate that ends", "/etc/desk/host.pem ends on" in found.stdout, (made, found))
+    is_told = "/etc/desk/host.pem ends on" in found.stdout
+    team.holds("a certificate that ends", is_told, (made, found))
     team.holds("its figure", "desk_host_certificate_seconds 2" in found.stdout, found)
     host.run("userdel carol; systemctl stop desk-fetch@prod1.timer")
     found = host.run("desk-host check")
