@@ -24,8 +24,8 @@ put() {
 
 # Writes the places of the programs into a text, and puts that in place.
 fill() {
-    sed "s,@LIBEXECDIR@,$libexec,g; s,@SBINDIR@,$PREFIX/sbin,g; s,@BINDIR@,$PREFIX/bin,g; s,@PREFIX@,$PREFIX,g" \
-        "$1" > "$room/filled"
+    sed "s,@LIBEXECDIR@,$libexec,g; s,@SBINDIR@,$PREFIX/sbin,g; s,@BINDIR@,$PREFIX/bin,g" "$1" |
+        sed "s,@PREFIX@,$PREFIX,g" > "$room/filled"
     put "$2" "$room/filled" "$3"
 }
 

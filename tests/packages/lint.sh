@@ -34,7 +34,8 @@ cp desk-consume@.service desk-consume@a.service
 cp desk-end@.service desk-end@1.service
 cp desk-failed@.service desk-failed@a.service
 cp desk-reserve@.service desk-reserve@a.service
-for unit in desk.service desk-reserve{.socket,@a.service} desk-watch.{service,timer} desk-fetch@db1.service desk-fetch@db1.timer desk-sessions.{service,timer} \
+for unit in desk.service desk-reserve{.socket,@a.service} desk-watch.{service,timer} \
+    desk-fetch@db1.service desk-fetch@db1.timer desk-sessions.{service,timer} \
     desk-check.{service,timer} desk-starts.{service,path} desk-{end@1,failed@a}.service \
     desk-relay-{post,page,notify}.service desk-door.service desk-consume@a.service; do
     status=0

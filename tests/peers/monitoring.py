@@ -401,13 +401,13 @@ def programs(folder: str) -> Iterator[Row]:
     """Whether the program is proved, by its own word."""
     for said, status, says in (
         ("desk 1.0\\nproved with rattle logic 1\\n", 0, "DESK OK | desk_proved=1"),
-        ("desk 1.0\\nNOT PROVED: rattle logic 1\\n", 1, "is NOT PROVED: it is for trials | desk_pr"),
+        ("desk 1.0\\nNOT PROVED: rattle logic 1\\n", 1, "is NOT PROVED: it is for trials |"),
         ("", 2, "it says no version of a desk"),
     ):
         path = desk.write(folder, "program", f"#!/bin/sh\nprintf '{said}'\n")
         os.chmod(path, 0o755)
         yield f"a program that says {said!r}", *is_said(check("--program", path), status, says)
-    yield "no program", *is_said(check("--program", "/nowhere/desk"), 2, "there is no /nowhere/desk")
+    yield "no program", *is_said(check("--program", "/nowhere/it"), 2, "there is no /nowhere/it")
 
 
 def fronts(folder: str) -> Iterator[Row]:
