@@ -11,7 +11,7 @@ import re
 import sqlite3
 import urllib.parse
 from collections.abc import Callable, Iterable, Iterator
-from contextlib import contextmanager
+from contextlib import contextmanager, suppress
 from dataclasses import dataclass, replace
 from datetime import timedelta
 from functools import lru_cache
@@ -208,6 +208,10 @@ class Outbox:
         return write()
 
     def has_room(self) -> bool:
+        """Whether anything is kept and posted here. (One that was opened to be read is opened anew:
+        it sees nothing of what others wrote since.)"""
+        with suppress(sqlite3.OperationalError):
+            self.open_again()
         return not self.is_reading and self.reserve.has_room()
 
     def keep_request(

@@ -139,6 +139,24 @@ def test_nothing_else_is_posted_meanwhile(small: Path) -> None:
     outbox.close()
 
 
+def test_what_others_write_meanwhile_is_posted(small: Path) -> None:
+    """Who opened the outbox on a full disk, to read it, posts what others keep there later on."""
+    path = str(small / "outbox.db")
+    Outbox(path).close()
+    desk = Desk(f"unix:{small}/none.sock", "chat")
+    filler = fill(small)
+    poster = Outbox(path)
+    assert posting.to_post(poster, desk) == []
+    other = Outbox(path)
+    revoked = other.keep_verdict(verdict("revoke", 7))
+    assert [it.id for it in posting.to_post(poster, desk)] == [revoked.id]
+    filler.unlink()
+    request = other.keep_request("ann", WISH, AT)
+    assert [it.id for it in posting.to_post(poster, desk)] == [revoked.id, request.id]
+    poster.close()
+    other.close()
+
+
 class Keeper:
     """What answers for a desk's reserve."""
 

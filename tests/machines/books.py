@@ -184,8 +184,8 @@ def a_key_is_lost(books: Books) -> None:
     books.holds("nobody calls", done.returncode != 0 and "ann" not in done.stdout, done)
     past = books.desk.run(f"runuser -u desk-relay -- {ASK}/v1/count")
     books.holds("nor opens the desk's socket", past.returncode != 0, past)
-    books.desk.run("usermod --unlock --expiredate '' desk-relay; passwd -d desk-relay;"
-                   " adduser desk-relay desk-front; systemctl enable --now desk-relay-post")
+    books.desk.run("chage -E -1 desk-relay; adduser desk-relay desk-front;"
+                   " systemctl enable --now desk-relay-post")
     books.does("it is let in again", "systemctl is-active desk-relay-post")
 
 
@@ -227,7 +227,7 @@ def ends_on_a_full_disk(books: Books, number: str, what: str) -> None:
     grants = on.out(f"{ASK}/v1/grants/{near(0)}")
     books.holds(f"{what}: it is over", f"ann {number} " not in grants, grants)
     late = books.as_person("carol", ASKS)
-    books.holds(f"{what}: nothing else is granted", "acknowledged" not in late.stdout, late)
+    books.holds(f"{what}: nothing else comes in", "To approve it" not in late.stdout, late)
 
 
 def the_disk_is_full(books: Books) -> None:
@@ -256,6 +256,9 @@ def the_disk_is_full(books: Books) -> None:
     books.holds("a request waits at the relay", "not yet at the desk" in done.stdout, done)
     ends_on_a_full_disk(books, number, "the desk's own")
     books.holds("its reserve is given up", on.holds("test -e /run/desk-reserve/free"))
+    door = "curl -sS -m 9 --unix-socket /run/desk-reserve/socket http://desk"
+    shut = on.run(f"runuser -u nobody -- {door}")
+    books.holds("nobody has it given up", shut.returncode == 7, shut)
     on.run("rm /mnt/small/filler")
     is_posted = on.wait("runuser -u desk-relay -- sqlite3 /var/lib/desk-relay/outbox.db"
                         " \"SELECT count(*) FROM messages WHERE state = 'kept'\" | grep -qx 0", 60)
