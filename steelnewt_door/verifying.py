@@ -186,8 +186,8 @@ class Verifier:
             later = [it for it in self.signers.moments() if it > at]
             if at not in self.signers.moments():
                 raise BadSigners(f"there are no signers of {at}")
-            version = Copied(at, self.signers.version(at).folder)
-            self.versions[at] = version, later[0] if later else "9"
+            copied = Copied(at, self.signers.version(at).folder)
+            self.versions[at] = copied, later[0] if later else "9"
         version, end = self.versions[at]
         if not at <= row["at"] <= end:
             raise BadSigners(f"the signers of {at} did not hold at {row['at']}")
