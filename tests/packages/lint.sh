@@ -54,7 +54,7 @@ for unit in desk.service desk-reserve@a.service desk-fetch@db1.service \
     awk -v it="$figure" -v most="$MOST" 'BEGIN { exit !(it != "" && it + 0 <= most) }' || status=1
     verdict "systemd-analyze security $unit" $status
 done
-# `systemctl enable`, as docs/OPERATING.md has it, starts each with the machine
+# `systemctl enable`, as docs/TEAM.md has it, starts each with the machine
 wants=$room/etc/systemd/system
 status=0
 systemctl --root="$room" -q enable desk.service desk-fetch@db1.timer desk-consume@b || status=1
