@@ -156,6 +156,10 @@ def words() -> argparse.Namespace:
     )
     given = parser.parse_args()
     check_words(parser, given)
+    # (as serve.conf has an address, and no store)
+    if given.desk and re.fullmatch(r"[^/]+:[0-9]+", given.desk):
+        given.desk = f"http://{given.desk}"
+    given.store = None if given.store == "-" else given.store
     return given
 
 

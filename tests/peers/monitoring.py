@@ -162,6 +162,8 @@ def desks(folder: str) -> Iterator[tuple[str, bool, str]]:
             1,
             "WARNING - the store has ",
         )
+        bare = check("--desk", address.removeprefix("http://"), "--store", "-")
+        yield "as serve.conf has it", *is_said(bare, 0, "DESK OK |")
         yield "no store", *is_said(
             check("--desk", address, "--store", "/nowhere.db"), 2, "there is no /nowhere.db"
         )
