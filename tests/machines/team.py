@@ -125,7 +125,7 @@ def people(team: Team) -> None:
     team.holds("they sign it", all(it.returncode == 0 for it in signs), signs)
     for person in PEOPLE:
         team.desk.write(f"/root/{person}.line", team.lap.read(f"/home/{person}/{person}.line"))
-    done = team.next("sh", given="yes\n" * 9)
+    done = team.next("sh", given="y\n" * 9)
     team.holds("whose key is whose", done.stdout.count(" hold\n") == 3, done)
     _, ask, waiting, approved = team.people()
     team.holds("ann asks", "Kept as ann 1." in ask.stdout, ask)
