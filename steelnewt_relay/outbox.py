@@ -124,6 +124,14 @@ def kept_of(
     return Kept(id, read(body), state, answer, True, Reason(*reason), signature)
 
 
+def is_taking_away(text: str) -> bool:
+    """Whether a text, whoever wrote it, is a message that takes a right away."""
+    with suppress(ValueError, TypeError, KeyError, AttributeError, RecursionError):
+        message = read(text)
+        return isinstance(message, Verdict) and message.kind in TAKES_AWAY
+    return False
+
+
 class Outbox:
     def __init__(
         self, path: str, numbers: tuple[int, int] = (1, 999_999_999), signs: bool = True
@@ -293,8 +301,7 @@ class Outbox:
     def keep_signed(self, by: str, signed: Signed) -> Kept:
         """Keeps a message that was prepared for this person, with the signature. The same message
         again is the same, with the signature that came first."""
-        message = read(signed.message)
-        takes_away = isinstance(message, Verdict) and message.kind in TAKES_AWAY
+        takes_away = is_taking_away(signed.message)
         return self.spending(lambda: self.try_signed(by, signed, takes_away), takes_away)
 
     def try_signed(self, by: str, signed: Signed, takes_away: bool) -> Kept:

@@ -37,6 +37,10 @@ class Added:
             if key not in (*LISTS, "people", "ceilings") or not isinstance(node.held, kind):
                 raise CannotEdit(f"{name}: no roster has such a {key}")
 
+    def tables(self, key: str) -> list[tuple[str, Node]]:
+        """What stands in a table, by its names."""
+        return list(self.tree[key].held.items()) if key in self.tree else []
+
     def words(self, node: Node) -> str:
         return self.text[node.start : node.end]
 
@@ -63,18 +67,17 @@ def added(text: str, more: str, name: str) -> str:
     roster, new = RosterText(text), Added(more, name)
     for key in LISTS:
         if key in new.tree:
-            there = roster.tree[key]
-            lacks = new.lacking(key, there.held, new.tree[key])
+            lacks = new.lacking(key, roster.tree[key].held, new.tree[key])
             if lacks:
-                roster.edits += roster.appended(there, lacks)
-    for person, node in new.tree["people"].held.items() if "people" in new.tree else ():
+                roster.edits += roster.appended(roster.tree[key], lacks)
+    for person, node in new.tables("people"):
         there = roster.people.get(person)
         lacks = new.lacking(person, there.held if there else [], node)
         if lacks or there is None:
             roster.fresh[person] = lacks
     ceilings = roster.tree["ceilings"].held
     tail = ""
-    for label, node in new.tree["ceilings"].held.items() if "ceilings" in new.tree else ():
+    for label, node in new.tables("ceilings"):
         if label not in ceilings:
             tail += f"\n{new.ceiling(label, node)}"
         elif plain(ceilings[label]) != plain(node):
