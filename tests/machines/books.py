@@ -122,6 +122,22 @@ def a_right_has_to_end_now(books: Books) -> None:
     books.holds("sudo on the host says 1", lines[-1:] == ["1"], done)
 
 
+def people_are_told(books: Books) -> None:
+    """Who acts is told what hosts know, and may ask again for what was taken away."""
+    ask = ASKS.replace(" --again", "")
+    number = granted(books)
+    done = books.as_person("bob", f"revoke ann {number} --yes")
+    told = "Each host takes it away with its next fetch, within 5 minutes" in done.stdout
+    books.holds("who revokes is told of the hosts", told, done)
+    done = books.as_person("ann", ask)
+    books.holds("what was revoked is asked for again", "Kept as ann" in done.stdout, done)
+    done = books.as_person("ann", ask)
+    books.holds("and twice is a slip", "the same just now" in done.stdout, done)
+    books.desk.run("ssh-keygen -q -t ed25519 -N '' -f /root/zed")
+    done = books.desk.run("desk-relay-person add zed /root/zed.pub")
+    books.holds("a name that the roster lacks", "nobody whose name is zed" in done.stderr, done)
+
+
 def the_desk_is_down(books: Books) -> None:
     """The line for the night is a host's, whose sudo asks nobody; and what a person starts often
     starts."""
@@ -329,6 +345,7 @@ def a_restore(books: Books) -> None:
 BOOKS: tuple[Callable[[Books], None], ...] = (
     a_roster_is_changed,
     a_right_has_to_end_now,
+    people_are_told,
     the_desk_is_down,
     nobody_can_approve,
     a_key_is_lost,

@@ -124,6 +124,9 @@ def enabled(life: Life) -> None:
         life.holds("it takes a message", said == "ack", said)
     life.does("a host's certificate", "cd /etc/desk && openssl req -x509 -newkey ed25519 -nodes"
               " -subj /CN=db1 -days 300 -keyout host.key -out host.pem && cp host.pem ca.pem")
+    life.does("a certificate that ends is told", "openssl req -x509 -key /etc/desk/host.key -days 3"
+              " -subj /CN=db1 -out /etc/desk/host.pem; desk-host check > /tmp/said 2>&1;"
+              " cat /tmp/said", "/etc/desk/host.pem ends on ")
     life.does("a host's timer", f"systemctl enable --now {FETCH}")
     for unit in TIMERS:
         found = machine.out(f"systemctl is-active {unit}")
@@ -226,7 +229,8 @@ def removed(life: Life) -> None:
 
 def purged(life: Life) -> None:
     machine = life.machine
-    said = life.does("apt purges", "apt purge 'steelnewt*' python3-steelnewt-client mydesk")
+    names = "dpkg-query -W -f '${Package}\\n' 'steelnewt*' python3-steelnewt-client mydesk"
+    said = life.does("apt purges", f"apt purge $({names} 2> /dev/null)")
     life.holds("purged: the host's key is named", "/etc/desk/host.key stays" in said, said)
     life.holds("purged: what people sent is named", "stay in /var/lib/desk," in said, said)
     links = machine.out("find /etc/systemd -xtype l -name '*desk*'; systemctl list-units 'desk*'"
