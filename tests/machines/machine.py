@@ -81,8 +81,9 @@ class Machine:
         self.site, self.name, self.number = site, name, number
         self.address = f"10.9.0.{number}"
         self.folder = os.path.join(site.folder, name)
-        # (a control group's name of this test's own, beside others')
-        self.group = os.path.join(site.groups, f"steelnewt-{os.getpid()}-{number}")
+        # (control groups are one tree for all: the room's name is this test's own)
+        room = os.path.basename(site.folder)
+        self.group = os.path.join(site.groups, f"steelnewt-{room}-{number}")
         self.process: subprocess.Popen[bytes] | None = None
         self.first = 0
         self.boots = 0
