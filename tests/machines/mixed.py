@@ -1,8 +1,7 @@
 """Machines of two versions: a desk with a relay, and a host, each by the packages of the last
 release or by these. `python3 -m tests.machines.mixed LAST [FOLDER]` (build/deb).
 
-docs/OPERATING.md says which of them work together. The way back is by the old packages, over the
-store and the outbox that the new ones left.
+The way back is by the old packages, over the store and the outbox that the new ones left.
 """
 
 from __future__ import annotations
