@@ -1,5 +1,6 @@
 """docs/RUNBOOKS.md on machines that boot: a desk with a relay and a front, and a host.
-`python3 -m tests.machines.books [FOLDER]` takes the packages of a folder (build/deb); most headings of the page have their function here.
+`python3 -m tests.machines.books [FOLDER]` takes the packages of a folder (build/deb); most headings
+of the page have their function here.
 
 apt, systemd, ssh with an agent, nginx, sudo and full disks are real. What is stood in for: whoever
 edits a file (`editor` puts the new text there), whoever says yes, and a mailbox (`sendmail`). What
