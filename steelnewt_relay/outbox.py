@@ -60,6 +60,8 @@ ON_NAMES = """kind <> 'request'
 NAMED = ON_NAMES.replace("<>", "=")
 # How long somebody may take to sign what was prepared.
 PREPARED_FOR = timedelta(hours=1)
+# (no person's name is empty)
+EVERYBODY = ""
 # Why an approval is not posted.
 UNASKED = "the desk refused the request that it approves"
 
@@ -262,8 +264,9 @@ class Outbox:
 
     def next_number(self, person: str) -> int:
         first, last = self.numbers
-        row = self.base.execute("SELECT last FROM numbers WHERE person = ?", (person,)).fetchone()
-        number: int = max(first, row[0] + 1) if row else first
+        rows = "SELECT last FROM numbers WHERE person IN (?, ?)"
+        used = [row[0] for row in self.base.execute(rows, (person, EVERYBODY))]
+        number: int = max([first, *(it + 1 for it in used)])
         if number > last:
             raise OutOfNumbers(
                 f"{person} has used the numbers up to {last}: ask the desk's operator"
@@ -274,6 +277,16 @@ class Outbox:
             (person, number),
         )
         return number
+
+    def number_past(self, number: int) -> None:
+        """From here on nobody is given a number up to this one: another outbox may have given
+        it, or this one before it was lost."""
+        with self.writing():
+            self.base.execute(
+                "INSERT INTO numbers VALUES (?, ?)"
+                " ON CONFLICT (person) DO UPDATE SET last = max(last, excluded.last)",
+                (EVERYBODY, number),
+            )
 
     def find(self, where: str, *values: object) -> list[Kept]:
         """Messages in the order in which they were kept."""

@@ -44,6 +44,8 @@ def parser() -> argparse.ArgumentParser:
     notify.add_argument("--every", type=float, default=5.0, help="seconds between two rounds")
     jobs.add_parser("page", help="serve the page, until SIGTERM")
     jobs.add_parser("post-again", help="post again all that was acknowledged")
+    past = jobs.add_parser("number-past", help="give no number up to this one, to nobody")
+    past.add_argument("number", metavar="NUMBER", type=int)
     jobs.add_parser("sent", help="print the outbox's messages, whoever may have written it")
     jobs.add_parser("reasons", help="print why each request was asked, as lines of JSON")
     return found
@@ -148,6 +150,9 @@ def run_job(config: Config, job: str, said: argparse.Namespace) -> int:
         return notify(config, said.every)
     if job == "post-again":
         return print_lines([f"{config.open_outbox().post_again()} messages are posted again"])
+    if job == "number-past":
+        config.open_outbox().number_past(said.number)
+        return print_lines([f"numbers go on behind {said.number}"])
     if job == "sent":
         return print_lines(bodies(config.outbox))
     if job == "reasons":

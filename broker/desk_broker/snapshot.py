@@ -20,29 +20,19 @@ import sys
 import tempfile
 import time
 
-HEADER = 32  # the log's first bytes: they are others after the log began anew
+from steelnewt_client.copies import TICK, is_settled, mark
+
 TRIES = 50
-# A file's time is that of the system's last tick: a change within one may leave it the same.
-TICK = 0.1
 
 
 class NoSnapshot(Exception):
     """The file is no desk's store, or it changed during each try."""
 
 
-def mark(store: str) -> tuple[int, int, int, bytes]:
-    """What is another after a checkpoint, or after the log began anew."""
-    found = os.stat(store)
-    header = b""
-    with contextlib.suppress(FileNotFoundError), open(store + "-wal", "rb") as log:
-        header = log.read(HEADER)
-    return found.st_ino, found.st_size, found.st_mtime_ns, header
-
-
 def copy_once(store: str, copy: str) -> bool:
     """Copies the store and its log; whether there was no checkpoint meanwhile."""
     before = mark(store)
-    if time.time() - before[2] / 1e9 < TICK:
+    if not is_settled(before):
         return False
     shutil.copyfile(store, copy)
     with contextlib.suppress(FileNotFoundError):
