@@ -51,6 +51,7 @@ done
 broker=(consume publish fill refused snapshot compare check-queues broker-definitions)
 for name in desk desk-audit desk-lint desk-import desk-used desk-evidence desk-change-roster \
     desk-roster desk-demo desk-relay desk-relay-person desk-door desk-signer desk-verify mydesk \
+    desk-backup desk-restore \
     "${broker[@]/#/desk-}"; do
     put 0644 "$room/pages/$name.bash" "$PREFIX/share/bash-completion/completions/$name"
     put 0644 "$room/pages/_$name" "$PREFIX/share/zsh/$zsh/_$name"
@@ -67,7 +68,7 @@ case $PREFIX in
     /usr/local) layout='' where=() ;;
 esac
 mkdir -p "$room/python/build/python"
-cp -r --parents pyproject.toml steelnewt_client steelnewt_relay steelnewt_door broker/desk_broker \
+cp -r --parents pyproject.toml steelnewt_{client,relay,door,backup} broker/desk_broker \
     tools/desk_tools tools/schemas docs/CODES.md "$room/python"
 DEB_PYTHON_INSTALL_LAYOUT=$layout /usr/bin/python3 -m pip --disable-pip-version-check install \
     --quiet --no-index --no-deps --no-build-isolation --ignore-installed --no-warn-script-location \
@@ -75,12 +76,12 @@ DEB_PYTHON_INSTALL_LAYOUT=$layout /usr/bin/python3 -m pip --disable-pip-version-
 packages=("$root$PREFIX"/lib/python3*/dist-packages)
 rm -f "${packages[0]}"/steelnewt-*.dist-info/{INSTALLER,RECORD,REQUESTED,direct_url.json}
 for name in desk-{lint,import,used,evidence,change-roster,roster,demo,relay,relay-person} \
-    desk-{door,signer,verify} "${broker[@]/#/desk-}"; do
+    desk-{door,signer,verify,backup,restore} "${broker[@]/#/desk-}"; do
     # (nothing of the caller's environment, or of the folder that it is in, is imported)
     sed -i '1s,.*,#!/usr/bin/python3 -I,' "$root$PREFIX/bin/$name"
 done
 mkdir -p "$root$PREFIX/sbin"
-for name in desk-relay-person desk-signer; do
+for name in desk-relay-person desk-signer desk-backup desk-restore; do
     mv "$root$PREFIX/bin/$name" "$root$PREFIX/sbin/$name"
 done
 # (the lines of people's keys that earlier versions wrote call the relay there)
@@ -102,6 +103,7 @@ done
 put 0755 examples/front-ca.sh "$PREFIX/share/doc/steelnewt-relay/examples/front-ca.sh"
 put 0644 examples/door/desk.conf "$PREFIX/share/doc/steelnewt-door/examples/desk.conf"
 [ -e "$root/etc/desk/door.toml" ] || put 0644 door/door.example.toml /etc/desk/door.toml
+[ -e "$root/etc/desk/backup.toml" ] || put 0644 packaging/backup.toml /etc/desk/backup.toml
 [ -e "$root/etc/desk/relay.toml" ] || put 0644 relays/relay.example.toml /etc/desk/relay.toml
 # Several desks behind a broker: its settings.
 for file in rabbitmq.conf tls.conf; do

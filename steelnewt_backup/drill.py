@@ -46,7 +46,9 @@ class Drilled:
 def serving(site: Site, address: str) -> subprocess.Popen[bytes]:
     """The restored desk, where nothing of the network or of other mounts reaches it."""
     path = address.removeprefix("unix:")
-    words = [*APART, "--", *site.words("serve", address)]
+    found = os.stat(site.path("STORE"))
+    own = [f"--reuid={found.st_uid}", f"--regid={found.st_gid}", "--clear-groups"]
+    words = [*APART, "--", "setpriv", *own, *site.words("serve", address)]
     started = subprocess.Popen(words, stdin=subprocess.DEVNULL, stdout=subprocess.PIPE,
                                stderr=subprocess.PIPE)  # fmt: skip
     until = time.monotonic() + PATIENCE
@@ -78,7 +80,7 @@ def beside(drilled: Desk, live: Desk, hosts: list[str], now: str) -> Iterator[st
 
 def compared(site: Site, live: str, backup: Backup, wrong: list[str]) -> Drilled:
     """Serves the restored desk, and compares it with the live one."""
-    address = f"unix:{site.root}/d.sock"
+    address = f"unix:{os.path.dirname(site.path('STORE'))}/d.sock"
     started = serving(site, address)
     try:
         drilled = Desk(address, patience=PATIENCE)

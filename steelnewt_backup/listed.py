@@ -94,4 +94,6 @@ def is_named(path: str) -> bool:
     """Whether the list says something of a path: it is taken or left."""
     taken, left = the_list()
     forms = [form for part in (*taken, *left) for form in part.paths]
-    return any(fnmatch.fnmatchcase(path, form) or path.startswith(f"{form}/") for form in forms)
+    return any(
+        fnmatch.fnmatchcase(path, form) or fnmatch.fnmatchcase(path, f"{form}/*") for form in forms
+    )

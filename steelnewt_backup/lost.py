@@ -14,9 +14,8 @@ from collections.abc import Iterable, Iterator
 from dataclasses import dataclass, field
 from typing import Any, NamedTuple
 
-from steelnewt_backup import machine
 from steelnewt_backup.faults import Failed
-from steelnewt_backup.site import Answer, Site, name_of, relay_program
+from steelnewt_backup.site import Answer, Site, name_of, run_relay
 from steelnewt_client.messages import canonical
 
 ACK = "ack"
@@ -60,16 +59,9 @@ class Told:
 
 def of_outbox(site: Site) -> Source | None:
     """The relay reads its own outbox, as its own account: whoever wrote it, nothing is run."""
-    path = site.outbox()
-    if not path:
+    if not site.outbox():
         return None
-    found = os.stat(path)
-    conf = f"{site.root}/etc/desk/relay.toml"
-    words = [relay_program(), "--config", conf, "sent"]
-    ran = machine.run_as(str(found.st_uid), str(found.st_gid), words)
-    if ran.returncode:
-        raise Failed(f"the outbox cannot be read: {' '.join(ran.stderr.decode().split())}")
-    return Source("the outbox", site.relay(), ran.stdout.decode().splitlines())
+    return Source("the outbox", site.relay(), run_relay(site, "sent").splitlines())
 
 
 def of_journal(root: str) -> list[Source]:

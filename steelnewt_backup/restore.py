@@ -10,6 +10,7 @@ import os
 import time
 from collections.abc import Iterator
 from dataclasses import dataclass
+from typing import Any
 
 from steelnewt_backup import lost, machine
 from steelnewt_backup.faults import Failed, Refused
@@ -17,11 +18,11 @@ from steelnewt_backup.lost import Told
 from steelnewt_backup.manifest import Manifest, backups_in, digest, read_manifest
 from steelnewt_backup.put import Backup, faults, is_same, lacking_room, put_all, set_aside
 from steelnewt_backup.pieces import sync_folder, write_all
-from steelnewt_backup.site import Site, relay_program
+from steelnewt_backup.site import Site, run_relay
 from steelnewt_client.moments import stamp_of
 
 STATE = "/var/lib/desk-restore"
-UNFINISHED = f"{STATE}/unfinished"
+UNFINISHED, LAST = f"{STATE}/unfinished", f"{STATE}/last.json"
 GUARD = "/etc/systemd/system/{}.d/zz-restoring.conf"
 GUARDED = f"[Unit]\nConditionPathExists=!{UNFINISHED}\n"
 ELSEWHERE = "restored"  # the file beside the backups that says where they were restored
@@ -211,12 +212,7 @@ def number_past(site: Site, known: dict[str, int]) -> int:
     floor = -(-(max(own, default=first - 1) + LEAP) // ROUND) * ROUND
     if floor >= last:
         raise Failed(f"{site.root}/etc/desk/relay.toml: numbers end at {last}: give it more")
-    found = os.stat(site.outbox())
-    conf = f"{site.root}/etc/desk/relay.toml"
-    words = [relay_program(), "--config", conf, "number-past", str(floor)]
-    ran = machine.run_as(str(found.st_uid), str(found.st_gid), words)
-    if ran.returncode:
-        raise Failed(f"the outbox's numbers: {' '.join(ran.stderr.decode().split())}")
+    run_relay(site, "number-past", str(floor))
     return floor
 
 
@@ -259,22 +255,41 @@ def restore(backup: Backup, wanted: Wanted) -> tuple[Told, dict[str, int], int]:
         put_all(backup, wanted.root)
         known = recover(site, wanted, told) if site.has_store() or site.outbox() else {}
         floor = number_past(site, known) if site.outbox() else 0
-        write(f"{wanted.root}{STATE}/last.json", json.dumps(backup.manifest.units) + "\n")
+        last = {"at": backup.manifest.at, "units": backup.manifest.units}
+        write(wanted.root + LAST, json.dumps(last) + "\n")
         unguard(wanted.root)
     return told, known, floor
 
 
-def start(root: str) -> list[str]:
-    """Enables and starts the units that ran as the backup was taken: their names."""
-    try:
-        with open(f"{root}{STATE}/last.json", encoding="utf-8") as file:
-            units = json.load(file)
-    except (OSError, ValueError):
-        raise Failed("nothing was restored here") from None
+def settle(wanted: Wanted) -> tuple[Told, dict[str, int], int]:
+    """Fills in and compares once more, before the restored machine is started: with messages that
+    were found since, or with who revokes what hosts no longer have."""
+    with held(wanted.root):
+        last_of(wanted.root)
+        against = [f"{name} runs: it was started already" for name in machine.running()]
+        if against:
+            raise Refused(against)
+        told, site = Told(), Site(wanted.root, wanted.program)
+        known = recover(site, wanted, told)
+        floor = number_past(site, known) if site.outbox() else 0
+    return told, known, floor
+
+
+def last_of(root: str) -> dict[str, Any]:
+    """Which backup was restored here, and what ran as it was taken."""
     if unfinished(root):
         raise Failed("the restore did not end: run it again")
+    try:
+        with open(root + LAST, encoding="utf-8") as file:
+            return dict(json.load(file))
+    except (OSError, ValueError, TypeError):
+        raise Failed("nothing was restored here") from None
+
+
+def start(root: str) -> list[str]:
+    """Enables and starts the units that ran as the backup was taken: their names."""
     found = []
-    for name, (enabled, active) in units.items():
+    for name, (enabled, active) in last_of(root)["units"].items():
         if enabled == "enabled":
             machine.systemctl("enable", name)
         if active in ("active", "activating"):

@@ -12,7 +12,7 @@ from steelnewt_backup.drill import SHOWN, drill, kept
 from steelnewt_backup.faults import Failed, Refused
 from steelnewt_backup.lost import Told
 from steelnewt_backup.put import Backup, faults
-from steelnewt_backup.restore import Wanted, read_backup, restore, start
+from steelnewt_backup.restore import Wanted, last_of, read_backup, restore, settle, start
 from steelnewt_backup.site import DEFAULTS
 
 DONE, OPEN, REFUSED = 0, 1, 2
@@ -45,6 +45,8 @@ def parser() -> argparse.ArgumentParser:
     jobs.add_argument("--look", action="store_true", help="look whether the backup is whole, and end")
     said = "restore it beside the desk that serves, compare, and end"
     jobs.add_argument("--drill", action="store_true", help=said)
+    said = "of a machine that was restored and not started: fill in and compare once more"
+    jobs.add_argument("--settle", action="store_true", help=said)
     said = "start what ran as the backup was taken, and end"
     jobs.add_argument("--start", action="store_true", help=said)
     for name in ("--root", "--desk"):
@@ -106,14 +108,17 @@ def report(told: Told, at: str, known: dict[str, int], floor: int) -> None:
         print(f"The relay's numbers go on behind {floor}: none is given twice.")
 
 
-def restored(said: argparse.Namespace, backup: Backup) -> int:
-    wanted = Wanted(
+def wanted_of(said: argparse.Namespace) -> Wanted:
+    return Wanted(
         said.root, said.of, said.again, tuple(said.messages), said.heard, said.revoke_as, said.desk
     )
-    told, known, floor = restore(backup, wanted)
-    report(told, backup.manifest.at, known, floor)
+
+
+def ended(said: argparse.Namespace, told: Told) -> int:
+    """Starts what ran, where nothing waits for a person."""
     if told.open or told.refused:
-        print("Nothing was started. Settle what is OPEN or NOT TAKEN, then: desk-restore --start")
+        print("Nothing was started. Look at what is OPEN or NOT TAKEN; then desk-restore --settle")
+        print("once more, or desk-restore --start")
         return OPEN
     if not said.root:
         print(*(f"started {it}" for it in start(said.root)), sep="\n")
@@ -124,6 +129,10 @@ def run(said: argparse.Namespace) -> int:
     if said.start:
         print(*(f"started {it}" for it in start(said.root)), sep="\n")
         return DONE
+    if said.settle:
+        told, known, floor = settle(wanted_of(said))
+        report(told, last_of(said.root)["at"], known, floor)
+        return ended(said, told)
     folder = folder_of(said)
     backup = read_backup(folder, said.at, said.identity)
     if said.sha256 and said.sha256 != backup.digest:
@@ -132,7 +141,9 @@ def run(said: argparse.Namespace) -> int:
         return look(backup)
     if said.drill:
         return drilled(said, folder, backup)
-    return restored(said, backup)
+    told, known, floor = restore(backup, wanted_of(said))
+    report(told, backup.manifest.at, known, floor)
+    return ended(said, told)
 
 
 def end(*_: object) -> None:

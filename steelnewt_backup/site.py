@@ -4,6 +4,7 @@ from __future__ import annotations
 
 import json
 import os
+import re
 import shlex
 import shutil
 import sqlite3
@@ -171,8 +172,25 @@ class Site:
         return int(first), int(last)
 
 
-def relay_program() -> str:
-    return place("relays/desk-relay", "bin/desk-relay")
+def run_relay(site: Site, *job: str) -> str:
+    """What the relay's own program prints about its outbox, as the account whose that is."""
+    path = site.outbox()
+    found = os.stat(path)
+    with tempfile.TemporaryDirectory() as folder:
+        os.chmod(folder, 0o755)
+        conf = os.path.join(folder, "relay.toml")
+        with open(site.root + RELAY, encoding="utf-8") as file:
+            text = file.read()
+        with open(conf, "w", encoding="utf-8") as file:
+            # (below another root, the outbox is there)
+            file.write(re.sub(r"(?m)^outbox *=.*$", lambda _: f'outbox = "{path}"', text))
+        os.chmod(conf, 0o644)
+        words = [place("relays/desk-relay", "bin/desk-relay"), "--config", conf, *job]
+        ran = machine.run_as(str(found.st_uid), str(found.st_gid), words)
+    if ran.returncode:
+        said = " ".join(ran.stderr.decode("utf-8", "replace").split())
+        raise Failed(f"the outbox {path}: {said}")
+    return ran.stdout.decode()
 
 
 def name_of(message: str) -> tuple[str, int] | None:
