@@ -11,8 +11,10 @@ from dataclasses import replace
 from steelnewt_backup import settings
 from steelnewt_backup.backup import backup
 from steelnewt_backup.faults import Failed
+from steelnewt_backup.follow import follow
 from steelnewt_backup.listed import items_of, site_part, the_list
 from steelnewt_backup.settings import Settings
+from steelnewt_backup.site import Site
 
 DONE, FAILED = 0, 2
 
@@ -30,7 +32,10 @@ def parser() -> argparse.ArgumentParser:
     found.add_argument("--recipient", action="append", metavar="WHO", help=said)
     found.add_argument("--seal", choices=["secret", "all"], help="what is sealed (secret)")
     found.add_argument("--keep", type=int, metavar="DAYS", help="days whose backups stay (30)")
-    found.add_argument("--list", action="store_true", help="print what would be taken, and end")
+    jobs = found.add_mutually_exclusive_group()
+    jobs.add_argument("--list", action="store_true", help="print what would be taken, and end")
+    said = "write each message of the outbox beside the backups, until SIGTERM"
+    jobs.add_argument("--follow", action="store_true", help=said)
     found.add_argument("--root", default="", help=argparse.SUPPRESS)
     return found
 
@@ -67,6 +72,9 @@ def run(said: argparse.Namespace) -> None:
     if said.list:
         show(found, said.root)
         return
+    if said.follow:
+        follow(Site(said.root), found)
+        return
     made = backup(found, said.root)
     sealed = f"sealed to {', '.join(found.recipients)}" if found.recipients else "NOT SEALED"
     print(f"{os.path.join(found.folder, made.at)}: {made.files} files, {made.written} bytes new;")
@@ -76,9 +84,13 @@ def run(said: argparse.Namespace) -> None:
         print(f"removed {moment}")
 
 
+class Told(Exception):
+    """Told to end, while it only follows."""
+
+
 def end(*_: object) -> None:
     """Told to end: what was begun is removed."""
-    raise Failed("it was told to end")
+    raise Told if "--follow" in sys.argv else Failed("it was told to end")
 
 
 def main(words: list[str] | None = None) -> int:
@@ -87,6 +99,8 @@ def main(words: list[str] | None = None) -> int:
     signal.signal(signal.SIGTERM, end)
     try:
         run(said)
+        return DONE
+    except Told:
         return DONE
     except Failed as fault:
         why = str(fault)

@@ -113,7 +113,7 @@ def unexplained(extra: set[str], at: str) -> list[str]:
 def outbox_fault(site: Site) -> Iterator[str]:
     """Whether the relay reads its outbox, where there is one."""
     try:
-        lost.of_outbox(site)
+        list(lost.of_outbox(site))
     except Failed as fault:
         yield str(fault)
 

@@ -15,6 +15,7 @@ from dataclasses import dataclass, field
 from typing import Any, NamedTuple
 
 from steelnewt_backup.faults import Failed
+from steelnewt_backup.follow import said_in
 from steelnewt_backup.site import Answer, Site, name_of, run_relay
 from steelnewt_client.messages import canonical
 
@@ -28,11 +29,13 @@ DATED = re.compile(
 
 
 class Source(NamedTuple):
-    """Messages that somebody else has: what they are called, and by which relay they come."""
+    """Messages that somebody else has: what they are called, by which relay they come, and whether
+    a desk acknowledged them."""
 
     what: str
     relay: str
     messages: list[str]
+    is_held: bool = True
 
 
 class Heard(NamedTuple):
@@ -57,11 +60,19 @@ class Told:
 # ---- who else has messages
 
 
-def of_outbox(site: Site) -> Source | None:
-    """The relay reads its own outbox, as its own account: whoever wrote it, nothing is run."""
-    if not site.outbox():
-        return None
-    return Source("the outbox", site.relay(), run_relay(site, "sent").splitlines())
+def of_outbox(site: Site) -> Iterator[Source]:
+    """The relay reads its own outbox, as its own account: whoever wrote it, nothing is run. What
+    the desk has not answered is posted again by the relay itself."""
+    if site.outbox():
+        rows = [it.split(" ", 2) for it in run_relay(site, "sent", "--after", "0").splitlines()]
+        yield Source("the outbox", site.relay(), [row[2] for row in rows if row[1] == "acked"])
+
+
+def of_said(folder: str, relay: str) -> Iterator[Source]:
+    """What desk-backup --follow wrote beside the backups."""
+    found = [text for _, text in said_in(folder)]
+    if found:
+        yield Source("what was said since", relay, found, is_held=False)
 
 
 def of_journal(root: str) -> list[Source]:
@@ -101,12 +112,10 @@ def of_file(path: str, relay: str) -> Source:
     return Source(path, relay, [it for it in lines if it.startswith("{")])
 
 
-def sources(site: Site, files: Iterable[str]) -> list[Source]:
+def sources(site: Site, files: Iterable[str], folder: str) -> list[Source]:
     relay = site.relay()
-    found = [of_file(it, relay) for it in files]
-    own = of_outbox(site)
-    found += [own] if own else []
-    found += of_journal(site.root)
+    found = [*(of_file(it, relay) for it in files), *of_outbox(site)]
+    found += [*of_said(folder, relay), *of_journal(site.root)]
     if os.path.exists(site.root + REVOKED):
         found.append(of_file(site.root + REVOKED, relay))
     return found
@@ -131,8 +140,10 @@ def fill(site: Site, found: list[Source], told: Told) -> None:
                 told.filled.append((source.what, answer.message))
                 if '"kind":"approve"' in answer.message:
                     told.again.append(answer.message)
-            else:
+            elif source.is_held:
                 told.refused.append((source.what, answer))
+            else:
+                told.lost.append(f"the desk did not take it ({answer.said}): {answer.message}")
 
 
 # ---- what hosts have heard of

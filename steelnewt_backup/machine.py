@@ -24,7 +24,7 @@ UNITS = (
     "desk.service", "desk-door.service", "desk-relay-post.service", "desk-relay-notify.service",
     "desk-relay-page.service",
 )  # fmt: skip
-TIMERS = ("desk-backup.timer", "desk-drill.timer", "desk-watch.timer")
+TIMERS = ("desk-backup.timer", "desk-drill.timer", "desk-follow.service", "desk-watch.timer")
 FRONTS = ("nginx.service", "haproxy.service", "apache2.service")
 LOCKS = ("/var/lib/dpkg/lock-frontend", "/var/lib/dpkg/lock")
 PATIENCE = 600.0  # seconds for which an upgrade is waited for

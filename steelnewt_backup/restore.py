@@ -216,10 +216,10 @@ def number_past(site: Site, known: dict[str, int]) -> int:
     return floor
 
 
-def recover(site: Site, wanted: Wanted, told: Told) -> dict[str, int]:
+def recover(site: Site, wanted: Wanted, told: Told, folder: str) -> dict[str, int]:
     """Fills in what others have, and compares with what hosts have: each asker's greatest
     number."""
-    found = lost.sources(site, wanted.seconds)
+    found = lost.sources(site, wanted.seconds, folder)
     known = lost.greatest(site.messages())
     if site.has_store():
         agree_roster(site, told)
@@ -253,9 +253,11 @@ def restore(backup: Backup, wanted: Wanted) -> tuple[Told, dict[str, int], int]:
             note(folder, wanted)
         guard(wanted.root, backup)
         put_all(backup, wanted.root)
-        known = recover(site, wanted, told) if site.has_store() or site.outbox() else {}
+        known = {}
+        if site.has_store() or site.outbox():
+            known = recover(site, wanted, told, folder)
         floor = number_past(site, known) if site.outbox() else 0
-        last = {"at": backup.manifest.at, "units": backup.manifest.units}
+        last = {"at": backup.manifest.at, "folder": folder, "units": backup.manifest.units}
         write(wanted.root + LAST, json.dumps(last) + "\n")
         unguard(wanted.root)
     return told, known, floor
@@ -265,12 +267,12 @@ def settle(wanted: Wanted) -> tuple[Told, dict[str, int], int]:
     """Fills in and compares once more, before the restored machine is started: with messages that
     were found since, or with who revokes what hosts no longer have."""
     with held(wanted.root):
-        last_of(wanted.root)
+        folder = last_of(wanted.root)["folder"]
         against = [f"{name} runs: it was started already" for name in machine.running()]
         if against:
             raise Refused(against)
         told, site = Told(), Site(wanted.root, wanted.program)
-        known = recover(site, wanted, told)
+        known = recover(site, wanted, told, folder)
         floor = number_past(site, known) if site.outbox() else 0
     return told, known, floor
 

@@ -8,7 +8,7 @@ import json
 import os
 import re
 import sqlite3
-from collections.abc import Iterable, Iterator
+from collections.abc import Iterable, Iterator, Mapping
 from contextlib import contextmanager
 from dataclasses import dataclass, replace
 from datetime import timedelta
@@ -278,14 +278,22 @@ class Outbox:
         )
         return number
 
+    def has_heard(self) -> bool:
+        """Whether it knows which numbers are used: it gave some, or was told (numbers.py)."""
+        return self.base.execute("SELECT 1 FROM numbers").fetchone() is not None
+
     def number_past(self, number: int) -> None:
         """From here on nobody is given a number up to this one: another outbox may have given
         it, or this one before it was lost."""
+        self.heard({EVERYBODY: number})
+
+    def heard(self, used: Mapping[str, int]) -> None:
+        """From here on no person is given a number up to the one beside the name."""
         with self.writing():
-            self.base.execute(
+            self.base.executemany(
                 "INSERT INTO numbers VALUES (?, ?)"
                 " ON CONFLICT (person) DO UPDATE SET last = max(last, excluded.last)",
-                (EVERYBODY, number),
+                [(EVERYBODY, 0), *used.items()],
             )
 
     def find(self, where: str, *values: object) -> list[Kept]:

@@ -35,6 +35,7 @@ from steelnewt_relay import telling
 from steelnewt_relay.admission import objections
 from steelnewt_relay.config import BadConfig, Config
 from steelnewt_relay.moments import BadTime, in_units, shown
+from steelnewt_relay.numbers import hear
 from steelnewt_relay.outbox import Kept, Outbox, OutOfNumbers
 from steelnewt_relay.posting import post_one
 from steelnewt_relay.reasons import Reason
@@ -471,6 +472,7 @@ def keep(visit: Visit, said: dict[str, Any]) -> Kept:
         return visit.outbox.keep_verdict(verdict, said["once"])
     words = {name: tuple(it) if isinstance(it, list) else it for name, it in said["wish"].items()}
     wish, once, reason = Wish(**words).as_of(visit.now), said["once"], reason_in(said)
+    hear(visit.outbox, visit.desk)
     return visit.outbox.keep_request(visit.person, wish, stamp(visit.now), once, once, reason)
 
 

@@ -22,7 +22,7 @@ from steelnewt_relay.keys import BadKey
 from steelnewt_relay.notices import Notices, keep_telling, locked
 from steelnewt_relay.outbox import Kept
 from steelnewt_relay.posting import keep_posting
-from steelnewt_relay.sent import BadOutbox, bodies
+from steelnewt_relay.sent import BadOutbox, bodies, numbered
 from steelnewt_relay.standing import Knowledge
 
 CONFIG = "/etc/desk/relay.toml"
@@ -46,7 +46,9 @@ def parser() -> argparse.ArgumentParser:
     jobs.add_parser("post-again", help="post again all that was acknowledged")
     past = jobs.add_parser("number-past", help="give no number up to this one, to nobody")
     past.add_argument("number", metavar="NUMBER", type=int)
-    jobs.add_parser("sent", help="print the outbox's messages, whoever may have written it")
+    sent = jobs.add_parser("sent", help="print the outbox's messages, whoever may have written it")
+    said = "only those behind this number, each with its number and state"
+    sent.add_argument("--after", type=int, metavar="NUMBER", help=said)
     jobs.add_parser("reasons", help="print why each request was asked, as lines of JSON")
     return found
 
@@ -154,6 +156,9 @@ def run_job(config: Config, job: str, said: argparse.Namespace) -> int:
         config.open_outbox().number_past(said.number)
         return print_lines([f"numbers go on behind {said.number}"])
     if job == "sent":
+        after: int | None = said.after
+        if after is not None:
+            return print_lines(numbered(config.outbox, after))
         return print_lines(bodies(config.outbox))
     if job == "reasons":
         return print_lines(reason_line(it) for it in config.open_outbox().requests())

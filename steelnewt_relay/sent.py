@@ -12,7 +12,9 @@ from steelnewt_client.messages import MOST_BYTES, read
 PROGRAMS = """SELECT type || ' ' || name FROM sqlite_schema
  WHERE type IN ('view', 'trigger') OR sql LIKE 'CREATE VIRTUAL%' ORDER BY name"""
 COMPUTED = "SELECT 'column ' || name FROM pragma_table_xinfo('messages') WHERE hidden <> 0"
-BODIES = f"SELECT CAST(body AS BLOB) FROM messages WHERE length(body) <= {MOST_BYTES} ORDER BY rowid"
+BODIES = f"""SELECT rowid, state, CAST(body AS BLOB) FROM messages
+ WHERE rowid > ? AND length(body) <= {MOST_BYTES} ORDER BY rowid"""
+STATES = ("kept", "acked", "refused")
 
 
 class BadOutbox(ValueError):
@@ -21,15 +23,25 @@ class BadOutbox(ValueError):
 
 def bodies(path: str) -> Iterator[str]:
     """The messages that an outbox has, each its canonical text on a line of its own."""
+    return (text for _, _, text in rows(path, 0))
+
+
+def numbered(path: str, after: int) -> Iterator[str]:
+    """The messages behind the one of this number: before each its own number, and what the desk
+    said to it (kept, acked or refused)."""
+    return (f"{number} {state} {text}" for number, state, text in rows(path, after))
+
+
+def rows(path: str, after: int) -> Iterator[tuple[int, str, str]]:
     with closing(opened(path)) as base:
         for question in (PROGRAMS, COMPUTED):
             if found := [name for (name,) in base.execute(question)]:
                 raise BadOutbox(f"{path}: no relay makes this in an outbox: {', '.join(found)}")
         base.set_authorizer(allowed)
-        for (body,) in base.execute(BODIES):
+        for number, state, body in base.execute(BODIES, (after,)):
             text = body.decode("utf-8", "replace")
-            if is_message(text):
-                yield text
+            if state in STATES and is_message(text):
+                yield number, state, text
 
 
 def opened(path: str) -> sqlite3.Connection:

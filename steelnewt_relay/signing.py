@@ -12,6 +12,7 @@ from steelnewt_client.moments import now, stamp
 from steelnewt_client.signed import MOST_LINE, MOST_LISTED, BadLine, Signed, read_line
 from steelnewt_relay import telling
 from steelnewt_relay.admission import objections
+from steelnewt_relay.numbers import hear
 from steelnewt_relay.posting import post_one
 from steelnewt_relay.reasons import NONE, Reason
 from steelnewt_relay.sending import DONE, again_of, asked_of, told_request, told_verdict
@@ -37,6 +38,7 @@ def prepare_request(call: Call, wish: Wish, reason: Reason) -> Item:
     """A request, which is sent once it comes back signed."""
     at = now()
     note = telling.objected(objections(call.roster, call.person, wish, at))
+    hear(call.outbox, call.desk)
     request = call.outbox.prepare_request(call.person, wish.as_of(at), stamp(at), reason)
     return item(request.text(), None, reason, [note])
 

@@ -17,6 +17,7 @@ from steelnewt_relay.caller import Caller, Gone, is_allowed
 from steelnewt_relay.config import Config
 from steelnewt_relay.leading import Leader
 from steelnewt_relay.moments import BadTime, moment_of, shown, zone_of
+from steelnewt_relay.numbers import hear
 from steelnewt_relay.outbox import Kept, Outbox, OutOfNumbers
 from steelnewt_relay.posting import post_one
 from steelnewt_relay.reasons import Reason
@@ -141,6 +142,7 @@ def send(
     if not call.is_agreed("Send it?"):
         return NOT_SENT
     at = now()
+    hear(call.outbox, call.desk)
     kept = call.outbox.keep_request(call.person, wish.as_of(at), stamp(at), once, words, reason)
     call.say_strong(f"Kept as {call.person} {kept.request.no}.")
     return told_request(call, post_one(call.outbox, call.desk, kept))

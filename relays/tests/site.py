@@ -13,6 +13,7 @@ from pathlib import Path
 
 from steelnewt_client.desk import Desk
 from steelnewt_client.moments import now
+from steelnewt_relay.outbox import Outbox
 from tests.common.calling import call_words
 
 ROOT = Path(__file__).resolve().parents[2]
@@ -103,6 +104,12 @@ class Site:
         assert self.desk.stdout
         first = self.desk.stdout.readline()
         assert first == f"listening {self.url}\n", first
+
+    def hear(self) -> None:
+        """The relay knows that no number is used yet, as after a first request."""
+        outbox = Outbox(str(self.folder / "outbox.db"))
+        outbox.number_past(0)
+        outbox.close()
 
     def ask(self, route: str) -> str:
         """What the desk answers to a question."""

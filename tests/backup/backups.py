@@ -20,7 +20,7 @@ from collections.abc import Callable, Iterator
 
 from steelnewt_backup.backup import expired
 from steelnewt_relay.outbox import Outbox
-from tests.backup.room import BASE, DAY, JOURNAL, OUTBOX, PROGRAM, ROSTER, SECRETS, STORE, Room
+from tests.backup.room import BASE, DAY, OUTBOX, PATIENCE, PROGRAM, ROSTER, SECRETS, STORE, Room
 from tests.backup.room import tried, wish
 from tests.common import desk
 
@@ -164,6 +164,38 @@ def filled(folder: str) -> Iterator[Row]:
     again = re.findall(r"^CAME AGAIN, and may give a right: (\{.*\})$", ran.stdout, re.MULTILINE)
     approvals = {it for it in wanted if '"kind":"approve"' in it}
     yield "approvals that came again are told", set(again) == approvals, again
+
+
+def followed(folder: str) -> Iterator[Row]:
+    """What is said behind the last backup is written beside it, and comes back."""
+    room = made(folder, "followed", 2)
+    room.backup()
+    words = [sys.executable, "-I", os.path.join(desk.ROOT, "tools", "desk-backup"), room.backups]
+    with subprocess.Popen([*words, "--root", room.root, "--follow"]) as follows:
+        said_now = room.ask(range(3, 5))
+        until = time.monotonic() + PATIENCE
+        while not all(it in written(room) for it in said_now) and time.monotonic() < until:
+            time.sleep(0.2)
+        follows.terminate()
+        yield "it ends when it is told to", follows.wait() == 0, ""
+    yield "each message is written", all(it in written(room) for it in said_now), written(room)
+    with open(path_of_said(room), "a", encoding="utf-8") as file:
+        file.write('9 {"cut')
+    room.lose()
+    ran = room.restore()
+    yield "nothing is lost", *said(ran, 0, "FILLED IN from what was said since: ")
+    yield "all is there", set(said_now) < room.held(), room.held()
+    yield "seal = all", *said(room.backup("--follow", "--seal", "all"), 2, "as it is")
+
+
+def path_of_said(room: Room) -> str:
+    names = [it for it in os.listdir(room.backups) if it.startswith("said-")]
+    return os.path.join(room.backups, max(names, default="said-00000000"))
+
+
+def written(room: Room) -> str:
+    path = path_of_said(room)
+    return desk.read(path) if os.path.exists(path) else ""
 
 
 def not_admitted(folder: str) -> Iterator[Row]:
@@ -383,7 +415,7 @@ def checked(folder: str) -> Iterator[Row]:
 
 
 PARTS: tuple[Callable[[str], Iterator[Row]], ...] = (
-    round_trip, grows, lambda _: bounded(), sealed, filled, not_admitted, heard, bad_backups,
+    round_trip, grows, lambda _: bounded(), sealed, filled, followed, not_admitted, heard, bad_backups,
     bad_machines, drills, checked,
 )  # fmt: skip
 
