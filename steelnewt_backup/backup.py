@@ -14,7 +14,7 @@ import shutil
 import stat
 import time
 from collections.abc import Iterator
-from dataclasses import dataclass
+from dataclasses import dataclass, replace
 from typing import NamedTuple
 
 from steelnewt_backup import machine
@@ -51,7 +51,8 @@ def held(folder: str) -> Iterator[None]:
     try:
         found = os.fstat(lock)
         if found.st_uid != os.geteuid() or found.st_mode & 0o077:
-            raise Failed(f"{folder} has to be {machine.owner_name(os.geteuid())}'s alone: chmod 700")
+            own = machine.owner_name(os.geteuid())
+            raise Failed(f"{folder} has to be {own}'s alone: chmod 700")
         try:
             fcntl.flock(lock, fcntl.LOCK_EX | fcntl.LOCK_NB)
         except OSError:
@@ -121,9 +122,9 @@ class Taking:
                 kept.append(self.pieces.put(data, item.is_secret))
         finally:
             os.close(file)
-        made = vars(self.entry(item, found, "file")) | {"path": name}
-        size = sum(it.size for it in kept)
-        return Entry(**made | {"size": size, "sha256": whole.hexdigest(), "pieces": tuple(kept)})
+        made, size = self.entry(item, found, "file"), sum(it.size for it in kept)
+        sha = whole.hexdigest()
+        return replace(made, path=name, size=size, sha256=sha, pieces=tuple(kept))
 
     def store(self, item: Item) -> list[Entry]:
         """A store and its log, with no checkpoint between the two."""
@@ -180,7 +181,8 @@ def expired(moments: list[str], keep: int) -> list[str]:
     days = sorted({it[:8] for it in moments}, reverse=True)
     whole, kept = set(days[:2]), set(days[:keep])
     last = {it[:8]: it for it in moments}
-    return [it for it in moments if it[:8] not in kept or it[:8] not in whole and last[it[:8]] != it]
+    stays = {it for it in moments if it[:8] in whole or it[:8] in kept and last[it[:8]] == it}
+    return [it for it in moments if it not in stays]
 
 
 def remove(folder: str, at: str) -> None:

@@ -90,7 +90,9 @@ class Told(Exception):
 
 def end(*_: object) -> None:
     """Told to end: what was begun is removed."""
-    raise Told if "--follow" in sys.argv else Failed("it was told to end")
+    if "--follow" in sys.argv:
+        raise Told
+    raise Failed("it was told to end")
 
 
 def main(words: list[str] | None = None) -> int:

@@ -107,7 +107,8 @@ def compared(site: Site, live: str, backup: Backup, wrong: list[str]) -> Drilled
 
 def unexplained(extra: set[str], at: str) -> list[str]:
     """The live desk holds whatever a backup of it has, and has lost nothing since."""
-    return [f"the live desk lacks what the backup of {at} has: {it}" for it in sorted(extra)[:SHOWN]]
+    said = f"the live desk lacks what the backup of {at} has"
+    return [f"{said}: {it}" for it in sorted(extra)[:SHOWN]]
 
 
 def outbox_fault(site: Site) -> Iterator[str]:

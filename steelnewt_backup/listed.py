@@ -93,7 +93,8 @@ def is_log_of_store(part: Taken, name: str) -> bool:
 def is_named(path: str) -> bool:
     """Whether the list says something of a path: it is taken or left."""
     taken, left = the_list()
-    forms = [form for part in (*taken, *left) for form in part.paths]
+    forms = [form for part in taken for form in part.paths]
+    forms += [form for part in left for form in part.paths]
     return any(
         fnmatch.fnmatchcase(path, form) or fnmatch.fnmatchcase(path, f"{form}/*") for form in forms
     )

@@ -42,7 +42,7 @@ class Heard(NamedTuple):
     """What a host has: how many messages its file was made of, and the file's lines."""
 
     host: str
-    count: int
+    messages: int
     lines: list[str]
 
 
@@ -175,11 +175,11 @@ def compare(site: Site, heard: list[Heard], now: str, told: Told) -> None:
     Only a host that has heard of more messages than the desk holds says something of the loss."""
     held = site.messages()
     for it in heard:
-        if it.count <= len(held):
+        if it.messages <= len(held):
             continue
         told.lost.append(
-            f"{it.host} has heard of {it.count} messages, and the desk holds {len(held)}:"
-            f" {it.count - len(held)} are in no source"
+            f"{it.host} has heard of {it.messages} messages, and the desk holds {len(held)}:"
+            f" {it.messages - len(held)} are in no source"
         )
         own = {line for line in site.host_file(it.host) if is_live(line, now)}
         theirs = {line for line in it.lines if is_live(line, now)}
@@ -225,7 +225,7 @@ def revoke(site: Site, heard: list[Heard], by: str, now: str, told: Told) -> Non
     believed."""
     held, wanted = site.messages(), set[tuple[str, int]]()
     for it in heard:
-        if it.count > len(held):
+        if it.messages > len(held):
             lines = {line for line in site.host_file(it.host) if is_live(line, now)}
             for line in lines - set(it.lines):
                 wanted.update(requests_for(line, held))

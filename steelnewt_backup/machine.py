@@ -19,7 +19,7 @@ from steelnewt_backup.faults import Failed
 
 PACKAGES = ("steelnewt*", "python3-steelnewt-client", "mydesk")
 GROUPS = ("desk-front", "desk-door", "desk")
-# Units that bring messages, take them or write state: none of these runs while a machine is restored.
+# Units that bring messages, take them or write state: none runs while a machine is restored.
 UNITS = (
     "desk.service", "desk-door.service", "desk-relay-post.service", "desk-relay-notify.service",
     "desk-relay-page.service",
@@ -87,6 +87,16 @@ def members() -> dict[str, list[str]]:
         with contextlib.suppress(KeyError):
             found[name] = sorted(grp.getgrnam(name).gr_mem)
     return found
+
+
+def join(groups: dict[str, list[str]]) -> None:
+    """Lets those into the groups again who were in them and have an account here."""
+    now = members()
+    for group, names in groups.items():
+        for name in sorted({*names} - {*now.get(group, names)}):
+            with contextlib.suppress(KeyError):
+                pwd.getpwnam(name)
+                subprocess.run(["gpasswd", "--add", name, group], capture_output=True, check=True)
 
 
 def is_upgrading() -> bool:

@@ -90,7 +90,8 @@ def put_link(entry: Entry, path: str) -> None:
     if os.path.lexists(new):
         os.unlink(new)
     os.symlink(entry.target, new)
-    os.chown(new, machine.owner_id(entry.owner), machine.group_id(entry.group), follow_symlinks=False)
+    owner, group = machine.owner_id(entry.owner), machine.group_id(entry.group)
+    os.chown(new, owner, group, follow_symlinks=False)
     os.rename(new, path)
 
 

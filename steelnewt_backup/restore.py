@@ -28,8 +28,8 @@ GUARDED = f"[Unit]\nConditionPathExists=!{UNFINISHED}\n"
 ELSEWHERE = "restored"  # the file beside the backups that says where they were restored
 # Which files make a machine one that has a desk.
 OURS = ("/var/lib/desk/", "/var/lib/desk-door/", "/var/lib/desk-relay/", "/etc/desk/front/")
-# So many numbers are left out behind the greatest that anybody knows: they may have been given after
-# the backup, and are never given again.
+# So many numbers are left out behind the greatest that anybody knows: they may have been given
+# after the backup, and are never given again.
 LEAP, ROUND = 10_000, 1_000
 
 
@@ -119,7 +119,8 @@ def elsewhere(folder: str, backup: Backup, wanted: Wanted) -> Iterator[str]:
         with open(os.path.join(folder, ELSEWHERE), encoding="utf-8") as file:
             for line in file:
                 at, where, host = line.split()
-                if where != own and not wanted.again:
+                # (what was taken since comes from that machine, which is the one that was lost)
+                if where != own and at > backup.manifest.at and not wanted.again:
                     yield f"{host} was made of these backups at {at}: --again, if it is gone"
 
 
@@ -257,6 +258,8 @@ def restore(backup: Backup, wanted: Wanted) -> tuple[Told, dict[str, int], int]:
         if site.has_store() or site.outbox():
             known = recover(site, wanted, told, folder)
         floor = number_past(site, known) if site.outbox() else 0
+        if not wanted.root:
+            machine.join(backup.manifest.groups)
         last = {"at": backup.manifest.at, "folder": folder, "units": backup.manifest.units}
         write(wanted.root + LAST, json.dumps(last) + "\n")
         unguard(wanted.root)

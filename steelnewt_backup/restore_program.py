@@ -42,7 +42,8 @@ def parser() -> argparse.ArgumentParser:
     said = "revoke in this person's name what hosts no longer have"
     found.add_argument("--revoke-as", default="", metavar="NAME", help=said)
     jobs = found.add_mutually_exclusive_group()
-    jobs.add_argument("--look", action="store_true", help="look whether the backup is whole, and end")
+    said = "look whether the backup is whole, and end"
+    jobs.add_argument("--look", action="store_true", help=said)
     said = "restore it beside the desk that serves, compare, and end"
     jobs.add_argument("--drill", action="store_true", help=said)
     said = "of a machine that was restored and not started: fill in and compare once more"
@@ -58,7 +59,7 @@ def parser() -> argparse.ArgumentParser:
 
 def folder_of(said: argparse.Namespace) -> str:
     if said.folder:
-        return os.path.abspath(said.folder)
+        return os.path.abspath(str(said.folder))
     conf = said.conf or said.root + settings.CONF
     found = settings.read_settings(conf, must_be=said.conf is not None).folder
     if not found:

@@ -44,8 +44,8 @@ def read_settings(path: str, must_be: bool = False) -> Settings:
         if type(value) is not KINDS[name]:
             raise Failed(f"{path}: {name} has another kind: man desk-backup")
     lists = {name: tuple(map(str, found.get(name, ()))) for name in ("recipients", "also")}
-    made = Settings(found.get("dir", ""), found.get("keep", 30), seal=found.get("seal", "secret"))
-    return checked(path, Settings(made.folder, made.keep, lists["recipients"], made.seal, lists["also"]))
+    folder, keep, seal = found.get("dir", ""), found.get("keep", 30), found.get("seal", "secret")
+    return checked(path, Settings(folder, keep, lists["recipients"], seal, lists["also"]))
 
 
 def checked(path: str, found: Settings) -> Settings:

@@ -46,17 +46,20 @@ def round_trip(folder: str) -> Iterator[Row]:
     yield "it is root's alone", os.stat(room.backups).st_mode & 0o777 == 0o700, ""
     yield "it is whole", *said(room.restore("--look"), 0, "is whole")
     room.lose()
-    yield "a restore", *said(room.restore(), 0, "goes? on behind 11000", "ann asked up to ann 6")
+    ran = room.restore()
+    yield "a restore", *said(ran, 0, "numbers go on behind 11000", "ann asked up to ann 6")
     after = room.files()
     # (the outbox has one more row, of the numbers)
     other = {it for it in before.keys() | after.keys() if before.get(it) != after.get(it)}
     yield "what was there", other <= {OUTBOX, f"{OUTBOX}-wal", f"{STORE}-wal", STORE}, other
     yield "each message", room.held() == held and len(held) == 12, held
     outbox = Outbox(room.path(OUTBOX))
-    numbers = [outbox.keep_request(who, wish(1, time.time()), "20260105060000Z") for who in ("ann", "eve")]
+    at = "20260105060000Z"
+    numbers = [outbox.keep_request(it, wish(1, time.time()), at) for it in ("ann", "eve")]
     outbox.close()
     yield "no number twice", [it.request.no for it in numbers] == [11001, 11001], numbers
-    yield "nothing is unfinished", not os.path.exists(room.path("/var/lib/desk-restore/unfinished")), ""
+    unfinished = room.path("/var/lib/desk-restore/unfinished")
+    yield "nothing is unfinished", not os.path.exists(unfinished), ""
     left = [it for it in room.files() if it.endswith("zz-restoring.conf")]
     yield "every unit may start", not left, left
 
@@ -105,8 +108,10 @@ def sealed(folder: str) -> Iterator[Row]:
     )
     yield "no secret in it", not any(room.read(it) in whole for it in SECRETS), ""
     yield "and what is plain", room.read(ROSTER) in whole, ""
-    yield "without its key it says what it did not see", *said(room.restore("--look"), 0, "by age was not")
-    yield "again, nothing new", *said(room.backup("--recipient", to[0] if to else ""), 0, " 0 bytes new")
+    looked = room.restore("--look")
+    yield "without its key it says what it did not see", *said(looked, 0, "by age was not")
+    again = room.backup("--recipient", to[0] if to else "")
+    yield "again, nothing new", *said(again, 0, " 0 bytes new")
     before = {it: room.read(it) for it in SECRETS}
     room.lose()
     yield "no key, no restore", *said(room.restore(), 2, "ca.key: it is sealed: name the file")
@@ -227,9 +232,10 @@ def heard(folder: str) -> Iterator[Row]:
     room.lose()
     ran = room.restore("--heard", brought)
     yield "what is lost", *said(ran, 1, "db1 has heard of 15 messages, and the desk holds 12: 3")
-    given = re.findall(r"^LOST: granted, and nobody knows by which messages: (.*)$", ran.stdout, re.M)
+    given = re.findall(r"^LOST: granted, and nobody knows by which .*: (.*)$", ran.stdout, re.M)
     yield "a grant that a host has", len(given) == 1 and "/usr/bin/id" in given[0], ran
-    open_ = re.findall(r"^OPEN: db1 has it no more, so it was revoked: (.*?): ann db1", ran.stdout, re.M)
+    form = r"^OPEN: db1 has it no more, so it was revoked: (.*?): ann db1"
+    open_ = re.findall(form, ran.stdout, re.M)
     yield "a revocation that a host has", open_ == ["ann 1"], ran
     yield "nothing starts", "Nothing was started" in ran.stdout, ran
     early = room.restore("--settle", "--heard", brought)
@@ -261,10 +267,10 @@ def piece_of(at: str) -> str:
     return max(found, key=lambda it: it.stat().st_size).path
 
 
-def rewritten(at: str, **members: object) -> None:
-    path = os.path.join(at, "manifest.json")
+def rewritten(folder: str, **members: object) -> None:
+    path = os.path.join(folder, "manifest.json")
     told = json.loads(desk.read(path)) | members
-    desk.write(at, "manifest.json", json.dumps(told))
+    desk.write(folder, "manifest.json", json.dumps(told))
 
 
 def cut(path: str) -> None:
@@ -291,12 +297,12 @@ SPOILT: tuple[tuple[str, Callable[[str], object], str], ...] = (
     ("the list is cut", lambda at: cut(f"{at}/manifest.json"), "manifest.json was cut or altered"),
     ("the list is gone", lambda at: os.unlink(f"{at}/manifest.json"), "has no whole backup"),
     ("a newer version", lambda at: rewritten(at, format=2), "a newer version made this"),
-    ("newer packages", lambda at: rewritten(at, packages={"steelnewt": "99"}), "steelnewt is missing: install 99"),
+    ("newer packages", lambda at: rewritten(at, packages={"steelnewt": "99"}), "install 99"),
     ("another machine", lambda at: rewritten(at, host="web7"), "is the backup of web7, and this"),
     ("another moment", lambda at: rewritten(at, at="20260101000000Z"), "says that it is 2026"),
-    ("a file of another place", lambda at: with_entry(at, path="/etc/shadow"), "/etc/shadow: the list has no"),
+    ("another place", lambda at: with_entry(at, path="/etc/shadow"), "shadow: the list has no"),
     ("a way out", lambda at: with_entry(at, path="/etc/desk/../shadow"), "is no entry"),
-    ("an account that is away", lambda at: with_entry(at, path="/etc/desk/x", owner="zed"), "no account zed"),
+    ("no account", lambda at: with_entry(at, path="/etc/desk/x", owner="zed"), "no account zed"),
 )
 
 
@@ -335,7 +341,8 @@ def at_once(folder: str) -> Iterator[Row]:
         yield "two backups at once", *said(room.backup(), 2, "another program works on")
         other.kill()
     lock = "/var/lib/dpkg/lock-frontend"
-    held = f"import fcntl,time; f=open({lock!r},'a'); fcntl.lockf(f,fcntl.LOCK_EX); print(flush=True); time.sleep(5)"
+    held = f"import fcntl,time; f=open({lock!r},'a'); fcntl.lockf(f,fcntl.LOCK_EX);"
+    held += " print(flush=True); time.sleep(5)"
     with subprocess.Popen([sys.executable, "-c", held], stdout=subprocess.PIPE) as other:
         assert other.stdout
         other.stdout.readline()
@@ -384,7 +391,8 @@ def drills(folder: str) -> Iterator[Row]:
             if os.path.exists(f"{folder}/live.sock"):
                 break
             time.sleep(0.1)
-        yield "as it is", *said(room.restore(*more), 0, "would serve: 12 messages", "taken 0 since; 0 ")
+        ran = room.restore(*more)
+        yield "as it is", *said(ran, 0, "would serve: 12 messages", "taken 0 since; 0 ")
         revoke = desk.approval(1, at=desk.stamp(time.time()), kind="revoke", by="bob")
         words = ["curl", "-s", "--unix-socket", f"{folder}/live.sock", "--data-binary", revoke]
         tried([*words, "http://desk/v1/relays/chat/messages"])
@@ -396,7 +404,7 @@ def drills(folder: str) -> Iterator[Row]:
     yield "a backup that was altered", *said(room.restore(*more), 2, "WRONG: .*desk.db")
     check = [sys.executable, os.path.join(desk.EXAMPLES, "monitoring", "check_desk.py")]
     ran = desk.run([*check, "--backup", room.backups])
-    yield "check_desk", *said(ran, 2, "CRITICAL - the backup .* would not serve: /var/lib/desk/desk.db")
+    yield "check_desk", *said(ran, 2, "CRITICAL - the backup .* would not serve: .*/desk.db")
     yield "nothing is left", os.listdir(os.path.join(folder, "drills")) == [], ""
 
 
@@ -415,8 +423,8 @@ def checked(folder: str) -> Iterator[Row]:
 
 
 PARTS: tuple[Callable[[str], Iterator[Row]], ...] = (
-    round_trip, grows, lambda _: bounded(), sealed, filled, followed, not_admitted, heard, bad_backups,
-    bad_machines, drills, checked,
+    round_trip, grows, lambda _: bounded(), sealed, filled, followed, not_admitted, heard,
+    bad_backups, bad_machines, drills, checked,
 )  # fmt: skip
 
 

@@ -25,7 +25,7 @@ JOURNAL = "/var/lib/desk-door/journal-000000000001.jsonl"
 ROSTER, BASE = "/etc/desk/roster.toml", "/etc/desk/base.sudo"
 SECRETS = ("/etc/desk/front/ca.key", "/etc/desk/page.secret")
 DAY = 86_400
-PATIENCE = 120
+PATIENCE = 600
 
 
 def wish(no: int, begins: float) -> Wish:
@@ -60,7 +60,8 @@ class Room:
     def furnish(self, count: int = 6) -> None:
         """All that a machine of one desk and one relay keeps, with so many requests of ann's."""
         for name in (ROSTER, BASE):
-            self.write(name, desk.read("examples", {ROSTER: "roster.toml", BASE: "site.sudo"}[name]))
+            example = {ROSTER: "roster.toml", BASE: "site.sudo"}[name]
+            self.write(name, desk.read("examples", example))
         self.write("/etc/desk/rosters/20260101000000Z.toml", self.read(ROSTER))
         self.write("/etc/desk/serve.conf", "SYNC=once\n")
         settings = desk.read("relays", "relay.example.toml").partition("[page]")[0]
@@ -116,8 +117,8 @@ class Room:
 
     def held(self) -> set[str]:
         """What its desk holds."""
-        words = [PROGRAM, "review", *(self.path(it) for it in (ROSTER, BASE, STORE)), "20260101000000Z"]
-        ran = desk.run(words, "", PATIENCE)
+        files = [self.path(it) for it in (ROSTER, BASE, STORE)]
+        ran = desk.run([PROGRAM, "review", *files, "20260101000000Z"], "", PATIENCE)
         assert ran.returncode == 0, ran
         found = desk.run(["sqlite3", self.path(STORE), "SELECT body FROM messages;"], "", PATIENCE)
         return set(found.stdout.splitlines())

@@ -35,7 +35,8 @@ cp desk-end@.service desk-end@1.service
 cp desk-failed@.service desk-failed@a.service
 for unit in desk.service desk-fetch@db1.service desk-fetch@db1.timer desk-sessions.{service,timer} \
     desk-check.{service,timer} desk-starts.{service,path} desk-{end@1,failed@a}.service \
-    desk-relay-{post,page,notify}.service desk-door.service desk-consume@a.service; do
+    desk-relay-{post,page,notify}.service desk-door.service desk-consume@a.service \
+    desk-{backup,drill,follow}.service desk-{backup,drill}.timer; do
     status=0
     said=$(SYSTEMD_LOG_LEVEL=warning systemd-analyze verify --man=no "./$unit" 2>&1) || status=1
     # what the machine's own units say is not ours
