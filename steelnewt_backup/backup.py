@@ -31,6 +31,7 @@ BEGUN = ".new-"  # how the folder of an unfinished backup is called
 GONE = ".old-"  # and that of one that is being removed
 TRIES = 50
 OWNER = "machine"  # the file that names whose backups are in the folder
+USED = "/var/lib/desk-backup/folders"
 
 
 class Result(NamedTuple):
@@ -62,18 +63,35 @@ def held(folder: str) -> Iterator[None]:
         os.close(lock)
 
 
-def check_owner(folder: str, host: str) -> None:
-    """Lets no two machines put their backups into one folder."""
+def check_owner(folder: str, host: str, used: str) -> None:
+    """Lets no two machines put their backups into one folder. `used` is the file that names the
+    folders of this machine: one of them that is empty now is a disk that is not mounted."""
     path = os.path.join(folder, OWNER)
+    known = folders_in(used)
     try:
         with open(path, encoding="utf-8") as file:
             owner = file.read().strip()
     except FileNotFoundError:
+        if folder in known:
+            why = f"{folder} had backups and is empty: is its disk mounted? ({used})"
+            raise Failed(why) from None
         write_new(path + ".new", f"{host}\n".encode())
         os.rename(path + ".new", path)
-        return
+        owner = host
     if owner != host:
         raise Failed(f"{folder} has the backups of {owner}, and this machine is {host}")
+    if folder not in known:
+        os.makedirs(os.path.dirname(used), 0o755, exist_ok=True)
+        with open(used, "a", encoding="utf-8") as file:
+            file.write(f"{folder}\n")
+
+
+def folders_in(used: str) -> list[str]:
+    try:
+        with open(used, encoding="utf-8") as file:
+            return file.read().splitlines()
+    except FileNotFoundError:
+        return []
 
 
 def clean(folder: str) -> None:
@@ -195,7 +213,7 @@ def backup(settings: Settings, root: str = "") -> Result:
     """Takes a backup, and removes those that are too old."""
     settings.sealing().check()
     with held(settings.folder):
-        check_owner(settings.folder, machine.host_name())
+        check_owner(settings.folder, machine.host_name(), root + USED)
         clean(settings.folder)
         machine.wait_for_upgrade()
         at = stamp_of(int(time.time()))

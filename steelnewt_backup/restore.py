@@ -25,12 +25,16 @@ STATE = "/var/lib/desk-restore"
 UNFINISHED, LAST = f"{STATE}/unfinished", f"{STATE}/last.json"
 GUARD = "/etc/systemd/system/{}.d/zz-restoring.conf"
 GUARDED = f"[Unit]\nConditionPathExists=!{UNFINISHED}\n"
+UNKNOWN = "unknown"  # a machine without an id
 ELSEWHERE = "restored"  # the file beside the backups that says where they were restored
 # Which files make a machine one that has a desk.
 OURS = ("/var/lib/desk/", "/var/lib/desk-door/", "/var/lib/desk-relay/", "/etc/desk/front/")
 # So many numbers are left out behind the greatest that anybody knows: they may have been given
 # after the backup, and are never given again.
 LEAP, ROUND = 10_000, 1_000
+# The door notes what was filled in past it.
+BEGIN = ("setpriv", "--reuid=desk-door", "--regid=desk-front", "--groups=desk-door", "desk-door")
+BEGIN += ("begin",)
 
 
 @dataclass(frozen=True)
@@ -114,7 +118,7 @@ def unfinished(root: str) -> str:
 def elsewhere(folder: str, backup: Backup, wanted: Wanted) -> Iterator[str]:
     """Whether another machine was made of these backups: two that go on as one give every number
     twice."""
-    own = machine.machine_id(wanted.root) or "this machine"
+    own = machine.machine_id(wanted.root) or UNKNOWN
     with contextlib.suppress(FileNotFoundError):
         with open(os.path.join(folder, ELSEWHERE), encoding="utf-8") as file:
             for line in file:
@@ -180,8 +184,8 @@ def unguard(root: str) -> None:
 
 def note(folder: str, wanted: Wanted) -> None:
     """Notes beside the backups where they were restored, where somebody may write there."""
-    own = machine.machine_id(wanted.root) or "this machine"
-    line = f"{stamp_of(int(time.time()))} {own.replace(' ', '-')} {machine.host_name()}\n"
+    own = machine.machine_id(wanted.root) or UNKNOWN
+    line = f"{stamp_of(int(time.time()))} {own} {machine.host_name()}\n"
     with contextlib.suppress(OSError):
         with open(os.path.join(folder, ELSEWHERE), "a", encoding="utf-8") as file:
             file.write(line)
@@ -298,6 +302,8 @@ def start(root: str) -> list[str]:
         if enabled == "enabled":
             machine.systemctl("enable", name)
         if active in ("active", "activating"):
+            if name == "desk-door.service":
+                found += machine.said(*BEGIN).splitlines()
             machine.systemctl("restart", name)
             found.append(name)
     return found

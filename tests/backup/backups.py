@@ -84,6 +84,16 @@ def grows(folder: str) -> Iterator[Row]:
     yield "what the first one said", first.returncode == 0, first
 
 
+def unmounted(folder: str) -> Iterator[Row]:
+    """The disk of the backups is away: nothing is put where it was."""
+    room = made(folder, "away", 2)
+    room.backup()
+    os.rename(room.backups, f"{room.backups}.away")
+    os.mkdir(room.backups, 0o700)
+    yield "an empty folder", *said(room.backup(), 2, "is empty: is its disk mounted")
+    yield "nothing is there", os.listdir(room.backups) == [], os.listdir(room.backups)
+
+
 def bounded() -> Iterator[Row]:
     """Which backups go."""
     moments = [f"202601{day:02}{hour:02}0000Z" for day in range(1, 31) for hour in (1, 13)]
@@ -423,8 +433,8 @@ def checked(folder: str) -> Iterator[Row]:
 
 
 PARTS: tuple[Callable[[str], Iterator[Row]], ...] = (
-    round_trip, grows, lambda _: bounded(), sealed, filled, followed, not_admitted, heard,
-    bad_backups, bad_machines, drills, checked,
+    round_trip, grows, unmounted, lambda _: bounded(), sealed, filled, followed, not_admitted,
+    heard, bad_backups, bad_machines, drills, checked,
 )  # fmt: skip
 
 

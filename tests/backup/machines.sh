@@ -21,8 +21,8 @@ for needed in /lib/systemd/systemd /usr/bin/dbus-daemon /usr/sbin/nginx /usr/bin
     [ -x "$needed" ] || lacking "there is no $needed"
 done
 room=$(mktemp -d)
-trap 'umount -l "$room/groups" 2> /dev/null || true; rm -rf "$room"' EXIT
-mkdir "$room/groups" "$room/root" "$room/out"
+trap 'umount -l "$room/groups" "$room/brought" 2> /dev/null || true; rm -rf "$room"' EXIT
+mkdir "$room/groups" "$room/root" "$room/out" "$room/brought"
 mount -t cgroup2 none "$room/groups" || lacking "there are no control groups"
 group=$room/groups/steelnewt-lost-$$
 mkdir "$group"
@@ -30,6 +30,11 @@ mkdir "$group"
 # What the packages bring, once; and what the machines run of this repository.
 tree=${TREE:-$room/tree}
 [ -d "$tree/usr" ] || PREFIX=/usr DESTDIR=$tree bash scripts/install.sh > "$room/installed"
+# (a layer of an overlay lies on another file system than the others; /lib is a link to usr/lib)
+mount -t tmpfs -o mode=755 tmpfs "$room/brought"
+cp -a "$tree/." "$room/brought"
+cp -a "$room/brought/lib/." "$room/brought/usr/lib"
+rm -r "$room/brought/lib"
 cp -r --parents tests/__init__.py tests/backup tests/common scripts examples packaging/debian \
     docs/RUNBOOKS.md docs/OPERATING.md "$room/out"
 
@@ -38,7 +43,7 @@ boot() {
     mount -t tmpfs -o mode=755 tmpfs "$room/root"
     mkdir "$root"/{up,work,root}
     mount -t overlay overlay \
-        -o "lowerdir=$tree:/,upperdir=$root/up,workdir=$root/work" "$root/root"
+        -o "lowerdir=$room/brought:/,upperdir=$root/up,workdir=$root/work" "$root/root"
     root=$root/root
     mount -t proc proc "$root/proc"
     mount -t tmpfs -o mode=755 tmpfs "$root/sys"
@@ -77,7 +82,7 @@ boot() {
     # a lost machine's root is empty: what this machine has of a desk is not there
     rm -rf "$root"/etc/desk "$root"/var/lib/desk* "$root"/etc/sudoers.d/* "$root"/etc/nginx/conf.d/*
     rm -f "$root"/etc/nginx/sites-enabled/* "$root"/etc/ssh/ssh_host_*
-    cp -r "$tree/etc/desk" "$root/etc/desk"
+    cp -r "$room/brought/etc/desk" "$root/etc/desk"
     uuid=$(cat /proc/sys/kernel/random/uuid)
     echo "${uuid//-/}" > "$root/etc/machine-id"
     hostname desk.example
@@ -92,7 +97,7 @@ boot() {
     exec env -i container=lxc PATH="$PATH" /lib/systemd/systemd --system --log-level=warning
 }
 
-export room tree
+export room
 export -f boot
 for life in $(seq 0 "$lives"); do
     begun=$SECONDS
