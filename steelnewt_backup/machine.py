@@ -59,7 +59,7 @@ def packages() -> dict[str, str]:
 
 
 def units() -> dict[str, list[str]]:
-    """Of each unit that this machine has: whether it is enabled, and whether it runs."""
+    """The units that this machine has, each with whether it is enabled and whether it runs."""
     found = {}
     instances = [
         line.split()[0]

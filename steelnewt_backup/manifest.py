@@ -20,8 +20,8 @@ KINDS = ("file", "folder", "link")
 
 @dataclass(frozen=True)
 class Piece:
-    """A part of a file, of a mebibyte at most: the digest of its bytes and how many they are; and
-    the digest of what is kept of it, which may be sealed."""
+    """A part of a file, of a mebibyte at most: the digest and the count of its bytes, and the
+    digest of the bytes that the backup keeps for it, which may be sealed."""
 
     sha256: str
     size: int

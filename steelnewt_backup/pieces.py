@@ -51,7 +51,7 @@ class Pieces:
         return self.made[name]
 
     def linked(self, name: str) -> Piece | None:
-        """The piece of the last backup, where it is as it was."""
+        """The piece of the last backup, if nothing changed it there."""
         old = self.old.get(name)
         if old is None:
             return None
