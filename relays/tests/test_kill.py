@@ -28,6 +28,7 @@ LINE = "ask db-care --on db1 --as root --for 1h --yes --again /usr/bin/id"
 def down(tmp_path_factory: pytest.TempPathFactory) -> Iterator[tuple[Site, float, str]]:
     """A site whose desk is down from now on, and what the relay said when it was asked."""
     site = Site(tmp_path_factory.mktemp("down"))
+    site.hear()
     site.start("post", "--every", "0.5")
     began = time.monotonic()
     ran = site.run("ann", LINE)
