@@ -126,7 +126,9 @@ def drill(backup: Backup, live: str, program: str = "", room: str = ROOM) -> Dri
     found = list(faults(backup, without_sealed))
     if found:
         return Drilled(backup.manifest.at, 0, 0, found, [])
-    os.makedirs(room, 0o755, exist_ok=True)
+    os.makedirs(room, 0o711, exist_ok=True)
+    # (the desk's account goes through it, and lists nothing)
+    os.chmod(room, 0o711)
     # (short: a socket below it has 107 bytes for its whole path)
     root = tempfile.mkdtemp(prefix="drill-", dir=room)
     os.chmod(root, 0o711)

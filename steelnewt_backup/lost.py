@@ -48,13 +48,15 @@ class Heard(NamedTuple):
 
 @dataclass
 class Told:
-    """What a restore found: filled in, not taken, lost, and what stays open for a person."""
+    """What a restore found: filled in, not taken, lost, and what stays open for a person; notes
+    wait for nobody."""
 
     filled: list[tuple[str, str]] = field(default_factory=list)
     refused: list[tuple[str, Answer]] = field(default_factory=list)
     again: list[str] = field(default_factory=list)
     lost: list[str] = field(default_factory=list)
     open: list[str] = field(default_factory=list)
+    notes: list[str] = field(default_factory=list)
 
 
 # ---- who else has messages

@@ -207,7 +207,7 @@ def agree_roster(site: Site, told: Told) -> None:
         if text:
             write(aside, text.decode())
         write(path, recorded.decode())
-        told.open.append(f"{path} is the store's roster now; what stood there is {aside}")
+        told.notes.append(f"{path} is the store's roster now; what stood there is {aside}")
 
 
 def number_past(site: Site, known: dict[str, int]) -> int:
@@ -254,7 +254,7 @@ def restore(backup: Backup, wanted: Wanted) -> tuple[Told, dict[str, int], int]:
         if unfinished(wanted.root) != backup.digest:
             aside = f"{wanted.root}{STATE}/before-{backup.manifest.at}"
             for path in set_aside(backup, wanted.root, aside):
-                told.open.append(f"{path} was another: it is below {aside} now")
+                told.notes.append(f"{path} was another: it is below {aside} now")
             note(folder, wanted)
         guard(wanted.root, backup)
         put_all(backup, wanted.root)

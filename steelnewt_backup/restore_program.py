@@ -91,6 +91,8 @@ def drilled(said: argparse.Namespace, folder: str, backup: Backup) -> int:
 
 def report(told: Told, at: str, known: dict[str, int], floor: int) -> None:
     """All that a person has to know, each message by itself."""
+    for line in told.notes:
+        print(f"NOTE: {line}")
     for source, message in told.filled:
         print(f"FILLED IN from {source}: {message}")
     for message in told.again:
