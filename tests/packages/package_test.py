@@ -35,7 +35,7 @@ TOOLS = ("desk-lint", "desk-import", "desk-used", "desk-change-roster", "desk-ro
 NAMES = ("steelnewt", "steelnewt-host", "steelnewt-host-plugin", "steelnewt-tools")
 NAMES += ("python3-steelnewt-client",)
 RELAY, BROKER = "steelnewt-relay", "steelnewt-broker"
-DOOR = ("steelnewt-door", "mydesk")
+DOOR = ("steelnewt-door", "steelnewt-backup", "mydesk")
 PATIENCE = 120  # the seconds after which something hangs
 STORE = "/var/lib/desk/desk.db"
 SOCKET = "unix:/run/desk/desk.sock"
@@ -139,7 +139,8 @@ def install(trial: Trial) -> None:
     )
     words = ["stat", "-c", "%U:%G %a", "/var/lib/desk-door"]
     trial.does("the door's folder", *words, says="^desk-door:desk-door 700$")
-    for name in ("desk-door", "desk-signer", "desk-verify", "mydesk"):
+    more = ("desk-backup", "desk-restore")
+    for name in ("desk-door", "desk-signer", "desk-verify", "mydesk", *more):
         trial.does(f"{name} --help", name, "--help", says=f"^usage: {name} ")
     trial.does(
         "the account's folder", "stat", "-c", "%U:%G %a", "/var/lib/desk", says="^desk:desk 700$"
