@@ -16,6 +16,7 @@ from typing import Any, NamedTuple
 
 from steelnewt_backup.faults import Failed
 from steelnewt_backup.follow import said_in
+from steelnewt_backup.manifest import digest
 from steelnewt_backup.site import Answer, Site, name_of, run_relay
 from steelnewt_client.messages import canonical
 
@@ -39,10 +40,12 @@ class Source(NamedTuple):
 
 
 class Heard(NamedTuple):
-    """What a host has: how many messages its file was made of, and the file's lines."""
+    """What a host has: of how many messages and of which roster its file was made, and the file's
+    lines."""
 
     host: str
     messages: int
+    roster: str
     lines: list[str]
 
 
@@ -156,12 +159,13 @@ def heard_of(folder: str, roster: str, host: str) -> Heard:
     try:
         with open(os.path.join(folder, f"{host}.json"), encoding="ascii") as file:
             rows = json.load(file)["installed"]
-        same = [int(count) for count, digest, _ in rows if digest == roster]
+        same = [int(count) for count, its, _ in rows if its == roster]
+        last = str(rows[-1][1])
         with open(os.path.join(folder, f"{host}.sudoers"), encoding="utf-8") as file:
             lines = file.read().splitlines()
-    except (OSError, ValueError, KeyError, TypeError) as fault:
+    except (OSError, ValueError, KeyError, TypeError, IndexError) as fault:
         raise Failed(f"{folder}: {host}.json and {host}.sudoers cannot be read: {fault}") from None
-    return Heard(host, max(same, default=0), lines)
+    return Heard(host, max(same, default=0), last, lines)
 
 
 def all_heard(folder: str, roster: str) -> list[Heard]:
@@ -175,8 +179,13 @@ def all_heard(folder: str, roster: str) -> list[Heard]:
 def compare(site: Site, heard: list[Heard], now: str, told: Told) -> None:
     """Names each grant that a host has and the desk does not, and each that a host has no more.
     Only a host that has heard of more messages than the desk holds says something of the loss."""
-    held = site.messages()
+    held, roster = site.messages(), digest(site.recorded())
     for it in heard:
+        if it.roster != roster:
+            told.open.append(
+                f"{it.host} had a roster of sha256 {it.roster[:16]}..: it came after the backup, so"
+                " give the desk that one"
+            )
         if it.messages <= len(held):
             continue
         told.lost.append(

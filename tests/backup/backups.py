@@ -248,6 +248,11 @@ def heard(folder: str) -> Iterator[Row]:
     open_ = re.findall(form, ran.stdout, re.M)
     yield "a revocation that a host has", open_ == ["ann 1"], ran
     yield "nothing starts", "Nothing was started" in ran.stdout, ran
+    newer = {"installed": [[count, roster, "0" * 64], [3, "f" * 64, "0" * 64]]}
+    desk.write(brought, "db1.json", json.dumps(newer))
+    other = room.restore("--settle", "--heard", brought)
+    yield "a roster of later", *said(other, 1, "OPEN: db1 had a roster of sha256 ffffffffffffffff")
+    desk.write(brought, "db1.json", json.dumps(told))
     early = room.restore("--settle", "--heard", brought)
     yield "it stays open", *said(early, 1, "OPEN: db1 has it no more")
     ran = room.restore("--settle", "--heard", brought, "--revoke-as", "bob")
