@@ -212,7 +212,7 @@ def ended(line: str, host: str, held: list[str]) -> str:
 
 
 def requests_for(line: str, held: list[str]) -> list[tuple[str, int]]:
-    """The requests that may have given a line."""
+    """The requests that may have given a line: its last second is the window's."""
     grant = DATED.fullmatch(line)
     found = []
     for message in held if grant else []:
@@ -223,7 +223,8 @@ def requests_for(line: str, held: list[str]) -> list[tuple[str, int]]:
             and told["by"] == grant["who"]
             and grant["host"] in told["hosts"]
             and told["runas"] == grant["runas"]
-            and told["from"] <= grant["last"] <= told["until"]
+            and told["from"] <= grant["first"]
+            and told["until"] == grant["last"]
             and grant["command"] in told["cmnds"]
         )
         if is_same:

@@ -81,13 +81,14 @@ class Room:
         for no in numbers:
             at = desk.stamp(begins - 10)
             if outbox:
-                kept = outbox.keep_request("ann", wish(no, begins), at)
+                kept = outbox.keep_request("ann", wish(no, begins + no), at)
                 said = outbox.keep_verdict(Verdict("bob", "approve", "ann", no, at))
                 texts = [kept.message.text(), said.message.text()]
                 outbox.answered(kept.id, "acked")
                 outbox.answered(said.id, "acked")
             else:
-                window = {"from": desk.stamp(begins), "until": desk.stamp(begins + 3_600)}
+                first = begins + no
+                window = {"from": desk.stamp(first), "until": desk.stamp(first + 3_600)}
                 texts = [desk.request(no, at=at, **window), desk.approval(no, at=at)]
             found += texts
         if outbox:
