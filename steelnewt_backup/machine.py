@@ -25,7 +25,8 @@ UNITS = (
     "desk-relay-page.service",
 )  # fmt: skip
 TIMERS = ("desk-backup.timer", "desk-drill.timer", "desk-follow.service", "desk-watch.timer")
-FRONTS = ("nginx.service", "haproxy.service", "apache2.service")
+# (sshd reads the keys that came back as it starts)
+FRONTS = ("nginx.service", "haproxy.service", "apache2.service", "ssh.service", "cron.service")
 LOCKS = ("/var/lib/dpkg/lock-frontend", "/var/lib/dpkg/lock")
 PATIENCE = 600.0  # seconds for which an upgrade is waited for
 
