@@ -48,6 +48,8 @@ def serving(site: Site, address: str) -> subprocess.Popen[bytes]:
     path = address.removeprefix("unix:")
     found = os.stat(site.path("STORE"))
     own = [f"--reuid={found.st_uid}", f"--regid={found.st_gid}", "--clear-groups"]
+    # (who becomes another account no longer ends with the parent, unless that is said again)
+    own.append("--pdeathsig=KILL")
     words = [*APART, "--", "setpriv", *own, *site.words("serve", address)]
     started = subprocess.Popen(words, stdin=subprocess.DEVNULL, stdout=subprocess.PIPE,
                                stderr=subprocess.PIPE)  # fmt: skip
@@ -102,7 +104,10 @@ def compared(site: Site, live: str, backup: Backup, wrong: list[str]) -> Drilled
     finally:
         # (unshare passes no other signal on; its end is that of what it started)
         started.kill()
-        started.communicate()
+        started.wait()
+        for pipe in (started.stdout, started.stderr):
+            assert pipe
+            pipe.close()
 
 
 def unexplained(extra: set[str], at: str) -> list[str]:

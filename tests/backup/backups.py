@@ -421,6 +421,8 @@ def drills(folder: str) -> Iterator[Row]:
     ran = desk.run([*check, "--backup", room.backups])
     yield "check_desk", *said(ran, 2, "CRITICAL - the backup .* would not serve: .*/desk.db")
     yield "nothing is left", os.listdir(os.path.join(folder, "drills")) == [], ""
+    still = tried(["pgrep", "-f", f"serve {folder}/drills/"]).stdout
+    yield "no desk goes on", not still, still
 
 
 def checked(folder: str) -> Iterator[Row]:
