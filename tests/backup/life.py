@@ -261,7 +261,9 @@ class Life:
             self.feed()
         if how == "follow":
             self.wait_for_said()
-        self.does("the drill", "desk-restore --drill")
+        self.does("the drill", "timeout 600 desk-restore --drill")
+        still = sh("pgrep -f 'serve /var/lib/desk-backup/drill'").stdout
+        self.check("the drill's desk ends", not still, still)
         words = f"--desk unix:/run/desk/desk.sock --backup {BACKUPS}"
         checked = sh(f"/usr/lib/nagios/plugins/check_desk {words}")
         self.check("check_desk", checked.returncode == 0, checked)
