@@ -176,9 +176,10 @@ def all_heard(folder: str, roster: str) -> list[Heard]:
     return [heard_of(folder, roster, it) for it in hosts]
 
 
-def compare(site: Site, heard: list[Heard], now: str, told: Told) -> None:
+def compare(site: Site, heard: list[Heard], count: int, now: str, told: Told) -> None:
     """Names each grant that a host has and the desk does not, and each that a host has no more.
-    Only a host that has heard of more messages than the desk holds says something of the loss."""
+    Only a host that has heard of more than the `count` messages that came back says something of
+    the loss."""
     held, roster = site.messages(), digest(site.recorded())
     for it in heard:
         if it.roster != roster:
@@ -186,11 +187,11 @@ def compare(site: Site, heard: list[Heard], now: str, told: Told) -> None:
                 f"{it.host} had a roster of sha256 {it.roster[:16]}..: it came after the backup, so"
                 " give the desk that one"
             )
-        if it.messages <= len(held):
+        if it.messages <= count:
             continue
         told.lost.append(
-            f"{it.host} has heard of {it.messages} messages, and the desk holds {len(held)}:"
-            f" {it.messages - len(held)} are in no source"
+            f"{it.host} has heard of {it.messages} messages, and {count} came back:"
+            f" {it.messages - count} are in no source"
         )
         own = {line for line in site.host_file(it.host) if is_live(line, now)}
         theirs = {line for line in it.lines if is_live(line, now)}
@@ -232,12 +233,12 @@ def requests_for(line: str, held: list[str]) -> list[tuple[str, int]]:
     return found
 
 
-def revoke(site: Site, heard: list[Heard], by: str, now: str, told: Told) -> None:
+def revoke(site: Site, heard: list[Heard], count: int, by: str, now: str, told: Told) -> None:
     """Revokes in somebody's name what hosts have no more: hosts that have heard more are
     believed."""
     held, wanted = site.messages(), set[tuple[str, int]]()
     for it in heard:
-        if it.messages > len(held):
+        if it.messages > count:
             lines = {line for line in site.host_file(it.host) if is_live(line, now)}
             for line in lines - set(it.lines):
                 wanted.update(requests_for(line, held))

@@ -232,9 +232,10 @@ def recover(site: Site, wanted: Wanted, told: Told, folder: str) -> dict[str, in
         if wanted.heard:
             now = stamp_of(int(time.time()))
             heard = lost.all_heard(wanted.heard, digest(site.recorded()))
+            count = len(site.messages())
             if wanted.revoke_as:
-                lost.revoke(site, heard, wanted.revoke_as, now, told)
-            lost.compare(site, heard, now, told)
+                lost.revoke(site, heard, count, wanted.revoke_as, now, told)
+            lost.compare(site, heard, count, now, told)
         known = lost.greatest(site.messages())
     for source in found:
         for who, no in lost.greatest(source.messages).items():

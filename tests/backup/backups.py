@@ -241,7 +241,7 @@ def heard(folder: str) -> Iterator[Row]:
     desk.write(brought, "db1.json", json.dumps(told))
     room.lose()
     ran = room.restore("--heard", brought)
-    yield "what is lost", *said(ran, 1, "db1 has heard of 15 messages, and the desk holds 12: 3")
+    yield "what is lost", *said(ran, 1, "db1 has heard of 15 messages, and 12 came back: 3 ")
     given = re.findall(r"^LOST: granted, and nobody knows by which .*: (.*)$", ran.stdout, re.M)
     yield "a grant that a host has", len(given) == 1 and "/usr/bin/id" in given[0], ran
     form = r"^OPEN: db1 has it no more, so it was revoked: (.*?): ann db1"
