@@ -257,10 +257,16 @@ def heard(folder: str) -> Iterator[Row]:
     yield "it stays open", *said(early, 1, "OPEN: db1 has it no more")
     ran = room.restore("--settle", "--heard", brought, "--revoke-as", "bob")
     yield "revoked", *said(ran, 1, "FILLED IN from what hosts no longer have: .*\"no\":1,")
-    now_there = desk.run(words).stdout.splitlines()
-    gone = set(now_there) - set(lines.splitlines())
+    now_there = {it for it in desk.run(words).stdout.splitlines() if is_live(it)}
+    gone = now_there - set(lines.splitlines())
     yield "the desk gives nothing that the host has not", not gone, gone
     yield "and nothing is open", "OPEN" not in ran.stdout, ran
+
+
+def is_live(line: str) -> bool:
+    """Whether a dated line of a host's file is not over."""
+    found = re.search("NOTAFTER=([0-9]{14}Z)", line)
+    return found is not None and found[1] >= desk.stamp(time.time())
 
 
 def bad_backups(folder: str) -> Iterator[Row]:
@@ -277,9 +283,11 @@ def bad_backups(folder: str) -> Iterator[Row]:
 
 
 def piece_of(at: str) -> str:
-    """The largest piece: the store's."""
-    found = list(os.scandir(os.path.join(at, "pieces")))
-    return max(found, key=lambda it: it.stat().st_size).path
+    """The first piece of the store."""
+    with open(os.path.join(at, "manifest.json"), encoding="utf-8") as file:
+        entries = json.load(file)["entries"]
+    [store] = [it for it in entries if it["path"] == STORE]
+    return os.path.join(at, "pieces", store["pieces"][0]["sha256"])
 
 
 def rewritten(folder: str, **members: object) -> None:

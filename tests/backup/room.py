@@ -11,9 +11,10 @@ import sys
 import time
 from collections.abc import Iterable
 
+from steelnewt_backup.manifest import MOMENT
 from steelnewt_client.messages import Verdict, Wish
-from steelnewt_door.rows import Last, answered, came, following, line_of
 from steelnewt_client.signed import Signed
+from steelnewt_door.rows import Last, answered, came, following, line_of
 from steelnewt_relay.outbox import Outbox
 from tests.common import desk
 
@@ -141,7 +142,7 @@ class Room:
         os.mkdir(self.root)
 
     def moments(self) -> list[str]:
-        return sorted(it for it in os.listdir(self.backups) if it.endswith("Z"))
+        return sorted(it for it in os.listdir(self.backups) if MOMENT.fullmatch(it))
 
     def manifest(self) -> dict[str, object]:
         path = os.path.join(self.backups, self.moments()[-1], "manifest.json")
