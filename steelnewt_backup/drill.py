@@ -23,7 +23,7 @@ from steelnewt_client.moments import of_stamp, stamp_of
 
 ROOM = "/var/lib/desk-backup"
 RESULT = "drill.json"  # beside the backups: what check_desk --backup reads
-PATIENCE = 120.0
+PATIENCE = 900.0
 SHOWN = 20  # lines that differ which are printed
 APART = ("unshare", "--mount", "--net", "--pid", "--ipc", "--uts", "--fork", "--kill-child")
 
