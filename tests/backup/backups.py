@@ -354,12 +354,14 @@ def at_once(folder: str) -> Iterator[Row]:
     room.backup()
     room.lose()
     os.makedirs(room.path("/var/lib/desk-restore"))
-    with subprocess.Popen(["flock", room.path("/var/lib/desk-restore"), "sleep", "30"]) as other:
+    # (-o: the lock goes with flock itself)
+    own = room.path("/var/lib/desk-restore")
+    with subprocess.Popen(["flock", "-o", own, "sleep", "30"]) as other:
         time.sleep(0.5)
         yield "two restores at once", *said(room.restore(), 2, "another restore runs")
         other.kill()
     room.restore()
-    with subprocess.Popen(["flock", room.backups, "sleep", "30"]) as other:
+    with subprocess.Popen(["flock", "-o", room.backups, "sleep", "30"]) as other:
         time.sleep(0.5)
         yield "two backups at once", *said(room.backup(), 2, "another program works on")
         other.kill()
