@@ -298,8 +298,11 @@ def last_of(root: str) -> dict[str, Any]:
 
 def start(root: str) -> list[str]:
     """Enables and starts the units that ran as the backup was taken: their names."""
-    found = []
-    for name, (enabled, active) in last_of(root)["units"].items():
+    found: list[str] = []
+    units, places = last_of(root)["units"], {it: at for at, it in enumerate(machine.UNITS)}
+    # (the desk first, and what only uses it behind it)
+    for name in sorted(units, key=lambda it: (it not in machine.UNITS, places.get(it, 0), it)):
+        enabled, active = units[name]
         if enabled == "enabled":
             machine.systemctl("enable", name)
         if active in ("active", "activating"):
