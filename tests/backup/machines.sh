@@ -76,7 +76,8 @@ boot() {
     printf '%s\n' '[Unit]' 'After=dbus.service sysinit.target' 'DefaultDependencies=no' \
         '[Service]' 'Type=oneshot' 'WorkingDirectory=/run/out' 'TimeoutStartSec=infinity' \
         'ExecStart=/usr/bin/python3 -m tests.backup.life' 'StandardOutput=append:/run/out/printed' \
-        'StandardError=append:/run/out/printed' 'ExecStopPost=/bin/systemctl --force --force poweroff' \
+        'StandardError=append:/run/out/printed' \
+        'ExecStopPost=/bin/systemctl --force --force poweroff' \
         > "$root/etc/systemd/system/life.service"
     ln -sf inside.target "$root/etc/systemd/system/default.target"
     # a lost machine's root is empty: what this machine has of a desk is not there
