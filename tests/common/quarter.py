@@ -93,6 +93,8 @@ class Planted:
     renamed: str = ""
     backdated: str = ""
     struck_out: str = ""
+    # asked and refused by the desk, so that no message has its number
+    attempt: str = ""
     refused: int = 0
     revoked: int = 0
     late: list[Message] = field(default_factory=list)
@@ -242,9 +244,14 @@ class Maker:
             "until": stamp(seconds(begins) + lasts),
         }
         if draw.random() < 0.9:
-            why = {"by": by, "no": asked["no"], "why": "planned work", "ticket": f"OPS-{at[4:12]}"}
-            self.reasons.append(json.dumps(why))
+            self.reason(asked, "acked", None)
         return self.say(**asked | more)
+
+    def reason(self, asked: Message, state: str, answer: str | None) -> None:
+        """Why somebody asked, as `desk-relay reasons` prints it."""
+        name = {"who": asked["by"], "no": asked["no"], "at": asked["at"]}
+        why = {"why": "planned work", "ticket": f"OPS-{asked['at'][4:12]}"}
+        self.reasons.append(json.dumps({**name, **why, "state": state, "answer": answer}))
 
     def verdict(self, kind: str, asked: Message, by: str, after: int) -> Message:
         at = stamp(seconds(asked["at"]) + after)
@@ -270,9 +277,9 @@ class Maker:
         at = seconds(FROM) + day * 86_400 + hour * 3600 + draw.randrange(3600)
         return stamp(at)
 
-    def ordinary(self) -> None:
-        for it in range(REQUESTS):
-            at = self.moment(it * DAYS // REQUESTS)
+    def ordinary(self, count: int) -> None:
+        for it in range(count):
+            at = self.moment(it * DAYS // count)
             reading = self.history.readings[self.history.served(at)]
             labels = [it for it in sorted(reading.ceilings) if it != "break-glass"]
             label = self.random.choice(labels)
@@ -364,6 +371,13 @@ class Maker:
     def glass(self) -> None:
         asked = self.ask(self.moment(48, 2), "kay.z", "break-glass", hosts=["k1"])
         self.verdict("approve", asked, "glass", 20)
+        # (he is not on call, so the desk refuses him, and his number is missing)
+        self.ask(self.moment(72, 5), "rolf.c", "db-prod")
+        self.numbers["rolf.c"] += 1
+        refused = {"by": "rolf.c", "no": self.numbers["rolf.c"], "at": self.moment(73, 3)}
+        self.reason(refused, "refused", "A3 NotAsker")
+        self.planted.attempt = f"rolf.c {refused['no']}"
+        self.ask(self.moment(74, 5), "rolf.c", "db-prod")
 
     def rename(self) -> None:
         """mia.berg asks on her last day, and as mia.holm approves on the next."""
@@ -440,10 +454,10 @@ def runs(found: Quarter, draw: random.Random) -> Iterator[tuple[str, str, str, s
     yield from BY_BASE
 
 
-def quarter(seed: int = 1) -> Quarter:
-    """The site of a seed."""
+def quarter(seed: int = 1, count: int = REQUESTS) -> Quarter:
+    """The site of a seed, with so many ordinary requests beside those that are planted."""
     maker = Maker(seed)
-    maker.ordinary()
+    maker.ordinary(count)
     maker.plant()
     lines = sorted({line_of(it) for it in maker.messages})
     bases = {MOMENTS[0]: FIRST_BASE, SECOND_BASE: LATER_BASE}

@@ -1,18 +1,27 @@
-"""What an audit of a time rests on: the inputs, the reports of the desk and of a second reading,
-and a manifest. The same inputs give the same bytes, on whatever day."""
+"""What an audit of a time rests on: the inputs, the reports of the desk and of a second reading, a
+summary with a page and a sample of requests, and a manifest. The same inputs give the same bytes,
+on whatever day."""
 
-import csv
-import hashlib
-import io
 import json
 import os
 import re
 import shutil
 import subprocess
-from collections.abc import Iterator
+import tempfile
+from collections.abc import Iterable, Iterator
 from dataclasses import dataclass, field
-from typing import Any, NamedTuple
+from typing import Any
 
+from desk_tools import pieces
+from desk_tools.decisions import Desk
+from desk_tools.gaps import Gap, gap_lines, gaps
+from desk_tools.made import digest, digest_of, lines_of, made
+from desk_tools.periods import Dated, Failed, Period, read
+from desk_tools.pieces import Piece, Reasons
+from desk_tools.report_html import page
+from desk_tools.rights import Base, Right, Standing
+from desk_tools.roster_words import base_words
+from desk_tools.summary import Data, Summary, Told
 from desk_tools.toml_text import read as read_toml
 from desk_tools.use import GIVEN
 from steelnewt_client.messages import canonical
@@ -20,22 +29,27 @@ from steelnewt_client.moments import seconds, stamp_of
 from steelnewt_client.places import place
 
 NAMESPACE = "desk-evidence"
-MANIFEST = "SHA256SUMS"
-DATED = re.compile(r"(\d{14}Z)\.toml")
+MANIFEST, SUMMARY = "SHA256SUMS", "summary.json"
 REFUSED = re.compile(r"line (\d+): (.*)")
-COLUMNS = "roster who no target host commands from until approvers used".split()
 ABOUT = """\
 What an audit from {first} to {last} rests on. The same inputs give the same bytes.
 
+report.html     the page for people: begin there
+summary.json    what the page says, what made it, and the digests of the three next to it
+sample.csv      the sample of requests, where one was asked for
+grants.csv      each grant of that time on each host, cut to the time of each roster; moments
+                stand in it twice, the second time as a spreadsheet reads them
 messages        all that the desk was told, sorted
-base.sudo       the base policy
+gaps            the numbers of askers that no message has
+reasons         why people asked, as the relay keeps it
 versions        the programs, and their SHA-256
-grants.csv      each grant of that time, by roster and host
 logs            the logs of sudo that were read, and their SHA-256
-ROSTER/         for each roster of that time, by the moment since which it was served:
-  roster.toml   the roster
-  refused       messages that it does not admit, with the code; they are left out below
-  from.report   what `desk review` says of its first moment in that time
+MOMENT/         for each roster and base of that time, by the moment since which they were served:
+  made.json     what made the files here: the programs, and the digests of what they read
+  roster.toml, base.sudo
+  refused       messages that the roster does not admit, with the code; they are left out below
+  from.report   what `desk review` says of its first moment in that time, by what was said till
+                then
   until.report  and of its last one
   audit.json    what `desk-audit --json` tells of that time
   statuses      each name with its status, as desk-audit tells it, of all times
@@ -44,46 +58,13 @@ ROSTER/         for each roster of that time, by the moment since which it was s
   used.json     what `desk-used` tells of the logs, by the audit of all times
 second-reading.jq  the second reading itself
 
+Each answer is that of one roster, and MOMENT says of which: ask about a day by the roster of it.
+
 To check it: sha256sum -c SHA256SUMS
 and who signed it: ssh-keygen -Y verify -f SIGNERS -I WHO -n desk-evidence \\
     -s SHA256SUMS.sig < SHA256SUMS
+(summary.json.sig is of the summary alone, for whoever has only that)
 """
-
-
-# of a grant on a host, by the logs
-Statuses = dict[tuple[str, int, str], str]
-
-
-class Failed(Exception):
-    """Why there is no evidence."""
-
-
-class Period(NamedTuple):
-    """A roster, since when it was served, and its part of the time."""
-
-    name: str
-    text: bytes
-    first: str
-    last: str
-
-
-def read(path: str) -> bytes:
-    with open(path, "rb") as file:
-        return file.read()
-
-
-def periods(folder: str, first: str, last: str) -> list[Period]:
-    """The rosters that were served in that time; a file's name is the moment since which."""
-    dated = sorted(found[1] for it in os.listdir(folder) if (found := DATED.fullmatch(it)))
-    if not dated or dated[0] > first:
-        raise Failed(f"{folder}: it has no roster YYYYMMDDHHMMSSZ.toml of {first} or before")
-    served: list[Period] = []
-    for at, after in zip(dated, [*dated[1:], None], strict=True):
-        end = last if after is None else min(last, stamp_of(seconds(after) - 1))
-        if at <= last and first <= end:
-            text = read(os.path.join(folder, f"{at}.toml"))
-            served.append(Period(at, text, max(at, first), end))
-    return served
 
 
 @dataclass
@@ -94,15 +75,21 @@ class Evidence:
     first: str
     last: str
     messages: list[bytes]
-    base: str
+    bases: list[Dated]
     desk: str
     audit: str
     reading: str
     logs: list[str]
     log_options: list[str]
-    rows: list[dict[str, Any]] = field(default_factory=list)
+    reasons: Reasons | None
+    sample: tuple[int, str] | None  # how many, and the seed
+    key: str | None
+    pieces: list[Piece] = field(default_factory=list)
     # what desk-audit tells of the names that a roster granted so far
     given: dict[tuple[str, int], Any] = field(default_factory=dict)
+    said: str = ""  # what the desk says of its version
+    read: list[Data] = field(default_factory=list)
+    gaps: list[Gap] = field(default_factory=list)
 
     def put(self, name: str, data: bytes | str) -> str:
         path = os.path.join(self.folder, name)
@@ -110,6 +97,9 @@ class Evidence:
         with open(path, "wb") as file:
             file.write(data.encode() if isinstance(data, str) else data)
         return path
+
+    def put_json(self, name: str, told: Data) -> str:
+        return self.put(name, json.dumps(told, indent=1, sort_keys=True) + "\n")
 
     def run(self, *words: str, given: bytes = b"", ok: tuple[int, ...] = (0,)) -> tuple[bytes, str]:
         """A program's output, and its standard error."""
@@ -123,20 +113,28 @@ class Evidence:
         return ran.stdout, said
 
     def fill(self, found: list[Period]) -> None:
+        self.said = self.run(self.desk, "--version")[0].decode()
+        self.read = [message_of(it) for it in self.messages]
+        self.gaps = gaps(it for it in self.read if it)
+        self.inputs()
+        summary, before = Summary(self.first, self.last, self.reasons), None
+        for it in found:
+            summary.take(self.period(it, before))
+            before = it
+        self.hand_on(summary, found)
+
+    def inputs(self) -> None:
+        """What is put in as it was given."""
         self.put("messages", b"".join(it + b"\n" for it in self.messages))
-        self.put("base.sudo", read(self.base))
+        self.put("gaps", "".join(f"{line}\n" for line in gap_lines(self.gaps)))
         self.put("second-reading.jq", read(self.reading))
         self.put("README", ABOUT.format(first=self.first, last=self.last))
         self.put("versions", self.versions())
         if self.logs:
             self.put("logs", "".join(f"{digest(path)}  {path}\n" for path in self.log_files()))
-        for it in found:
-            self.period(it)
-        text = io.StringIO()
-        table = csv.DictWriter(text, COLUMNS, lineterminator="\n")
-        table.writeheader()
-        table.writerows(self.rows)
-        self.put("grants.csv", text.getvalue())
+        if self.reasons is not None:
+            lines = [json.dumps(it, sort_keys=True) for _, it in sorted(self.reasons.items())]
+            self.put("reasons", "".join(f"{line}\n" for line in lines))
 
     def log_files(self) -> list[str]:
         from desk_tools.used_program import files_named
@@ -144,100 +142,191 @@ class Evidence:
         return sorted({path for it in self.logs for _, path in files_named(it)})
 
     def versions(self) -> str:
-        lines = self.run(self.desk, "--version")[0].decode().splitlines()
+        lines = self.said.splitlines()
         for program in (self.desk, self.audit):
             lines.append(f"{digest(program)}  {os.path.basename(program)}")
         lines += self.run("jq", "--version")[0].decode().splitlines()
         return "".join(f"{line}\n" for line in lines)
 
-    def period(self, it: Period) -> None:
+    # ---- one roster
+
+    def period(self, it: Period, before: Period | None) -> Told:
         roster = self.put(f"{it.name}/roster.toml", it.text)
-        texts = (roster, self.base, "-")
-        given = b"".join(line + b"\n" for line in self.messages)
-        whole, said = self.run(self.audit, *texts, "--json", given=given)
+        base = self.put(f"{it.name}/base.sudo", it.base)
+        texts = (roster, base, "-")
+        whole, said = self.run(self.audit, *texts, "--json", given=joined(self.messages))
         refused = {int(at): why for at, why in REFUSED.findall(said)}
-        kept = [line for at, line in enumerate(self.messages, 1) if at not in refused]
-        given = b"".join(line + b"\n" for line in kept)
+        kept = [at for at in range(1, len(self.messages) + 1) if at not in refused]
         lines = [why.encode() + b" " + self.messages[at - 1] for at, why in refused.items()]
-        self.put(f"{it.name}/refused", b"".join(line + b"\n" for line in lines))
+        self.put(f"{it.name}/refused", joined(lines))
+        self.made(it, len(refused))
+        self.reports(it, texts, kept)
+        told = self.audited(it, texts, kept)
+        audit = json.loads(whole)
+        is_same = self.compare(it, audit, kept)
+        used = self.used(it, audit, base)
+        self.pieces += pieces.pieces_of(it.name, it.first, it.last, told, statuses_of(used))
+        return Told(
+            name=it.name,
+            first=it.first,
+            last=it.last,
+            roster=read_toml(it.text).value,
+            base_words=self.base_change(before, it),
+            names={(name["by"], name["no"]): name for name in audit["names"]},
+            used=used,
+            refused=[(why, said) for at, why in refused.items() if (said := self.read[at - 1])],
+            is_same=is_same,
+        )
+
+    def made(self, it: Period, refused: int) -> None:
+        """Says what made the files of a roster."""
+        files = [("roster", digest_of(it.text)), ("base", digest_of(it.base))]
+        files.append(("messages", digest_of(joined(self.messages))))
+        more = {"messages": len(self.messages), "refused": refused}
+        more |= {"from": it.first, "until": it.last}
+        self.put_json(f"{it.name}/made.json", made(NAMESPACE, self.said, files, **more))
+
+    def reports(self, it: Period, texts: tuple[str, ...], kept: list[int]) -> None:
+        """What the desk reports of both ends, each by what had been said until then."""
         for end, at in (("from", it.first), ("until", it.last)):
+            until = [no for no in kept if self.read[no - 1].get("at", "") <= at]
+            given = joined(self.messages[no - 1] for no in until)
             report, _ = self.run(self.desk, "review", *texts, at, given=given)
             self.put(f"{it.name}/{end}.report", report)
+
+    def audited(self, it: Period, texts: tuple[str, ...], kept: list[int]) -> Data:
         span = ("--from", it.first, "--until", it.last)
+        given = joined(self.messages[no - 1] for no in kept)
         told, _ = self.run(self.audit, *texts, *span, "--json", given=given)
         self.put(f"{it.name}/audit.json", told)
-        self.compare(it, json.loads(whole), kept)
-        self.grants(it, json.loads(told), self.used(it, json.loads(whole)))
+        found: Data = json.loads(told)
+        return found
+
+    def base_change(self, before: Period | None, it: Period) -> list[str]:
+        """What another base opens up and takes away."""
+        if before is None or before.base == it.base:
+            return []
+        paths = [os.path.join(self.folder, each.name, "base.sudo") for each in (before, it)]
+        texts = [self.run(self.desk, "check", path)[0].decode() for path in paths]
+        opens, closes = (
+            self.run(self.desk, "beyond", one, other, ok=(0, 1, 2))[0].decode().strip()
+            for one, other in (reversed(paths), paths)
+        )
+        return base_words(*texts, *("" if it == "none" else it for it in (opens, closes)))
 
     # ---- the second reading
 
-    def compare(self, it: Period, told: dict[str, Any], kept: list[bytes]) -> None:
+    def compare(self, it: Period, told: Data, kept: list[int]) -> bool:
         statuses = "".join(f"{status_line(name)}\n" for name in told["names"])
         self.put(f"{it.name}/statuses", statuses)
         # (desk-audit has read it: it has no faults)
         roster = self.put(f"{it.name}/roster.json", json.dumps(read_toml(it.text).value))
-        given = b"".join(line + b"\n" for line in kept)
+        lines = [self.messages[no - 1] for no in kept]
         words = ["jq", "-rn", "--slurpfile", "roster", roster, "-f", self.reading]
-        second, _ = self.run(*words, given=given)
+        second, _ = self.run(*words, given=joined(lines))
         os.unlink(roster)
         self.put(f"{it.name}/second", second)
         is_alike = second.decode() == statuses
-        is_whole = sorted(messages_told(told)) == kept
-        lines = [
+        left_out, is_whole = len(self.messages) - len(kept), sorted(messages_told(told)) == lines
+        told_all = "all messages are told"
+        if left_out or self.gaps:
+            parts = [f" but {left_out:,} that are refused"] if left_out else []
+            parts += [", and NUMBERS ARE MISSING (gaps)"] if self.gaps else []
+            told_all = f"all messages that are here are told{''.join(parts)}"
+        said = [
             "the statuses are the same" if is_alike else "THE STATUSES DIFFER",
-            "all messages are told" if is_whole else "NOT ALL MESSAGES ARE TOLD, OR OTHERS",
+            told_all if is_whole else "NOT ALL MESSAGES ARE TOLD, OR OTHERS",
         ]
-        self.put(f"{it.name}/comparison", "".join(f"{line}\n" for line in lines))
+        self.put(f"{it.name}/comparison", "".join(f"{line}\n" for line in said))
+        return is_alike and is_whole
 
     # ---- the logs
 
-    def with_revoked(self, audit: dict[str, Any]) -> dict[str, Any]:
+    def with_revoked(self, audit: Data) -> Data:
         """The audit by this roster, and beside it the grants that only an earlier roster had: a
         host that had not fetched yet may have run their commands after they were revoked."""
         names = {(it["by"], it["no"]): it for it in audit["names"]}
         self.given |= {key: it for key, it in names.items() if it["status"] in GIVEN}
         return audit | {"names": list((names | self.given).values())}
 
-    def used(self, it: Period, audit: dict[str, Any]) -> Statuses:
-        """Each grant's status by the logs. The audit is of all times: what ran in this one may have
-        been revoked before it."""
+    def used(self, it: Period, audit: Data, base: str) -> Data | None:
+        """What desk-used tells. The audit is of all times: what ran in this one may have been
+        revoked before it."""
         if not self.logs:
-            return {}
+            return None
         given = json.dumps(self.with_revoked(audit)).encode()
         words = [place("tools/desk-used", "bin/desk-used"), "--json", "--desk", self.desk]
-        words += [*self.log_options, "--from", it.first, "--until", it.last, "-", self.base]
+        words += [*self.log_options, "--from", it.first, "--until", it.last, "-", base]
         out, _ = self.run(*words, *self.logs, given=given, ok=(0, 1))
         self.put(f"{it.name}/used.json", out)
-        return {(it["by"], it["no"], it["host"]): it["status"] for it in json.loads(out)["grants"]}
+        found: Data = json.loads(out)
+        return found
 
-    def grants(self, it: Period, told: dict[str, Any], used: Statuses) -> None:
-        names = {(name["by"], name["no"]): name for name in told["names"]}
-        for window in told["windows"]:
-            name = names[window["by"], window["no"]]
-            asked = name["requests"][0]
-            row = (
-                it.name,
-                name["by"],
-                name["no"],
-                asked["runas"],
-                window["host"],
-                ", ".join(asked["cmnds"]),
-                window["from"],
-                window["until"],
-                " ".join(approvers(name)),
-                used.get((name["by"], name["no"], window["host"]), ""),
-            )
-            self.rows.append(dict(zip(COLUMNS, row, strict=True)))
+    # ---- what is handed on
+
+    def standing(self, found: list[Period]) -> list[Right]:
+        """The standing rights at the end, with the bases since when each is there."""
+        with tempfile.TemporaryDirectory() as room:
+            dated = [it for it in self.bases if it.at <= found[-1].first or not it.at]
+            ends = [stamp_of(seconds(it.at) - 1) for it in dated[1:]] + [self.last]
+            bases = []
+            for it, end in zip(dated, ends, strict=True):
+                path = os.path.join(room, f"{it.at}.sudo")
+                with open(path, "wb") as file:
+                    file.write(it.text)
+                bases.append(Base(it.at, end, path, is_dated=bool(it.at)))
+            asked = os.path.join(room, "asked")
+            os.mkdir(asked)
+            return list(Standing(Desk(self.desk, asked), bases, self.last).all())
+
+    def hand_on(self, summary: Summary, found: list[Period]) -> None:
+        """The summary, the page, the sample, and the table of the grants."""
+        lasts = {it.name: it.last for it in found}
+        reasons = self.reasons or {}
+        table = self.put("grants.csv", pieces.table_of(self.pieces, lasts, reasons))
+        told = summary.data(self.standing(found), self.gaps)
+        files, rows = {"grants.csv": digest(table)}, list[dict[str, str]]()
+        if self.sample:
+            count, seed = self.sample
+            drawn = summary.sampled(seed, count)
+            rows = pieces.sampled_rows(drawn, self.pieces, lasts, reasons)
+            path = self.put("sample.csv", pieces.sample_csv(rows))
+            files["sample.csv"] = digest(path)
+            told["sample"] = {"count": count, "seed": seed, "of": len(summary.names)}
+        head = self.head(found)
+        text = page(told, rows, lines_of(head), bool(self.logs))
+        files["report.html"] = digest(self.put("report.html", text))
+        path = self.put_json(SUMMARY, {"made": head, **told, "files": files})
+        if self.key:
+            sign(path, self.key)
+
+    def head(self, found: list[Period]) -> Data:
+        """What made the whole."""
+        files = [("messages", digest_of(joined(self.messages)))]
+        files += [(f"roster of {it.name}", digest_of(it.text)) for it in found]
+        files += [(f"base of {it.name}", digest_of(it.base)) for it in found]
+        files += [(f"log {path}", digest(path)) for path in (self.log_files() if self.logs else ())]
+        more = {"messages": len(self.messages), "from": self.first, "until": self.last}
+        return made(NAMESPACE, self.said, files, **more)
 
 
-def digest(path: str) -> str:
-    with open(path, "rb") as file:
-        return hashlib.file_digest(file, "sha256").hexdigest()
+def joined(lines: Iterable[bytes]) -> bytes:
+    return b"".join(line + b"\n" for line in lines)
 
 
-def approvers(name: dict[str, Any]) -> list[str]:
-    counted = [it["verdict"] for it in name["verdicts"] if it["counts"]]
-    return sorted({it["by"] for it in counted if it["kind"] == "approve"})
+def message_of(line: bytes) -> Data:
+    """A line as a message; an empty one where it is none, which the desk refuses."""
+    try:
+        found = json.loads(line)
+        found.get("of", found["by"])
+        return {**found, "no": int(found["no"]), "at": str(found["at"])}
+    except (ValueError, KeyError, TypeError, AttributeError, RecursionError):
+        return {}
+
+
+def statuses_of(used: Data | None) -> dict[tuple[str, int, str], str]:
+    rows = used["grants"] if used else []
+    return {(it["by"], it["no"], it["host"]): it["status"] for it in rows}
 
 
 def status_line(name: dict[str, Any]) -> str:
@@ -264,8 +353,9 @@ def manifest(folder: str) -> str:
     return "".join(f"{digest(os.path.join(folder, it))}  {it}\n" for it in sorted(found))
 
 
-def sign(folder: str, key: str) -> None:
-    words = ["ssh-keygen", "-Y", "sign", "-f", key, "-n", NAMESPACE, os.path.join(folder, MANIFEST)]
+def sign(path: str, key: str) -> None:
+    """Signs a file, by a file beside it."""
+    words = ["ssh-keygen", "-Y", "sign", "-f", key, "-n", NAMESPACE, path]
     try:
         ran = subprocess.run(words, stderr=subprocess.PIPE, text=True, check=False)
     except OSError as fault:

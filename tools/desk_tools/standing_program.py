@@ -17,6 +17,7 @@ from desk_tools.found import Parser, visible
 from desk_tools.judge import NoDesk, program
 from desk_tools.made import Made, digest, lines_of, made
 from desk_tools.rights import Base, Right, Standing
+from desk_tools.times import spread
 from desk_tools.toml_text import read as read_toml
 from desk_tools.written_out import BadText
 from steelnewt_client.moments import BadMoment, of_stamp, seconds, stamp, stamp_of
@@ -29,11 +30,6 @@ COLUMNS = """user host target right without password since since_time or_before 
 
 class Failed(Exception):
     """Why nothing can be told."""
-
-
-def spread(at: str) -> str:
-    """A moment as a spreadsheet reads it, in UTC."""
-    return f"{of_stamp(at):%Y-%m-%d %H:%M:%S}" if at else ""
 
 
 def parser() -> argparse.ArgumentParser:
