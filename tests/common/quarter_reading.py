@@ -220,3 +220,46 @@ class History:
             for by, held in sorted(numbers.items())
             if (gaps := sorted({*range(min(held), max(held))} - held))
         }
+
+    def counted(self, first: str, last: str) -> list[tuple[str, str, int]]:
+        """Approvals of a time that counted, by the roster of their moment: who asked, who approved,
+        and after how many seconds."""
+        found = []
+        for roster, begin, end in self.spans(first, last):
+            for name, outcome in self.by[roster].items():
+                for it, why in outcome.verdicts:
+                    if it["kind"] == "approve" and not why and begin <= it["at"] <= end:
+                        asked = min(it["at"] for it in self.requests[name])
+                        found.append((name[0], it["by"], seconds(it["at"]) - seconds(asked)))
+        return found
+
+    def idle(self, first: str, last: str) -> list[tuple[str, str, str]]:
+        """Who holds a duty on the last day and never used it: who, the duty, ask or approve."""
+        reading = self.readings[self.served(last)]
+        did = set()
+        for it in self.messages:
+            if first <= it["at"] <= last:
+                kind = "ask" if it["kind"] == "request" else "approve"
+                asked = self.requests.get((it.get("of", it["by"]), it["no"]), ())
+                did |= {(it["by"], kind, each["ceiling"]) for each in asked}
+        found = []
+        for person in sorted(reading.people):
+            for kind in ("ask", "approve"):
+                for duty in sorted({it[kind] for it in reading.ceilings.values()}):
+                    labels = {n for n, it in reading.ceilings.items() if it[kind] == duty}
+                    is_held = reading.holds(person, duty, last)
+                    if is_held and not any((person, kind, it) in did for it in labels):
+                        found.append((person, duty, kind))
+        return found
+
+
+def without_cuts(pieces: Iterable[Piece]) -> list[Piece]:
+    """The pieces, with those put together that only a change of a roster or a base cut."""
+    found: list[Piece] = []
+    for it in sorted(pieces):
+        last = found[-1] if found else None
+        if last and last[:3] == it[:3] and seconds(last[4]) + 1 == seconds(it[3]):
+            found[-1] = (*last[:4], it[4])
+        else:
+            found.append(it)
+    return found

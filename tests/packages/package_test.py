@@ -32,6 +32,7 @@ NEEDED += ",python3-jsonschema,sqlite3,openssh-client,tzdata,python3-flask,pytho
 NEEDED += ",python3-pika,strace,sudo,systemd"
 DOC = "/usr/share/doc/steelnewt"
 TOOLS = ("desk-lint", "desk-import", "desk-used", "desk-change-roster", "desk-roster")
+TOOLS += ("desk-standing",)
 NAMES = ("steelnewt", "steelnewt-host", "steelnewt-host-plugin", "steelnewt-tools")
 NAMES += ("python3-steelnewt-client",)
 RELAY, BROKER = "steelnewt-relay", "steelnewt-broker"

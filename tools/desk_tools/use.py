@@ -39,9 +39,10 @@ class Grant:
     revoked: int | None
     is_logged: bool = False
     moments: list[int] = field(default_factory=list)
-    # by command: when it was run, and which files
+    # by command: when it was run, which files, and each file with its arguments
     used: dict[str, list[int]] = field(default_factory=dict)
     ran: dict[str, set[str]] = field(default_factory=dict)
+    seen: dict[str, set[tuple[str, ...]]] = field(default_factory=dict)
 
     @property
     def name(self) -> str:
@@ -275,6 +276,7 @@ class Use:
                 for command in commands:
                     grant.used.setdefault(command, []).extend(found)
                     grant.ran.setdefault(command, set()).add(done.path)
+                    grant.seen.setdefault(command, set()).add((done.path, *done.args))
             if within:
                 grants = tuple(covering[it][0] for it in within)
                 self.rows.append(Row(done, "grant", grants, "", found))

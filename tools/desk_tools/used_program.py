@@ -2,6 +2,7 @@
 
 import argparse
 import json
+import os
 import re
 import sys
 import tempfile
@@ -12,6 +13,7 @@ from typing import Any
 from desk_tools.decisions import Desk
 from desk_tools.found import Parser, visible
 from desk_tools.judge import NoDesk, program
+from desk_tools.made import Made, digest, digest_of, made
 from desk_tools.narrower import proposals
 from desk_tools.peers import BadPeers, Peers
 from desk_tools.standing import Standing, beyond
@@ -72,15 +74,28 @@ def parser() -> argparse.ArgumentParser:
     return found
 
 
-def audit_of(path: str) -> dict[str, Any]:
+def audit_of(path: str) -> tuple[dict[str, Any], str]:
+    """What an audit tells, and the digest of its text."""
+    with open(0 if path == "-" else path, "rb") as file:
+        data = file.read()
     try:
-        with open(0 if path == "-" else path, encoding="utf-8") as file:
-            told: dict[str, Any] = json.load(file)
+        told: dict[str, Any] = json.loads(data)
         grants_of(told)
         revoked_of(told)
     except (ValueError, KeyError, TypeError, RecursionError):
         raise Failed(f"{path}: it is not what desk-audit --json prints") from None
-    return told
+    return told, digest_of(data)
+
+
+def made_of(said: argparse.Namespace, desk: Desk, audit: str) -> Made:
+    """What made the output: of what is no file, such as a pipe, there is no digest."""
+    files = [("audit", audit), ("base", digest(said.base))]
+    files += [("roster", digest(said.roster))] if said.roster else []
+    logs = sorted({path for word in said.logs for _, path in files_named(word)})
+    files += [(f"log {visible(it)}", digest(it)) for it in logs if os.path.isfile(it)]
+    span = {"from": getattr(said, "from"), "until": said.until}
+    more = {key: stamp_of(at) for key, at in span.items() if at is not None}
+    return made("desk-used", desk.run("--version").stdout, files, **more)
 
 
 def files_named(word: str) -> list[tuple[str, str]]:
@@ -134,6 +149,8 @@ def more_of(said: argparse.Namespace, use: Use, until: int) -> Told:
                 "unused": it.unused,
                 "no_log": it.unlogged,
                 "proposal": it.text,
+                "warnings": it.warnings,
+                "persons": [person._asdict() for person in it.persons],
             }
             for it in proposals(roster_of(said.roster), use.grants, until)
         ]
@@ -151,7 +168,7 @@ def starts_of(said: argparse.Namespace, logs: Logs, use: Use, span: Span) -> Tol
 
 
 def used(said: argparse.Namespace) -> int:
-    audit, logs = audit_of(said.audit), logs_of(said)
+    (audit, audit_digest), logs = audit_of(said.audit), logs_of(said)
     until = last_of(logs) if said.until is None else said.until
     since = getattr(said, "from") or 0
     span = Span(since, ENDLESS if said.until is None else said.until)
@@ -163,6 +180,7 @@ def used(said: argparse.Namespace) -> int:
         use.take(logs, span)
         use.judge()
         told = told_of(logs, use) | more_of(said, use, until) | starts_of(said, logs, use, span)
+        told = {"made": made_of(said, desk, audit_digest), **told}
     sys.stdout.write(json_of(told) if said.json else text_of(told))
     is_clean = not told["after_revocation"] and not logs.count_unread
     is_clean = is_clean and not told.get("unlogged") and not told.get("starts_lost")
