@@ -1,6 +1,7 @@
 """The page that an auditor hands on: the tables of a summary for a person who knows no sudoers. It
 has no script and asks for no other file, and prints on paper."""
 
+import re
 from collections.abc import Iterable, Iterator
 from html import escape
 from typing import Any, NamedTuple
@@ -11,14 +12,15 @@ from desk_tools.times import spread
 
 Data = dict[str, Any]
 Row = tuple[object, ...]
-MOST_ROWS = 200
+MOST_ROWS, SHORT = 200, 24
+MOMENT = re.compile(r"\b(?:19[7-9]|20\d)\d{11}Z\b")
 STYLE = """\
 @page{size:A4;margin:14mm}
 body{font:13px/1.4 sans-serif;max-width:1000px;margin:1.5em auto;padding:0 1em;color:#111}
 table{border-collapse:collapse;margin:.5em 0;width:100%}
 thead{display:table-header-group}tr{break-inside:avoid}
-td,th{border:1px solid #999;padding:2px 6px;text-align:left;vertical-align:top;font-size:11px;
-overflow-wrap:anywhere}
+td,th{border:1px solid #999;padding:2px 6px;text-align:left;vertical-align:top;font-size:11px}
+td{overflow-wrap:anywhere}th,.short{white-space:nowrap}
 th{background:#e4eef0}h2{margin-top:1.4em;border-bottom:2px solid #0b5560;break-after:avoid}
 h3{break-after:avoid}.why{color:#333}.bad{font-weight:bold}
 """
@@ -31,6 +33,12 @@ class Table(NamedTuple):
     none: str = "None."
 
 
+def cell_html(cell: object) -> str:
+    """A cell; a short one is never broken."""
+    text = MOMENT.sub(lambda it: spread(it[0]), visible(str(cell)))
+    return f"<td{' class=short' if len(text) <= SHORT else ''}>{escape(text)}</td>"
+
+
 def table_html(it: Table) -> Iterator[str]:
     if not it.rows:
         yield f"<p>{escape(it.none)}</p>"
@@ -38,8 +46,7 @@ def table_html(it: Table) -> Iterator[str]:
     heads = "".join(f"<th>{escape(word)}</th>" for word in it.head.split("|"))
     yield f"<table><thead><tr>{heads}</tr></thead><tbody>"
     for row in it.rows[:MOST_ROWS]:
-        cells = "".join(f"<td>{escape(visible(str(cell)))}</td>" for cell in row)
-        yield f"<tr>{cells}</tr>"
+        yield f"<tr>{''.join(map(cell_html, row))}</tr>"
     yield "</tbody></table>"
     if len(it.rows) > MOST_ROWS:
         yield f"<p>and {len(it.rows) - MOST_ROWS:,} more, which summary.json has.</p>"
@@ -135,7 +142,7 @@ def without(told: Data, has_logs: bool) -> str:
         "What ran on a host, by sudo's logs, by no right that the desk knows; and what ran by a "
         "grant after it was revoked.",
         Table("Host|Who|As|What|First|Times", rows),
-        Table("Host|Grant|What, after its revocation|First", late),
+        Table("Host|Grant|What, after its revocation|First", late, "None after a revocation."),
     )
 
 
@@ -190,29 +197,27 @@ def right_words(it: Data) -> str:
 
 
 def standing(told: Data) -> str:
-    rows: list[Row] = [
-        (
-            it["user"],
-            it["target"],
-            it["host"],
-            right_words(it),
-            {"no": "no", "yes": "yes", "some": "for some"}.get(it["password"], ""),
-            spread(it.get("since", "")) + (" or before" if it.get("or_before") else ""),
-        )
-        for it in told["standing"]
-    ]
+    # (hosts on which somebody has the same stand in one row)
+    hosts: dict[Row, list[str]] = {}
+    for it in told["standing"]:
+        since = spread(it.get("since", "")) + (" or before" if it.get("or_before") else "")
+        password = {"no": "no", "yes": "yes", "some": "for some"}.get(it["password"], "")
+        row = (it["user"], it["target"], right_words(it), password, since)
+        hosts.setdefault(row, []).append(it["host"])
+    rows: list[Row] = [(*row, " ".join(held)) for row, held in hosts.items()]
     return section(
         "Who needs no request",
         "The standing rights at the end of this time, by the base. * is whatever the base does not "
         "name.",
-        Table("Who|As|Host|What|Password|Since", rows),
+        Table("Who|As|What|Password|Since|Hosts", rows),
     )
 
 
 def reasons(told: Data) -> str:
     if "without_reason" not in told:
         return section("Why was it asked?", "No relay's reasons were given: nothing is said.")
-    lacking: list[Row] = [(it,) for it in told["without_reason"]]
+    names = told["without_reason"]
+    lacking: list[Row] = [(len(names), ", ".join(names))] if names else []
     tried: list[Row] = [
         (it["who"], it["no"], spread(it["at"]), it.get("ceiling", ""), it.get("answer", ""))
         for it in told["attempts"]
@@ -221,7 +226,7 @@ def reasons(told: Data) -> str:
         "Why was it asked?",
         "Requests without a reason and a ticket, and requests that the desk refused: the relay "
         "keeps both, and vouches for them.",
-        Table("Without a reason", lacking),
+        Table("Without a reason|Requests", lacking),
         Table("Who|No|When|Ceiling|Refused with", tried, "The relay has no refused request."),
     )
 

@@ -66,12 +66,20 @@ def roster_words(old: Table, new: Table) -> list[str]:
     return found or ["nothing but its form"]
 
 
+def case_words(case: str) -> str:
+    """A case of `desk beyond` in words: `USER HOST TARGET MOMENT PATH ARGUMENTS..`."""
+    words = case.split(" ")
+    if len(words) < 5:
+        return case
+    return f"{words[0]} as {words[2]} on {words[1]}: {' '.join(words[4:])}"
+
+
 def base_words(old: str, new: str, opens: str, closes: str) -> list[str]:
     """What another base changes: its canonical lines, and a case of what it allows and refuses
     now."""
     lines = difflib.ndiff(old.splitlines(), new.splitlines())
     marks = {"+ ": "new", "- ": "gone"}
     found = [f"base, {marks[it[:2]]}: {it[2:]}" for it in lines if it[:2] in marks]
-    found += [f"base: it allows now, for one, {opens}"] if opens else []
-    found += [f"base: it refuses now, for one, {closes}"] if closes else []
+    found += [f"base: it allows now, for one, {case_words(opens)}"] if opens else []
+    found += [f"base: it refuses now, for one, {case_words(closes)}"] if closes else []
     return found or ["the base: nothing but its form"]

@@ -72,9 +72,15 @@ def completed(names: dict[Name, Entry], other: dict[Name, Entry]) -> dict[Name, 
     return found
 
 
+def asked_before(told: Told, at: str) -> dict[Name, Entry]:
+    """What a roster tells of the requests that were asked before a moment."""
+    return {name: it for name, it in told.names.items() if (asked_at(it) or at) < at}
+
+
 def altered(before: Told, after: Told) -> list[Data]:
-    """The requests whose fate a change altered from its moment on."""
-    one, other = completed(before.names, after.names), completed(after.names, before.names)
+    """The requests, asked before a change, whose fate it altered from its moment on."""
+    old, new = (asked_before(it, after.first) for it in (before, after))
+    one, other = completed(old, new), completed(new, old)
     people = set(after.roster["people"])
     audits: list[Audit] = [{"names": list(it.values())} for it in (one, other)]
     return [

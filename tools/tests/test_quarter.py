@@ -199,10 +199,12 @@ def changes(it: Audit) -> None:
     kinds = {f"{row['by']} {row['no']}": row["kind"] for row in told[MOMENTS[3]]["altered"]}
     assert kinds[it.site.planted.struck_out] == "given back", kinds
     kinds = {f"{row['by']} {row['no']}": row["kind"] for row in told[MOMENTS[2]]["altered"]}
-    assert it.site.planted.renamed in kinds or not kinds
+    assert kinds[it.site.planted.renamed] == "begins", kinds
+    # (what was asked later was no roster's to alter)
+    assert not told[MOMENTS[1]]["altered"], told[MOMENTS[1]]
     words = told[SECOND_BASE]["words"]
     assert "base, gone: olga.dba DATABASES = (ALL) ALL" in words, words
-    assert any(word.startswith("base: it refuses now, for one, olga.dba ") for word in words)
+    assert any(it.startswith("base: it refuses now, for one, olga.dba as ") for it in words)
 
 
 def idle(it: Audit) -> None:
