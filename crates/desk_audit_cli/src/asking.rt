@@ -4,10 +4,10 @@ use crate::copies::copy_of;
 use crate::sources::take_lines;
 use crate::trouble::Trouble;
 use desk::{Desk, Keeper, MemoryKeeper};
-use desk_audit::{Question, audit, document, text};
+use desk_audit::{Pick, Question, audit, document, text};
 use desk_commands::{JobRefusal, open_over};
 use desk_process::{MOST_POLICY, MOST_ROSTER, read_file};
-use roster::RosterFault;
+use roster::{Roster, RosterFault};
 
 /// The bytes of a file, but at most one byte more than `most`.
 fn file(rt: &HostRuntime, path: &str, most: u64) -> Result<Vec<u8>, Trouble> {
@@ -27,17 +27,38 @@ fn roster_file(rt: &HostRuntime, path: &str) -> Result<Vec<u8>, Trouble> {
     Err(Trouble::Refused(JobRefusal::Roster(RosterFault::OutOfRange)))
 }
 
-/// What the desk tells.
+/// Whether the roster has the host and the person that are asked about.
+fn is_known(roster: &Roster, pick: &Pick) -> bool {
+    let has_host = match &pick.host {
+        Some(host) => roster.has_host(host),
+        None => true,
+    };
+    let has_person = match &pick.person {
+        Some(person) => roster.has_person(person),
+        None => true,
+    };
+    has_host && has_person
+}
+
+/// What the desk tells. A host or a person that the roster lacks is unknown, unless a message that
+/// is asked about names it.
 fn told_by<K: Keeper>(
     rt: &HostRuntime,
     question: &Question,
     desk: &mut Desk<K>,
 ) -> Result<String, Trouble> {
     let pick = &question.pick;
-    if question.as_json {
+    let known = is_known(desk.roster(), pick);
+    if known && question.as_json {
         return Ok(document(desk, pick)?);
     }
     let entries = pick.among(audit(desk)?);
+    if !known && entries.is_empty() {
+        return Err(Trouble::Unknown);
+    }
+    if question.as_json {
+        return Ok(document(desk, pick)?);
+    }
     Ok(text(rt.alloc(), desk.roster(), pick, &entries)?)
 }
 

@@ -21,6 +21,8 @@ pub(crate) enum Trouble {
     NoStore(String),
     /// The store at this path changed each time that it was read.
     Busy(String),
+    /// Neither the roster nor a message has the host or the person that is asked about.
+    Unknown,
     /// What `desk` would refuse as well.
     Refused(JobRefusal),
 }
@@ -38,6 +40,9 @@ impl fmt::Display for Trouble {
             Trouble::Busy(path) => write!(
                 f,
                 "the store is written to: {path}\ntry again, or stop what writes to it (fuser {path}), or ask a backup (man desk-store)"
+            ),
+            Trouble::Unknown => f.write_str(
+                "neither the roster nor a message that is asked about has this host or person",
             ),
             Trouble::Refused(refusal) => write!(f, "{refusal}"),
         }
