@@ -165,24 +165,46 @@ class Standing:
         return not self.asked.case(self.now, self.now + denied, place)
 
     def rights(self, place: Place) -> list[Right]:
+        """What the base gives in a place, as few words as can be."""
         if self.has(place, ["ALL"]):
             return [self.right(place, "ALL", ())]
         named = dict.fromkeys(it.command for it in self.written.rules if it.command != "ALL")
         found = widest([it for it in named if self.has(place, [it])])
         more = self.is_whole(place, found)
-        if more:
-            without = tuple(it for it in named if self.lacks(place, it))
-            all_but = ["ALL", *(f"!{it}" for it in without)]
-            if self.has(place, all_but) and not self.is_whole(place, all_but):
-                return [self.right(place, "ALL", without)]
-        rights = [self.right(place, it, ()) for it in found]
+        if not more:
+            return [self.right(place, it, ()) for it in found]
+        without = tuple(it for it in named if self.lacks(place, it))
+        if self.is_all_but(place, without):
+            return [self.right(place, "ALL", without)]
+        folders = self.folders(place, [it for it in named if it not in found], without)
+        inside = [it for it in found if not any(is_inside(it, wide) for wide in folders)]
+        words = [line for it, but in folders.items() for line in (it, *denied(but))]
+        more = self.is_whole(place, [*words, *inside])
+        rights = [self.right(place, it, but) for it, but in folders.items()]
+        rights += [self.right(place, it, ()) for it in inside]
         if more:
             rules = self.rules(place, "ALL")
             rights.append(Right(place, "", (), "", "", False, "", rules, "", more))
         return rights
 
+    def is_all_but(self, place: Place, without: tuple[str, ...]) -> bool:
+        """Whether the base gives everything but some commands."""
+        words = ["ALL", *denied(without)]
+        return self.has(place, words) and not self.is_whole(place, words)
+
+    def folders(
+        self, place: Place, named: list[str], without: tuple[str, ...]
+    ) -> dict[str, tuple[str, ...]]:
+        """The folders of which the base gives all but some commands, with these."""
+        found = {}
+        for wide in (it for it in named if it.endswith("/")):
+            but = tuple(it for it in without if is_inside(it, wide))
+            if but and self.has(place, [wide, *denied(but)]):
+                found[wide] = but
+        return found
+
     def right(self, place: Place, text: str, without: tuple[str, ...]) -> Right:
-        all_of_it = [text, *(f"!{it}" for it in without)]
+        all_of_it = [text, *denied(without)]
         since, is_before = self.since(place, all_of_it)
         lines = self.rules(place, text)
         of_them = [it for it in self.written.rules if it.line in lines and not it.is_denial]
@@ -251,11 +273,18 @@ class Standing:
         return Place(*(OTHERS if it == self.other else it for it in place))
 
 
+def denied(commands: Iterable[str]) -> list[str]:
+    return [f"!{it}" for it in commands]
+
+
+def is_inside(text: str, wide: str) -> bool:
+    return lies_inside(command(text), command(wide))
+
+
 def widest(commands: list[str]) -> list[str]:
     """The commands without those that lie inside others of them."""
-    read = {it: command(it) for it in commands}
     return sorted(
         it
         for it in commands
-        if not any(it != wide and lies_inside(read[it], read[wide]) for wide in commands)
+        if not any(it != wide and is_inside(it, wide) for wide in commands)
     )

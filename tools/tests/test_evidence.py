@@ -164,6 +164,8 @@ def test_what_is_refused(evidence: Make, tmp_path: Path) -> None:
         ("a", ("--log", "/nowhere"), SPAN, "/nowhere"),
         ("a", ("--key", "/nowhere"), SPAN, "ssh-keygen: "),
         ("a", ("--second-reading", "/nowhere"), SPAN, "there is no /nowhere"),
+        ("a", ("--sample", "3"), SPAN, "--sample N --seed TEXT"),
+        ("a", ("--reasons", os.path.join(EXAMPLES, "used.log")), SPAN, "desk-relay reasons prints"),
     ):
         before = sorted(os.listdir(tmp_path))
         _, ran = evidence(name, *words, span=span)
@@ -222,3 +224,66 @@ def test_a_roster_of_toml_1_1(evidence: Make, tmp_path: Path) -> None:
     said = b"the statuses are the same\nall messages are told\n"
     assert found["20250101000000Z/comparison"] == said
     assert b"ann 7 granted " in found["20250101000000Z/second"]
+
+
+def test_what_is_missing_is_named(evidence: Make, tmp_path: Path) -> None:
+    """Where a number of somebody's is missing, or a message is left out, nothing is said of all."""
+    asked = {"at": "20260105080000Z", "by": "carol", "ceiling": "db-care"}
+    asked |= {"cmnds": ["/usr/bin/id"], "from": "20260105090000Z", "hosts": ["db1"]}
+    asked |= {"kind": "request", "no": 4, "runas": "root", "until": "20260105100000Z"}
+    with open(os.path.join(EXAMPLES, "audited.messages"), encoding="utf-8") as file:
+        text = file.read()
+    messages = tmp_path / "messages"
+    here = b"the statuses are the same\nall messages that are here are told"
+    for name, more, said, gap in (
+        ("gap", {}, b", and NUMBERS ARE MISSING (gaps)\n", b"carol lacks 3\n"),
+        ("left", {"no": 3, "by": "zoe"}, b" but 1 that are refused\n", b""),
+    ):
+        line = json.dumps(asked | more, sort_keys=True, separators=(",", ":"))
+        messages.write_text(f"{text}{line}\n")
+        folder, ran = evidence(name, messages=str(messages))
+        assert ran.returncode == 0, ran
+        found = bytes_of(folder)
+        assert found["20250101000000Z/comparison"] == here + said, found
+        assert found["gaps"] == gap
+    told = json.loads(found["summary.json"])["left_out"]
+    assert [(it["code"], it["message"]["by"]) for it in told] == [("A1 UnknownPerson", "zoe")]
+
+
+def test_a_page_of_hostile_words(evidence: Make, tmp_path: Path) -> None:
+    """What people wrote is shown, and is no part of the page."""
+    reasons, ticket = tmp_path / "reasons", "<script>alert(1)</script>"
+    row = {"who": "ann", "no": 7, "why": "\u202e<b>", "ticket": ticket, "state": "acked"}
+    reasons.write_text(json.dumps(row) + "\n")
+    words = ("--reasons", str(reasons), "--sample", "9", "--seed", "<i>&")
+    folder, ran = evidence("made", *words)
+    assert ran.returncode == 0, ran
+    found = bytes_of(folder)
+    text = found["report.html"].decode()
+    assert "<script" not in text and "&lt;script&gt;alert(1)" in text and "<i>" not in text
+    assert ticket in found["sample.csv"].decode() and ticket in found["grants.csv"].decode()
+    told = json.loads(found["summary.json"])
+    assert told["without_reason"] == ["ann 8", "carol 1"] and told["sample"]["seed"] == "<i>&"
+
+
+def test_bases_by_their_moments(evidence: Make, tmp_path: Path) -> None:
+    """What the base of the day allowed accuses nobody, whatever base came later."""
+    bases, log = tmp_path / "bases", f"db1={EXAMPLES}/used.log"
+    bases.mkdir()
+    with open(os.path.join(EXAMPLES, "site.sudo"), encoding="utf-8") as file:
+        (bases / "20250101000000Z.sudo").write_text(file.read())
+    (bases / "20260105100000Z.sudo").write_text("eve db1 = (root) /usr/bin/vi\n")
+    program = os.path.join(ROOT, "tools", "desk-evidence")
+    _, ran = evidence("one", "--bases", str(bases))
+    assert ran.returncode == 2 and "not allowed with" in ran.stderr
+    folder, desk = str(tmp_path / "made"), os.environ.get("DESK", f"{ROOT}/build/desk")
+    words = [program, folder, *SPAN, "--messages", f"{EXAMPLES}/audited.messages", "--log", log]
+    words += ["--rosters", str(tmp_path / "rosters"), "--bases", str(bases), "--desk", desk]
+    ran = run(*words)
+    assert ran.returncode == 0, ran
+    told = json.loads(bytes_of(folder)["summary.json"])
+    # (dba ran psql at 9:45 by the first base, and eve vi at 11:15 by the second)
+    assert [it["by"] for it in told["without_grant"]] == ["ann"], told["without_grant"]
+    standing = [(it["user"], it["since"], it["or_before"]) for it in told["standing"]]
+    assert standing == [("eve", "20260105100000Z", False)]
+    assert [it["at"] for it in told["changes"]] == [CHANGED, "20260105100000Z"]
