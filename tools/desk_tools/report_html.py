@@ -193,7 +193,8 @@ def right_words(it: Data) -> str:
     if "more" in it:
         return f"and more, such as {it['more']}"
     without = f" but {', '.join(it['without'])}" if it["without"] else ""
-    return it["right"] + without + (f" ({it['runs_others']})" if "runs_others" in it else "")
+    why = f" ({it['runs_others']})" if "runs_others" in it else ""
+    return f"{it['right']}{without}{why}"
 
 
 def standing(told: Data) -> str:

@@ -16,7 +16,7 @@ from desk_tools.decisions import Desk
 from desk_tools.found import Parser, visible
 from desk_tools.judge import NoDesk, program
 from desk_tools.made import Made, digest, lines_of, made
-from desk_tools.rights import Base, Right, Standing
+from desk_tools.rights import Base, Place, Right, Standing
 from desk_tools.times import spread
 from desk_tools.toml_text import read as read_toml
 from desk_tools.written_out import BadText
@@ -157,9 +157,9 @@ def said_of(it: Right) -> str:
 
 def text_of(rights: list[Right], head: Made) -> Iterator[str]:
     """The rights, with the hosts on which somebody has the same in one line."""
-    by_place: dict[tuple[str, str, str], list[Right]] = {}
+    by_place: dict[Place, list[Right]] = {}
     for it in rights:
-        by_place.setdefault(tuple(it.place), []).append(it)
+        by_place.setdefault(it.place, []).append(it)
     groups: dict[tuple[str, str, tuple[tuple[str, tuple[str, ...]], ...]], list[str]] = {}
     for (user, host, target), found in by_place.items():
         said = tuple((said_of(it).replace(f" {host} ", " .. "), it.rules) for it in found)

@@ -9,7 +9,7 @@ from collections.abc import Iterable, Iterator
 from dataclasses import dataclass, field
 from typing import Any, NamedTuple
 
-from desk_tools.changes import KINDS, Audit, Entry, compare
+from desk_tools.changes import KINDS, Entry, compare
 from desk_tools.gaps import Gap
 from desk_tools.rights import Right
 from desk_tools.roster_words import roster_words
@@ -82,10 +82,10 @@ def altered(before: Told, after: Told) -> list[Data]:
     old, new = (asked_before(it, after.first) for it in (before, after))
     one, other = completed(old, new), completed(new, old)
     people = set(after.roster["people"])
-    audits: list[Audit] = [{"names": list(it.values())} for it in (one, other)]
+    before_it, behind_it = ({"names": list(it.values())} for it in (one, other))
     return [
         {"kind": it.kind, "by": it.who, "no": it.no, "lines": list(it.lines)}
-        for it in compare(*audits, after.first, people)
+        for it in compare(before_it, behind_it, after.first, people)
     ]
 
 

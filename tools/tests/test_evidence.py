@@ -8,6 +8,7 @@ import os
 import subprocess
 from collections.abc import Callable
 from pathlib import Path
+from typing import Any
 
 import pytest
 
@@ -133,7 +134,7 @@ def test_without_logs_and_of_one_roster(evidence: Make, desk: str) -> None:
     words = [program, folder, *SPAN, "--roster", other, "--desk", desk]
     words += ["--messages", f"{EXAMPLES}/audited.messages", "--base", f"{EXAMPLES}/site.sudo"]
     assert run(*words).returncode == 0
-    assert b",bob,\n" in bytes_of(folder)["grants.csv"] and "logs" not in bytes_of(folder)
+    assert b",bob,,2026-" in bytes_of(folder)["grants.csv"] and "logs" not in bytes_of(folder)
 
 
 def test_a_second_reading_that_differs(evidence: Make, tmp_path: Path) -> None:
@@ -185,7 +186,7 @@ def test_a_forged_line_stops_no_evidence(evidence: Make, tmp_path: Path) -> None
         folder, ran = evidence(name, "--log", f"db1={log}")
         assert ran.returncode == 0, ran
         found = bytes_of(folder)
-        assert b"db1=" not in found["logs"] and b",bob,used\n" in found["grants.csv"]
+        assert b"db1=" not in found["logs"] and b",bob,used,2026-" in found["grants.csv"]
         unread = json.loads(found["20250101000000Z/used.json"])["logs"]["unread_lines"]
         why = "its moment is out of range"
         assert unread == [{"file": str(log), "line": text.count("\n") + 1, "why": why}]
@@ -228,17 +229,18 @@ def test_a_roster_of_toml_1_1(evidence: Make, tmp_path: Path) -> None:
 
 def test_what_is_missing_is_named(evidence: Make, tmp_path: Path) -> None:
     """Where a number of somebody's is missing, or a message is left out, nothing is said of all."""
-    asked = {"at": "20260105080000Z", "by": "carol", "ceiling": "db-care"}
+    asked: dict[str, Any] = {"at": "20260105080000Z", "by": "carol", "ceiling": "db-care"}
     asked |= {"cmnds": ["/usr/bin/id"], "from": "20260105090000Z", "hosts": ["db1"]}
     asked |= {"kind": "request", "no": 4, "runas": "root", "until": "20260105100000Z"}
     with open(os.path.join(EXAMPLES, "audited.messages"), encoding="utf-8") as file:
         text = file.read()
     messages = tmp_path / "messages"
     here = b"the statuses are the same\nall messages that are here are told"
-    for name, more, said, gap in (
+    rows: tuple[tuple[str, dict[str, Any], bytes, bytes], ...] = (
         ("gap", {}, b", and NUMBERS ARE MISSING (gaps)\n", b"carol lacks 3\n"),
         ("left", {"no": 3, "by": "zoe"}, b" but 1 that are refused\n", b""),
-    ):
+    )
+    for name, more, said, gap in rows:
         line = json.dumps(asked | more, sort_keys=True, separators=(",", ":"))
         messages.write_text(f"{text}{line}\n")
         folder, ran = evidence(name, messages=str(messages))

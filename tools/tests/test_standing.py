@@ -21,7 +21,6 @@ from desk_tools.written_out import Written
 EXAMPLES = os.path.join(ROOT, "examples")
 PROGRAM = os.path.join(ROOT, "tools", "desk-standing")
 AT = "20260105093000Z"
-Ran = "subprocess.CompletedProcess[str]"
 Tell = Callable[..., Any]
 BASE = """\
 User_Alias OPS = olga, omar
@@ -40,7 +39,7 @@ bob db1 = /usr/bin/, !/usr/bin/su
 """
 
 
-def run(desk: str, *words: str) -> Ran:
+def run(desk: str, *words: str) -> subprocess.CompletedProcess[str]:
     told = [PROGRAM, *words, "--desk", desk]
     return subprocess.run(told, capture_output=True, text=True, check=False)
 

@@ -407,8 +407,8 @@ def test_a_narrower_ceiling(used: Tell, lint: Program, tmp_path: Path) -> None:
 
 def test_what_was_seen_is_proposed() -> None:
     """ALL and a folder become what was run, with its arguments; a file stays as it is."""
-    many = {("/usr/bin/a", str(it)) for it in range(17)}
-    for command, seen, wanted in (
+    many: set[tuple[str, ...]] = {("/usr/bin/a", str(it)) for it in range(17)}
+    rows: tuple[tuple[str, set[tuple[str, ...]], list[str]], ...] = (
         ("ALL", {("/usr/bin/systemctl", "restart", "pg")}, ["/usr/bin/systemctl restart pg"]),
         ("/usr/bin/", {("/usr/bin/id",)}, ['/usr/bin/id ""']),
         ("ALL", {("/usr/bin/a", "x=1"), ("/usr/bin/b",)}, ["/usr/bin/a x\\=1", '/usr/bin/b ""']),
@@ -418,7 +418,8 @@ def test_what_was_seen_is_proposed() -> None:
         ("ALL", {(f"/usr/bin/a{it}",) for it in range(17)}, ["ALL"]),
         ("ALL", {("/usr/bin/sudoedit", "x")}, ["ALL"]),
         ("/usr/bin/id", {("/usr/bin/id", "-u")}, ["/usr/bin/id"]),
-    ):
+    )
+    for command, seen, wanted in rows:
         assert narrowed(command, seen) == wanted, command
     roster = tomllib.loads(Path(ROSTER).read_text(encoding="utf-8"))
     text = f"[ceilings.db-care]\n{care(roster, ['/usr/bin/vi /etc/motd'])}"
