@@ -14,7 +14,7 @@ from typing import Any
 
 from desk_tools import pieces
 from desk_tools.decisions import Desk
-from desk_tools.gaps import Gap, gap_lines, gaps
+from desk_tools.gaps import Gap, begins, gap_lines, gaps, numbers_of
 from desk_tools.made import digest, digest_of, lines_of, made
 from desk_tools.periods import Dated, Failed, Period, read
 from desk_tools.pieces import Piece, Reasons
@@ -88,7 +88,8 @@ class Evidence:
     # what desk-audit tells of the names that a roster granted so far
     given: dict[tuple[str, int], Any] = field(default_factory=dict)
     said: str = ""  # what the desk says of its version
-    read: list[Data] = field(default_factory=list)
+    moments: list[str] = field(default_factory=list)
+    numbers: dict[str, list[int]] = field(default_factory=dict)
     gaps: list[Gap] = field(default_factory=list)
 
     def put(self, name: str, data: bytes | str) -> str:
@@ -114,8 +115,8 @@ class Evidence:
 
     def fill(self, found: list[Period]) -> None:
         self.said = self.run(self.desk, "--version")[0].decode()
-        self.read = [message_of(it) for it in self.messages]
-        self.gaps = gaps(it for it in self.read if it)
+        self.numbers = numbers_of(self.looked_through())
+        self.gaps = gaps(self.numbers)
         self.inputs()
         summary, before = Summary(self.first, self.last, self.reasons), None
         for it in found:
@@ -123,10 +124,18 @@ class Evidence:
             before = it
         self.hand_on(summary, found)
 
+    def looked_through(self) -> Iterator[Data]:
+        """The messages; the moment of each line is kept."""
+        for line in self.messages:
+            message = message_of(line)
+            self.moments.append(message.get("at", ""))
+            if message:
+                yield message
+
     def inputs(self) -> None:
         """What is put in as it was given."""
         self.put("messages", b"".join(it + b"\n" for it in self.messages))
-        self.put("gaps", "".join(f"{line}\n" for line in gap_lines(self.gaps)))
+        self.put("gaps", "".join(f"{line}\n" for line in gap_lines(self.numbers)))
         self.put("second-reading.jq", read(self.reading))
         self.put("README", ABOUT.format(first=self.first, last=self.last))
         self.put("versions", self.versions())
@@ -174,7 +183,11 @@ class Evidence:
             base_words=self.base_change(before, it),
             names={(name["by"], name["no"]): name for name in audit["names"]},
             used=used,
-            refused=[(why, said) for at, why in refused.items() if (said := self.read[at - 1])],
+            refused=[
+                (why, message)
+                for at, why in refused.items()
+                if (message := message_of(self.messages[at - 1]))
+            ],
             is_same=is_same,
         )
 
@@ -189,7 +202,7 @@ class Evidence:
     def reports(self, it: Period, texts: tuple[str, ...], kept: list[int]) -> None:
         """What the desk reports of both ends, each by what had been said until then."""
         for end, at in (("from", it.first), ("until", it.last)):
-            until = [no for no in kept if self.read[no - 1].get("at", "") <= at]
+            until = [no for no in kept if self.moments[no - 1] <= at]
             given = joined(self.messages[no - 1] for no in until)
             report, _ = self.run(self.desk, "review", *texts, at, given=given)
             self.put(f"{it.name}/{end}.report", report)
@@ -285,6 +298,7 @@ class Evidence:
         reasons = self.reasons or {}
         table = self.put("grants.csv", pieces.table_of(self.pieces, lasts, reasons))
         told = summary.data(self.standing(found), self.gaps)
+        told["begins"] = [{"by": by, "no": no} for by, no in begins(self.numbers)]
         files, rows = {"grants.csv": digest(table)}, list[dict[str, str]]()
         if self.sample:
             count, seed = self.sample

@@ -19,27 +19,29 @@ class Gap(NamedTuple):
         return f"{self.first}" if self.first == self.last else f"{self.first} to {self.last}"
 
 
-def gaps(messages: Iterable[Message]) -> list[Gap]:
-    """The numbers that are missing between an asker's lowest and highest one."""
+def numbers_of(messages: Iterable[Message]) -> dict[str, list[int]]:
+    """Each asker's numbers that some message has, in order."""
     numbers: dict[str, set[int]] = {}
     for it in messages:
         numbers.setdefault(it.get("of", it["by"]), set()).add(it["no"])
+    return {by: sorted(held) for by, held in sorted(numbers.items())}
+
+
+def gaps(numbers: dict[str, list[int]]) -> list[Gap]:
+    """The numbers that are missing between an asker's lowest and highest one."""
     found = []
-    for by, held in sorted(numbers.items()):
-        order = sorted(held)
-        pairs = zip(order, order[1:])
+    for by, held in numbers.items():
+        pairs = zip(held, held[1:])
         found += [Gap(by, one + 1, other - 1) for one, other in pairs if other > one + 1]
     return found
 
 
-def unasked(messages: Iterable[Message]) -> list[tuple[str, int]]:
-    """The names of which there are verdicts, and no request."""
-    asked: set[tuple[str, int]] = set()
-    judged: set[tuple[str, int]] = set()
-    for it in messages:
-        (judged if "of" in it else asked).add((it.get("of", it["by"]), it["no"]))
-    return sorted(judged - asked)
+def begins(numbers: dict[str, list[int]]) -> list[tuple[str, int]]:
+    """The askers whose lowest number is not 1, and that number: another relay may begin there."""
+    return [(by, held[0]) for by, held in numbers.items() if held[0] > 1]
 
 
-def gap_lines(found: Iterable[Gap]) -> list[str]:
-    return [f"{it.by} lacks {it.said}" for it in found]
+def gap_lines(numbers: dict[str, list[int]]) -> list[str]:
+    """What is missing, by asker."""
+    lines = [f"{it.by} lacks {it.said}" for it in gaps(numbers)]
+    return sorted([*lines, *(f"{by} begins at {no}" for by, no in begins(numbers))])

@@ -79,6 +79,7 @@ def whole(told: Data) -> str:
         else "A second reading, which uses nothing of the desk, came to the same for each roster."
     )
     gaps: list[Row] = [(it["by"], span(it["first"], it["last"])) for it in told["gaps"]]
+    gaps += [(it["by"], f"begins at {it['no']}") for it in told["begins"]]
     left: list[Row] = [
         (spread(it["message"]["at"]), it["code"], it["message"]["kind"], it["message"]["by"])
         for it in told["left_out"]

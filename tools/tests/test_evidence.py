@@ -238,7 +238,7 @@ def test_what_is_missing_is_named(evidence: Make, tmp_path: Path) -> None:
     here = b"the statuses are the same\nall messages that are here are told"
     rows: tuple[tuple[str, dict[str, Any], bytes, bytes], ...] = (
         ("gap", {}, b", and NUMBERS ARE MISSING (gaps)\n", b"carol lacks 3\n"),
-        ("left", {"no": 3, "by": "zoe"}, b" but 1 that are refused\n", b""),
+        ("left", {"no": 3, "by": "zoe"}, b" but 1 that are refused\n", b"zoe begins at 3\n"),
     )
     for name, more, said, gap in rows:
         line = json.dumps(asked | more, sort_keys=True, separators=(",", ":"))
@@ -247,7 +247,7 @@ def test_what_is_missing_is_named(evidence: Make, tmp_path: Path) -> None:
         assert ran.returncode == 0, ran
         found = bytes_of(folder)
         assert found["20250101000000Z/comparison"] == here + said, found
-        assert found["gaps"] == gap
+        assert found["gaps"] == b"ann begins at 7\n" + gap
     told = json.loads(found["summary.json"])["left_out"]
     assert [(it["code"], it["message"]["by"]) for it in told] == [("A1 UnknownPerson", "zoe")]
 

@@ -16,6 +16,8 @@ from typing import Any, NamedTuple
 
 from conftest import ROOT
 
+from desk_tools.gaps import gaps, numbers_of
+
 from tests.common.quarter import (
     FROM,
     MOMENTS,
@@ -231,6 +233,21 @@ def standing(it: Audit) -> None:
 # ---- what is whole
 
 
+def removed(it: Audit) -> None:
+    """A request that is taken out with all verdicts on it leaves a gap in its asker's numbers."""
+    by = next(it for it, no in sorted(it.history.requests) if no == 3)
+    no = 2
+    lines = [line for line in it.site.lines if not is_about(json.loads(line), by, no)]
+    missing = History({MOMENTS[0]: it.site.rosters[MOMENTS[0]]}, lines).missing()
+    assert no in missing[by] and len(lines) < len(it.site.lines)
+    found = gaps(numbers_of(map(json.loads, lines)))
+    assert {gap.by: [*range(gap.first, gap.last + 1)] for gap in found} == missing
+
+
+def is_about(message: dict[str, Any], by: str, no: int) -> bool:
+    return (message.get("of", message["by"]), message["no"]) == (by, no)
+
+
 def whole(it: Audit) -> None:
     told = {row["by"]: [*range(row["first"], row["last"] + 1)] for row in it.told["gaps"]}
     assert told == it.history.missing()
@@ -308,7 +325,7 @@ def page(it: Audit) -> None:
 
 def checks() -> Iterator[Any]:
     yield from (pieces, became, second_reading, reports, approvals, careful, ran, changes)
-    yield from (idle, standing, whole, sample, handed_on, page)
+    yield from (idle, standing, whole, removed, sample, handed_on, page)
 
 
 CHECKS = tuple(checks())
