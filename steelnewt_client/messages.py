@@ -24,6 +24,7 @@ MOST_HOSTS, MOST_COMMANDS, MOST_ARGUMENTS = 16, 16, 16
 # How long somebody may look at a request before they say yes, and it is still taken for the same.
 LOOKED = timedelta(minutes=2)
 VERDICTS = ("approve", "refuse", "revoke")
+CANONICAL = json.JSONEncoder(sort_keys=True, separators=(",", ":"), ensure_ascii=False)
 
 
 class BadWord(ValueError):
@@ -32,7 +33,7 @@ class BadWord(ValueError):
 
 def canonical(message: object) -> str:
     """The one text of a message: members in order, no blanks, and no escape that is not needed."""
-    return json.dumps(message, sort_keys=True, separators=(",", ":"), ensure_ascii=False)
+    return CANONICAL.encode(message)
 
 
 def checked(kind: str, word: str) -> str:

@@ -8,6 +8,8 @@ from functools import lru_cache
 
 STAMP = "%Y%m%d%H%M%SZ"
 FORM = re.compile(r"[0-9]{14}Z")
+# where the year, the month, the day, the hour, the minute and the second stand
+PLACES = ((0, 4), (4, 6), (6, 8), (8, 10), (10, 12), (12, 14))
 
 
 class BadMoment(ValueError):
@@ -32,8 +34,9 @@ def of_stamp(text: str) -> datetime:
     """The moment of a text such as 20260105090000Z."""
     if not FORM.fullmatch(text):
         raise BadMoment(f"{text!r} is no moment: write it in UTC as 20260105090000Z")
+    year, month, day, hour, minute, second = (int(text[at:end]) for at, end in PLACES)
     try:
-        return datetime.strptime(text, STAMP).replace(tzinfo=UTC)
+        return datetime(year, month, day, hour, minute, second, tzinfo=UTC)
     except ValueError:
         raise BadMoment(f"{text!r} is no moment of the calendar") from None
 

@@ -17,15 +17,17 @@ from steelnewt_client.messages import canonical
 from steelnewt_client.signed import Signed
 
 FIRST = "0" * 64
-KINDS = {
-    "came": {"at", "how", "key", "message", "peer", "relay", "signature", "about", "why"}
-    | {"signers"},
-    "answered": {"at", "by", "code", "of"},
-    "more": {"at", "count", "relay"},
-    "begun": {"at", "site"},
-    "healed": {"at", "bytes", "digest"},
+COMMON = {"no": int, "row": str, "before": str, "chain": str}
+# the members of each kind of row, with what each is
+KINDS: dict[str, dict[str, type]] = {
+    "came": COMMON
+    | dict.fromkeys(("at", "how", "key", "message", "peer", "relay", "signature"), str)
+    | dict.fromkeys(("about", "why", "signers"), str),
+    "answered": COMMON | {"at": str, "by": str, "code": str, "of": int},
+    "more": COMMON | {"at": str, "count": int, "relay": str},
+    "begun": COMMON | {"at": str, "site": str},
+    "healed": COMMON | {"at": str, "bytes": int, "digest": str},
 }
-COMMON = {"no", "row", "before", "chain"}
 # How a message came: signed; by root's socket, unsigned; unsigned, where the site signs nothing;
 # held by the desk before there was a door; or as something that was refused.
 HOWS = ("signed", "root", "unsigned", "before", "refused")
@@ -69,14 +71,10 @@ def read_row(line: bytes) -> Row:
         text = line.decode("utf-8").removesuffix("\n")
         found = json.loads(text)
         is_row = isinstance(found, dict) and canonical(found) == text
-        wanted = KINDS.get(found["row"], set()) | COMMON if is_row else set()
+        wanted = KINDS[found["row"]] if is_row else {}
     except (ValueError, RecursionError, KeyError, TypeError):
         raise BadRow("is no row") from None
-    numbers = [found.get(name, 0) for name in ("no", "of", "count", "bytes")] if is_row else [""]
-    if not is_row or found.keys() != wanted or not all(type(it) is int for it in numbers):
-        raise BadRow("is no row")
-    texts = [value for name, value in found.items() if name not in ("no", "of", "count", "bytes")]
-    if not all(isinstance(it, str) for it in texts):
+    if not is_row or {name: type(value) for name, value in found.items()} != wanted:
         raise BadRow("is no row")
     # (the text is cut as chained() made it: no string in it has the name unescaped)
     told = text.replace(f',"chain":"{found["chain"]}"', "", 1)

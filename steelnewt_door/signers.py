@@ -126,6 +126,13 @@ class Version:
         return base64.b64encode(self.bytes(KRL)).decode("ascii") if self.has(KRL) else ""
 
 
+class Copied(Version):
+    """A version in a copy of a site's folders, which nobody changes while one program reads it."""
+
+    def state(self) -> tuple[object, ...]:
+        return (self.folder,)
+
+
 class Signers:
     """The versions of a folder."""
 

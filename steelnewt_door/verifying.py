@@ -15,7 +15,7 @@ from steelnewt_client.signed import BadLine, Signed, digest, said_in
 from steelnewt_door.journal import files_of
 from steelnewt_door.judge import Judge, by_ssh_keygen, print_of_blob
 from steelnewt_door.rows import BadRow, Last, Row, read_row
-from steelnewt_door.signers import BadSigners, Signers, Version
+from steelnewt_door.signers import BadSigners, Copied, Signers, Version
 from steelnewt_door.wire import BadSignature
 
 # How many seconds a clock may be set back, before it is said.
@@ -186,7 +186,8 @@ class Verifier:
             later = [it for it in self.signers.moments() if it > at]
             if at not in self.signers.moments():
                 raise BadSigners(f"there are no signers of {at}")
-            self.versions[at] = self.signers.version(at), later[0] if later else "9"
+            copied = Copied(at, self.signers.version(at).folder)
+            self.versions[at] = copied, later[0] if later else "9"
         version, end = self.versions[at]
         if not at <= row["at"] <= end:
             raise BadSigners(f"the signers of {at} did not hold at {row['at']}")

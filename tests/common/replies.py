@@ -2,6 +2,7 @@
 
 import re
 import socket
+import ssl
 import threading
 from collections.abc import Callable
 from typing import Self
@@ -39,8 +40,10 @@ def of_a_host(file: bytes, count: bytes | None = None) -> Callable[[str], bytes]
 class Replies:
     """The server, as long as the block lasts."""
 
-    def __init__(self, answer: Callable[[str], bytes]) -> None:
-        self.answer = answer
+    def __init__(
+        self, answer: Callable[[str], bytes], tls: ssl.SSLContext | None = None
+    ) -> None:
+        self.answer, self.tls = answer, tls
         self.asked: list[str] = []
         self.listener = socket.create_server(("127.0.0.1", 0))
         self.address = "127.0.0.1:%d" % self.listener.getsockname()[1]
@@ -53,11 +56,11 @@ class Replies:
                 peer = self.listener.accept()[0]
             except OSError:
                 return
-            with peer:
-                words = peer.recv(65536).split(b" ")
+            with self.tls.wrap_socket(peer, server_side=True) if self.tls else peer as stream:
+                words = stream.recv(65536).split(b" ")
                 if len(words) > 1:
                     self.asked.append(words[1].decode())
-                    peer.sendall(self.answer(self.asked[-1]))
+                    stream.sendall(self.answer(self.asked[-1]))
 
     def __enter__(self) -> Self:
         return self

@@ -1,18 +1,23 @@
 #!/usr/bin/env python3
-"""What two pages say of an approval that comes first, and of a store that is cut, beside a real
-desk: each was a trap for whoever followed the page.
+"""What three pages say of an approval that comes first, of a store that is cut, and of a second
+desk that is fed through a front, beside a real desk: each was a trap for whoever followed the page.
 
 `python3 -m tests.documents.check_traps WORDS..` runs another program than build/desk.
 """
 
 import json
+import os
 import re
+import ssl
+import subprocess
 import sys
 import tempfile
 import urllib.request
 from collections.abc import Iterator
 
 from tests.common import desk
+from tests.common.front import certify
+from tests.common.replies import Replies, reply
 
 Row = tuple[str, bool, str]
 # asked, approved and over in one week; and asked for in the next, under the same number
@@ -33,10 +38,14 @@ def told(folder: str, messages: list[str], name: str) -> str:
         for line in messages:
             target = f"http://{server.address}/v1/relays/chat/messages"
             urllib.request.urlopen(target, line.encode(), timeout=60).read()
-        with urllib.request.urlopen(
-            f"http://{server.address}/v1/requests/{name}", timeout=60
-        ) as reply:
-            document = json.loads(reply.read())
+        return status_of(server, name)
+
+
+def status_of(server: desk.Server, name: str) -> str:
+    with urllib.request.urlopen(
+        f"http://{server.address}/v1/requests/{name}", timeout=60
+    ) as reply:
+        document = json.loads(reply.read())
     return str(document["names"][0]["status"] if document["names"] else "none")
 
 
@@ -65,10 +74,37 @@ def stores_that_are_cut(folder: str) -> Iterator[Row]:
         yield f"SCALE.md says: {said}", said in text, ""
 
 
+def fronts_that_forge(folder: str) -> Iterator[Row]:
+    """A second desk is fed through a front whose key somebody has, who answers in its place."""
+    for words in (("init",), ("server", "localhost"), ("auditor", "feed")):
+        certify(folder, *words)
+    tls = ssl.SSLContext(ssl.PROTOCOL_TLS_SERVER)
+    tls.load_cert_chain(*(os.path.join(folder, it) for it in ("server.pem", "server.key")))
+    forged = "".join(f"{it}\n" for it in sorted((FIRST, APPROVED))).encode()
+    with (
+        Replies(lambda _: reply(forged), tls) as front,
+        desk.Server(program=desk.named(), roster=desk.ROSTER, base=desk.BASE) as second,
+    ):
+        feeds = ["sh", os.path.join(desk.EXAMPLES, "feed-desk.sh")]
+        feeds += [f"https://localhost:{front.address.rpartition(':')[2]}", "chat"]
+        here = {**os.environ, "ADDR": second.address}
+        fed = subprocess.run(
+            feeds, cwd=folder, env=here, capture_output=True, text=True, check=False
+        )
+        found = status_of(second, "ann/1")
+    yield "what it makes up is posted", "2 posted, 0 refused" in fed.stdout, str(fed)
+    yield "and gives a right", found == "granted", found
+    said = "and any message at a second desk that is fed through it"
+    yield "SECURITY.md says so", said in page("SECURITY.md"), said
+
+
+PARTS = (approvals_that_come_first, stores_that_are_cut, fronts_that_forge)
+
+
 def main() -> None:
     checks, wrong = 0, 0
     with tempfile.TemporaryDirectory() as folder:
-        for part in (approvals_that_come_first, stores_that_are_cut):
+        for part in PARTS:
             for what, is_right, said in part(folder):
                 checks += 1
                 if not is_right:

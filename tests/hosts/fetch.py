@@ -404,6 +404,27 @@ def far_date(host: Host) -> None:
     host.check("a Date that is none", is_right, f"{status}: {said}")
 
 
+def odd_clock(host: Host) -> None:
+    """A clock that shows a year of which no desk has a moment: that is said, and the whole file is
+    taken. A desk refuses such a moment."""
+    if not host.is_fit:
+        return
+
+    def file_of(path: str) -> bytes:
+        is_whole = path.endswith("/sudoers")
+        return reply(MORE) if is_whole else reply(b"T8 BadMoment\n", "400 Bad Request")
+
+    for year in (1969, 2105):
+        begin(host)
+        clock = ("env", "FAKETIME_DONT_FAKE_MONOTONIC=1", "faketime", f"{year}-06-01 12:00:00")
+        with serving(host, lambda path: of_a_host(file_of(path), counted(1))(path)):
+            ran = host.run(*clock, "desk-host", "fetch", "db1")
+        is_taken = ran.returncode == 0 and host.held() == MORE
+        host.check(f"the file is taken in {year}", is_taken, ran.stdout)
+        is_told = f"this host's clock shows the year {year}: set it" in ran.stdout
+        host.check(f"the year {year} is told", is_told, ran.stdout)
+
+
 def record(host: Host) -> dict[str, object]:
     return json.loads(host.read(f"{STATE}/db1.json"))
 
@@ -508,6 +529,7 @@ PARTS = (
     taken_meanwhile,
     furthest_first,
     far_date,
+    odd_clock,
     second_desks,
     uncounted,
 )

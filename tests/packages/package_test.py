@@ -943,7 +943,8 @@ def over_tcp(trial: Trial) -> None:
 
 
 def furnish(folder: str, fresh: str) -> str:
-    """The root, with its own /proc, /dev and /tmp."""
+    """The root, with its own /proc, /tmp, /run and /dev/shm (where `faketime` leaves semaphores by
+    the id of its process: a namespace has ids that others had)."""
     subprocess.run(["mount", "-t", "tmpfs", "tmpfs", folder], check=True)
     for name in ("up", "work", "root"):
         os.mkdir(os.path.join(folder, name))
@@ -952,7 +953,9 @@ def furnish(folder: str, fresh: str) -> str:
     subprocess.run(["mount", "-t", "overlay", "overlay", "-o", options, root], check=True)
     subprocess.run(["mount", "-t", "proc", "proc", f"{root}/proc"], check=True)
     subprocess.run(["mount", "--rbind", "/dev", f"{root}/dev"], check=True)
-    subprocess.run(["mount", "-t", "tmpfs", "-o", "mode=1777", "tmpfs", f"{root}/tmp"], check=True)
+    for name in ("tmp", "dev/shm"):
+        words = ["mount", "-t", "tmpfs", "-o", "mode=1777", "tmpfs", f"{root}/{name}"]
+        subprocess.run(words, check=True)
     subprocess.run(["mount", "-t", "tmpfs", "-o", "mode=755", "tmpfs", f"{root}/run"], check=True)
     for name in ("etc/desk", "var/lib/desk", "etc/sudoers.d/desk"):
         subprocess.run(["rm", "-rf", f"{root}/{name}"], check=True)
