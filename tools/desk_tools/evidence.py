@@ -15,6 +15,7 @@ from typing import Any
 from desk_tools import pieces
 from desk_tools.decisions import Desk
 from desk_tools.gaps import Gap, begins, gap_lines, gaps, numbers_of
+from desk_tools.judge import NoDesk
 from desk_tools.made import digest, digest_of, lines_of, made
 from desk_tools.periods import Dated, Failed, Period, read
 from desk_tools.pieces import Piece, Reasons
@@ -24,6 +25,7 @@ from desk_tools.roster_words import base_words
 from desk_tools.summary import Data, Summary, Told
 from desk_tools.toml_text import read as read_toml
 from desk_tools.use import GIVEN
+from desk_tools.written_out import BadText
 from steelnewt_client.messages import canonical
 from steelnewt_client.moments import seconds, stamp_of
 from steelnewt_client.places import place
@@ -277,8 +279,9 @@ class Evidence:
 
     # ---- what is handed on
 
-    def standing(self, found: list[Period]) -> list[Right]:
-        """The standing rights at the end, with the bases since when each is there."""
+    def standing(self, found: list[Period]) -> tuple[list[Right], str]:
+        """The standing rights at the end, with the bases since when each is there; or why they are
+        not known."""
         with tempfile.TemporaryDirectory() as room:
             dated = [it for it in self.bases if it.at <= found[-1].first or not it.at]
             ends = [stamp_of(seconds(it.at) - 1) for it in dated[1:]] + [self.last]
@@ -290,14 +293,19 @@ class Evidence:
                 bases.append(Base(it.at, end, path, is_dated=bool(it.at)))
             asked = os.path.join(room, "asked")
             os.mkdir(asked)
-            return list(Standing(Desk(self.desk, asked), bases, self.last).all())
+            try:
+                return list(Standing(Desk(self.desk, asked), bases, self.last).all()), ""
+            except (NoDesk, BadText) as fault:
+                return [], f"They are not known: {fault}"
 
     def hand_on(self, summary: Summary, found: list[Period]) -> None:
         """The summary, the page, the sample, and the table of the grants."""
         lasts = {it.name: it.last for it in found}
         reasons = self.reasons or {}
         table = self.put("grants.csv", pieces.table_of(self.pieces, lasts, reasons))
-        told = summary.data(self.standing(found), self.gaps)
+        rights, unknown = self.standing(found)
+        told = summary.data(rights, self.gaps)
+        told["standing_unknown"] = unknown
         told["begins"] = [{"by": by, "no": no} for by, no in begins(self.numbers)]
         files, rows = {"grants.csv": digest(table)}, list[dict[str, str]]()
         if self.sample:

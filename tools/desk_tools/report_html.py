@@ -192,7 +192,7 @@ def idle(told: Data) -> str:
 
 def right_words(it: Data) -> str:
     if "more" in it:
-        return f"and more, such as {it['more']}"
+        return str(it["said"])
     without = f" but {', '.join(it['without'])}" if it["without"] else ""
     why = f" ({it['runs_others']})" if "runs_others" in it else ""
     return f"{it['right']}{without}{why}"
@@ -209,8 +209,9 @@ def standing(told: Data) -> str:
     rows: list[Row] = [(*row, " ".join(held)) for row, held in hosts.items()]
     return section(
         "Who needs no request",
-        "The standing rights at the end of this time, by the base. * is whatever the base does not "
-        "name.",
+        told["standing_unknown"]
+        or "The standing rights at the end of this time, by the base. * is whatever the base does "
+        "not name.",
         Table("Who|As|What|Password|Since|Hosts", rows),
     )
 

@@ -52,6 +52,12 @@ class Right(NamedTuple):
     why: str  # how it gives more than its words
     more: str = ""
 
+    @property
+    def more_said(self) -> str:
+        """The case in words; a code where it is not known whether there is more."""
+        is_unknown = UNKNOWN.match(self.more) is not None
+        return f"maybe more: {self.more}" if is_unknown else f"and more, such as {self.more}"
+
 
 class Base(NamedTuple):
     """A base, since when until when it was in force, and its file."""
@@ -113,10 +119,16 @@ class Standing:
         self.check()
 
     def check(self) -> None:
-        """The base as it was written out decides as the base does, at this moment."""
+        """The base as it was written out decides as the base does, at this moment: user by user,
+        for which there are fewer cases."""
         same = self.written.policy(it.text() for it in self.written.rules) + denials(self.at)
-        if self.asked.case(same, self.now) or self.asked.case(self.now, same):
-            raise NoDesk("the base and its rules one by one are not known to be the same")
+        with ThreadPoolExecutor(os.cpu_count()) as pool:
+            pairs = [(one, (user,)) for user in self.names("User") for one in (same, self.now)]
+            others = {same: self.now, self.now: same}
+            found = pool.map(lambda it: self.asked.case(it[0], others[it[0]], it[1]), pairs)
+            for (_, (user,)), case in zip(pairs, found):
+                if case:
+                    raise NoDesk(f"what the base gives {user} is not known: {case}")
 
     def alone(self, place: Place, commands: Iterable[str], at: str = "") -> str:
         """The policy that gives some commands in a place at a moment, and nothing else."""

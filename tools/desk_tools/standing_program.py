@@ -102,7 +102,7 @@ def data_of(it: Right) -> dict[str, Any]:
         "rules": list(it.rules),
     }
     if it.more:
-        return {**found, "more": it.more}
+        return {**found, "more": it.more, "said": it.more_said}
     if it.since:
         found |= {"since": it.since, "or_before": it.is_before}
     if it.until:
@@ -111,7 +111,7 @@ def data_of(it: Right) -> dict[str, Any]:
 
 
 def row_of(it: Right, by: str) -> dict[str, str]:
-    right = f"MORE, SUCH AS {it.more}" if it.more else it.command
+    right = it.more_said if it.more else it.command
     values = (
         *it.place,
         right,
@@ -143,7 +143,7 @@ PASSWORDS = {"no": "without a password", "yes": "with a password", "some": "some
 def said_of(it: Right) -> str:
     """A right in words."""
     if it.more:
-        return f"and more, such as  {it.more}"
+        return it.more_said
     what = it.command + (f" but {', '.join(it.without)}" if it.without else "")
     parts = [what, PASSWORDS[it.password]]
     if it.since:
