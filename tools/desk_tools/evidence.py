@@ -9,6 +9,7 @@ import shutil
 import subprocess
 import tempfile
 from collections.abc import Iterable, Iterator
+from concurrent.futures import ThreadPoolExecutor
 from dataclasses import dataclass, field
 from typing import Any
 
@@ -171,11 +172,16 @@ class Evidence:
         lines = [why.encode() + b" " + self.messages[at - 1] for at, why in refused.items()]
         self.put(f"{it.name}/refused", joined(lines))
         self.made(it, len(refused))
-        self.reports(it, texts, kept)
-        told = self.audited(it, texts, kept)
         audit = json.loads(whole)
-        is_same = self.compare(it, audit, kept)
-        used = self.used(it, audit, base)
+        with ThreadPoolExecutor(os.cpu_count()) as pool:
+            ends = (("from", it.first), ("until", it.last))
+            reports = [pool.submit(self.report, it, texts, kept, *end) for end in ends]
+            spanned = pool.submit(self.audited, it, texts, kept)
+            compared = pool.submit(self.compare, it, audit, kept)
+            used = self.used(it, audit, base)
+            for report in reports:
+                report.result()
+        told, is_same = spanned.result(), compared.result()
         self.pieces += pieces.pieces_of(it.name, it.first, it.last, told, statuses_of(used))
         return Told(
             name=it.name,
@@ -201,13 +207,14 @@ class Evidence:
         more |= {"from": it.first, "until": it.last}
         self.put_json(f"{it.name}/made.json", made(NAMESPACE, self.said, files, **more))
 
-    def reports(self, it: Period, texts: tuple[str, ...], kept: list[int]) -> None:
-        """What the desk reports of both ends, each by what had been said until then."""
-        for end, at in (("from", it.first), ("until", it.last)):
-            until = [no for no in kept if self.moments[no - 1] <= at]
-            given = joined(self.messages[no - 1] for no in until)
-            report, _ = self.run(self.desk, "review", *texts, at, given=given)
-            self.put(f"{it.name}/{end}.report", report)
+    def report(
+        self, it: Period, texts: tuple[str, ...], kept: list[int], end: str, at: str
+    ) -> None:
+        """What the desk reports of one end of a time, by what had been said until then."""
+        until = [no for no in kept if self.moments[no - 1] <= at]
+        given = joined(self.messages[no - 1] for no in until)
+        report, _ = self.run(self.desk, "review", *texts, at, given=given)
+        self.put(f"{it.name}/{end}.report", report)
 
     def audited(self, it: Period, texts: tuple[str, ...], kept: list[int]) -> Data:
         span = ("--from", it.first, "--until", it.last)
