@@ -209,7 +209,7 @@ class Standing:
     ) -> dict[str, tuple[str, ...]]:
         """The folders of which the base gives all but some commands, with these."""
         found = {}
-        for wide in (it for it in named if it.endswith("/")):
+        for wide in (it for it in named if it.endswith("/") and it not in without):
             but = tuple(it for it in without if is_inside(it, wide))
             if but and self.has(place, [wide, *denied(but)]):
                 found[wide] = but
