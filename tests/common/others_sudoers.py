@@ -101,6 +101,8 @@ def fetch_packages(folder: str) -> list[tuple[str, bytes]]:
 def kept(folder: str, fetch: Callable[[str], list[tuple[str, bytes]]]) -> list[str]:
     """The paths of the files in a folder, which are fetched the first time."""
     if not os.path.isdir(folder):
+        # (where DESK names a program of another folder, there may be no build yet)
+        os.makedirs(desk.BUILD, exist_ok=True)
         with tempfile.TemporaryDirectory() as room:
             files = fetch(room)
             new = tempfile.mkdtemp(prefix=f"{os.path.basename(folder)}.", dir=desk.BUILD)

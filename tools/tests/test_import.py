@@ -10,11 +10,12 @@ import subprocess
 import sys
 import time
 from collections.abc import Callable
+from itertools import product
 from pathlib import Path
 
 import pytest
 
-from desk_tools import comparing, machine, sudo_settings
+from desk_tools import comparing, machine
 from tests.common import others_sudoers
 from conftest import ROOT, Run
 
@@ -212,27 +213,37 @@ def test_what_stays_takes_an_earlier_rule_along(
     assert f"sudoers:{line}: {'gone' if is_taken else 'kept'}: " in "\n".join(said)
 
 
-SCOPES = ("", ":ann", "@db1", ">root", "!/usr/bin/id")
-WALK = [
-    (flag, is_on, scope, sign)
-    for flag in sudo_settings.TAGS
-    for is_on in (True, False)
-    for scope in SCOPES
-    for sign in ("", "!", None)
-]
+# sudoers(5): the tags that set a flag of a command and take it away, and what it is by itself
+FLAGS = {
+    "authenticate": ("PASSWD", "NOPASSWD", True),
+    "noexec": ("NOEXEC", "EXEC", False),
+    "intercept": ("INTERCEPT", "NOINTERCEPT", False),
+    "setenv": ("SETENV", "NOSETENV", False),
+    "sudoedit_follow": ("FOLLOW", "NOFOLLOW", False),
+    "log_input": ("LOG_INPUT", "NOLOG_INPUT", False),
+    "log_output": ("LOG_OUTPUT", "NOLOG_OUTPUT", False),
+}
+# (no Defaults line sets these, and they change no right)
+TAGS = [tag for yes, no, _ in FLAGS.values() for tag in (yes, no)] + ["MAIL", "NOMAIL"]
+SCOPES = ("", f":{', '.join(map(str.lower, TAGS))}", "@db1", ">root", "!/usr/bin/id")
 
 
-def test_each_tag_beside_each_defaults() -> None:
-    """A tag is left out of a base only where the command means the same without it."""
-    for flag, is_on, scope, sign in WALK:
-        tag = sudo_settings.TAGS[flag]
-        settings = [] if sign is None else [(flag, not sign)]
-        unsaid = sudo_settings.unsaid_tag(flag, is_on, settings, False)
-        is_same = is_on == tag.is_on and (sign is None or (not sign) == tag.is_on)
-        if flag == "send_mail" or (flag == "authenticate" and not is_on):
-            assert unsaid is None
-        else:
-            assert unsaid == (None if is_same else tag.yes if is_on else tag.no), (flag, is_on, scope, sign)
+@pytest.mark.parametrize(("scope", "sign"), [("", None), *product(SCOPES, ("", "!"))])
+def test_each_tag_beside_each_defaults(made: Make, scope: str, sign: str | None) -> None:
+    """A command is in the base without its tag only where it means the same so; each tag is the
+    rule of a person of its own."""
+    lines = [f"Defaults{scope} {sign}{flag}\n" for flag in FLAGS if sign is not None]
+    lines += [f"{tag.lower()} ALL = {tag}: /usr/bin/id\n" for tag in TAGS]
+    base, said = made("".join(lines))
+    kept = {"MAIL": "", "NOMAIL": "", "NOPASSWD": "NOPASSWD: "}
+    for yes, no, is_on in FLAGS.values():
+        if sign is None or (sign == "") == is_on:
+            kept[yes if is_on else no] = ""
+    wanted = [f"{tag.lower()} db1 = (root) {kept[tag]}/usr/bin/id" for tag in TAGS if tag in kept]
+    assert base.splitlines() == wanted, said
+    for tag in TAGS:
+        why = f"    stays on the host: /usr/bin/id: {tag}: "
+        assert any(it.startswith(why) for it in said) == (tag not in kept), (tag, said)
 
 
 LONG = f" {'y' * 64}" * 15
@@ -535,6 +546,14 @@ def test_aliases_have_a_prefix(made: Make) -> None:
     names = re.findall(r"User_Alias (\w+) ", base)
     assert len({*names}) == 2 and all(it.startswith("DESK_A") and len(it) <= 32 for it in names)
     assert made("User_Alias U = ann\nU ALL = ALL\n", "--prefix", "OURS_")[0].startswith("User_Alias OURS_U = ann")
+
+
+def test_the_linter_takes_what_is_made(made: Make, lint: Run, desk: str, tmp_path: Path) -> None:
+    """It had a warning for each alias of a base that was just made."""
+    base = tmp_path / "base.sudo"
+    base.write_text(made("User_Alias A = ann\nCmnd_Alias B = /usr/bin/id\nA ALL = B, /usr/bin/du\n")[0])
+    said = lint("--desk", desk, "--strict", str(base))
+    assert (said.returncode, said.stdout) == (0, ""), said
 
 
 def test_a_copy_of_another_hosts_etc(made: Make, folder: Path) -> None:
