@@ -43,8 +43,10 @@ NOBODY = 65534
 # another zone than the host's: no time is the same in both
 ZONE = "EAST-13:30"
 AT = "2026-01-05 09:30:00"
-# what sudo asks of PAM is no matter here
-NO_PAM = "Defaults !pam_acct_mgmt, !pam_session, !pam_setcred\n"
+# what sudo asks of PAM is no matter here; and a library sees what a command starts, since sudo waits
+# for ever where the kernel does not let it trace the command
+NO_PAM = "Defaults !pam_acct_mgmt, !pam_session, !pam_setcred, intercept_type=dso\n"
+PATIENCE = 600
 VERDICT = re.compile(r"^(/.*?:[0-9]+): (?:kept|in part|gone|not for this host): ", re.MULTILINE)
 END = (" entry\n", " entries\n")  # of the report
 REFUSAL = re.compile(r"desk-import: (sudo cannot read it: )?/[\w./*-]+:[0-9]+(:[0-9]+)?: \S.*\n")
@@ -200,6 +202,7 @@ class Machine:
             stdin=subprocess.DEVNULL,
             capture_output=True,
             check=False,
+            timeout=PATIENCE,
             env={"PATH": "/usr/sbin:/usr/bin:/sbin:/bin", "TZ": "UTC", "LC_ALL": "C"},
         )
         return ran.returncode == 0
