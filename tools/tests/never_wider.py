@@ -328,7 +328,7 @@ def inside(count: int, seed: int = 53) -> int:
     print("\n".join(run.wrong))
     print(f"{len(WIDENERS)} named files: {dict(named)}; {failed} failed")
     print(f"{count} random files: {dict(run.count)}; {len(run.wrong)} wrong in all")
-    needed = ("by the base", "logged", *(f"allowed, {way}" for way in WAYS))
+    needed = ("by the base", *(f"allowed, {way}" for way in WAYS))
     is_idle = count > 0 and not all(run.count[it] for it in needed)
     return 1 if run.wrong or failed or is_idle else 0
 

@@ -133,7 +133,8 @@ def random_lines(rng: random.Random) -> list[str]:
     for _ in range(rng.choice((0, 1, 2))):
         lines.insert(rng.randrange(len(lines) + 1), rng.choice(COMMENTS))
     for _ in range(rng.choice((0, 0, 0, 1, 1, 2))):
-        lines.insert(rng.randrange(len(lines) + 1), rng.choice((*DEFAULTS, scoped_flag(rng))))
+        line = scoped_flag(rng) if rng.random() < 0.5 else rng.choice(DEFAULTS)
+        lines.insert(rng.randrange(len(lines) + 1), line)
     return lines
 
 
