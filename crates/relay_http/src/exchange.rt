@@ -129,13 +129,7 @@ fn found(routes: &Routes, offered: Offered, head: Head, bytes: &[u8]) -> Stage
 }
 
 /// How far the request of these bytes has come, where the scan had come so far before this place.
-fn looked(
-    routes: &Routes,
-    offered: Offered,
-    line: HeadScan,
-    bytes: &[u8],
-    from: usize,
-) -> Stage
+fn looked(routes: &Routes, offered: Offered, line: HeadScan, bytes: &[u8], from: usize) -> Stage
     requires from { from ≤ length bytes.now }
     requires line { line ≡ scanned Blank (take from bytes.now) }
     ensures { IsStage offered bytes.now result }
@@ -277,7 +271,13 @@ impl Exchange {
         match bytes {
             [byte] if from < self.come.capacity() => {
                 self.come.push_reserved(*byte);
-                go_on(&mut self.stage, routes, self.offered, self.come.as_slice(), from);
+                go_on(
+                    &mut self.stage,
+                    routes,
+                    self.offered,
+                    self.come.as_slice(),
+                    from,
+                );
             }
             _ => self.take_many(routes, bytes)?,
         }
@@ -295,7 +295,13 @@ impl Exchange {
     {
         let from = self.come.len();
         self.come.extend_from_slice(bytes)?;
-        go_on(&mut self.stage, routes, self.offered, self.come.as_slice(), from);
+        go_on(
+            &mut self.stage,
+            routes,
+            self.offered,
+            self.come.as_slice(),
+            from,
+        );
         Ok(())
     }
 
