@@ -35,7 +35,7 @@ def parser() -> argparse.ArgumentParser:
     found.add_argument("--messages", required=True, metavar="FILE", help="all messages, one a line")
     found.add_argument("--base", required=True, metavar="BASE", help="the base policy")
     rosters = found.add_mutually_exclusive_group(required=True)
-    rosters.add_argument("--rosters", metavar="FOLDER", help="rosters, each named MOMENT.toml")
+    rosters.add_argument("--rosters", metavar="FOLDER", help="the desk's history")
     rosters.add_argument("--roster", metavar="ROSTER", help="the roster of the whole time")
     said = "a log of sudo's, or a folder of logs (may be given again)"
     found.add_argument("--log", action="append", default=[], metavar="[HOST=]LOG", help=said)
