@@ -269,7 +269,7 @@ def by_one_command(room: Room) -> None:
     lines = [it for it in kept.stdout.splitlines() if re.match(r"[-d][rwx-]{9}", it)]
     room.holds("the desk's own store", all(" desk desk" in it for it in lines), kept)
     room.holds("both are in the history", old + new in kept.stdout, kept)
-    room.says("A roster is changed", "give it the earlier one of `/var/lib/desk/history`, with one line")
+    room.says("A roster is changed", "give it the earlier one of `/var/lib/desk/history`")
     done = change(room, old + "# again\n")
     room.holds("and back", done.returncode == 0, done)
     room.holds("as before", room.text(f"/v1/grants/{near(0)}") == before != "", before)

@@ -40,8 +40,9 @@ def text(desk: Desk, new: bytes) -> str:
         count = desk.counted()
         old = change.served_file(desk, "base", count.base)
         more, less = beyond(desk, path, old), beyond(desk, old, path)
-    lines = [
-        f"The new base allows more, such as {case(more)}" if more else "The new base allows nothing more.",
-        f"It allows no longer, for one, {case(less)}" if less else "It allows all that the old one does.",
-    ]
+    lines = ["The new base allows nothing more.", "It allows all that the old one does."]
+    if more:
+        lines[0] = f"The new base allows more, such as {case(more)}"
+    if less:
+        lines[1] = f"It allows no longer, for one, {case(less)}"
     return "\n".join(lines)

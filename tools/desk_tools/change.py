@@ -57,7 +57,7 @@ class Desk:
 
     def file(self, kind: str) -> str:
         """The roster's file, or the base's, itself, where its name is a link."""
-        return os.path.realpath(getattr(self.settings, kind))
+        return os.path.realpath(self.settings.roster if kind == "roster" else self.settings.base)
 
     @property
     def history(self) -> History:
@@ -198,10 +198,15 @@ def enough_room(desk: Desk, new: bytes) -> None:
 def settle(desk: Desk, count: Count) -> Line:
     """What is served is the last line of the history, also after a change that was cut off."""
     last = desk.history.last()
-    if last is not None and (last.roster, last.base) == (count.roster, count.base):
+    if last is not None and last[1:] == count[1:]:
         return last
-    paths = [served_file(desk, kind, getattr(count, kind)) for kind in KINDS]
-    return desk.history.write(*paths, ["by=desk-change-roster", "why=what the desk serves"])
+    return write_served(desk, Line("", count.roster, count.base), "what the desk serves")
+
+
+def write_served(desk: Desk, line: Line, why: str) -> Line:
+    """What is served is written into the history."""
+    roster, base = (served_file(desk, kind, getattr(line, kind)) for kind in KINDS)
+    return desk.history.write(roster, base, ["by=desk-change-roster", f"why={why}"])
 
 
 def served_file(desk: Desk, kind: str, wanted: str) -> str:
@@ -243,8 +248,8 @@ def wait(desk: Desk, kind: str, wanted: str, line: Line) -> None:
         count = served.counted(desk.settings.address)
         if count is not None and getattr(count, kind) == wanted:
             return
-        last = desk.history.last()
-        if last is not None and last.moment > line.moment and getattr(last, kind) != wanted:
+        last = desk.history.last() or line
+        if last.moment > line.moment and count is not None and count[1:] == last[1:]:
             raise Failed(f"the {kind} stays: {desk.history.reason(last.moment)}")
         if time.monotonic() > until:
             said = f"the desk does not say that it has the new {kind}"
@@ -255,11 +260,12 @@ def wait(desk: Desk, kind: str, wanted: str, line: Line) -> None:
 def go_back(desk: Desk, kind: str, old: bytes, before: Line, why: str) -> None:
     """The old text in its place, and in the history, for the desk has not taken the new one."""
     count = served.counted(desk.settings.address)
-    if count is None or (count.roster, count.base) != (before.roster, before.base):
-        raise Halfway(f"{why}; and it is not known what the desk serves")
+    if count is None:
+        raise Halfway(f"{why}; and the desk does not answer")
+    if count[1:] != before[1:]:
+        raise Halfway(f"{why}; and the desk serves another {kind} than before")
     try:
         desk.put(kind, old)
-        paths = [served_file(desk, it, getattr(before, it)) for it in KINDS]
-        desk.history.write(*paths, ["by=desk-change-roster", f"why={' '.join(why.split())}"])
+        write_served(desk, before, " ".join(why.split()))
     except (Failed, OSError) as worse:
         raise Halfway(f"{why}; and it does not go back: {worse}") from None

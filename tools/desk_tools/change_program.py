@@ -14,6 +14,7 @@ from desk_tools import roster_words, served
 from desk_tools.change import Compared, Desk, Halfway
 from desk_tools.desks import Machines
 from desk_tools.found import Parser, visible
+from desk_tools.history import Line
 from desk_tools.judge import NoDesk, program
 from desk_tools.schema import NoJsonschema
 from desk_tools.served import Failed
@@ -37,7 +38,7 @@ def parser(kind: str) -> argparse.ArgumentParser:
         f"desk-change-{kind}",
         description=f"Changes the {kind} of a running desk: all of it, or nothing.",
         epilog=f"Exit status: 0 the desk has the {kind}, 1 nothing was changed, 2 it is refused"
-        " or failed and all is as before, 3 run it again: it is not known yet, or not on each desk.",
+        " or failed and all is as before, 3 it is not known yet, or not on each desk: run it again.",
     )
     found.add_argument(kind, metavar=f"NEW_{kind.upper()}", help=f"the new {kind}; - is the input")
     found.add_argument("--yes", action="store_true", help="ask nobody")
@@ -169,7 +170,7 @@ def changed_base(said: argparse.Namespace, desk: Desk, new: bytes) -> int:
     return told(desk, change.change(desk, "base", new, reasons(said)), "base")
 
 
-def told(desk: Desk, line: change.Line, kind: str) -> int:
+def told(desk: Desk, line: Line, kind: str) -> int:
     print(f"The desk serves the new {kind}, {getattr(line, kind)[:16]}. What it was, and why it was")
     print(f"changed, is in {os.path.join(desk.history.folder, line.moment)}.")
     return DONE
@@ -232,7 +233,7 @@ def main(kind: str) -> int:
         return on_each(said, kind) if said.desks else followed(said, kind)
     except Halfway as fault:
         why, status = f"{fault}: run it again", HALFWAY
-    except (Failed, NoDesk, evidence.Failed) as fault:
+    except (Failed, NoDesk) as fault:
         why = f"{fault}: all is as before"
     except NoJsonschema:
         why = "it needs Debian's package python3-jsonschema: all is as before"

@@ -15,6 +15,10 @@ from desk_tools.served import Failed
 ASKED_IN = 600.0
 
 
+# the status of a machine that does not know which one its desk has; ssh's own is 255
+HALFWAY, NO_SSH = 3, 255
+
+
 class Said(NamedTuple):
     """What a machine says, and its status."""
 
@@ -52,7 +56,7 @@ class Machines:
                 words, input=self.new, capture_output=True, check=False, timeout=ASKED_IN
             )
         except (OSError, subprocess.TimeoutExpired) as fault:
-            return Said(255, "", f"it cannot be asked: {fault}")
+            return Said(NO_SSH, "", f"it cannot be asked: {fault}")
         out, err = (it.decode("utf-8", "replace") for it in (ran.stdout, ran.stderr))
         return Said(ran.returncode, out, err)
 
@@ -74,9 +78,11 @@ class Machines:
             said = self.ask(name, "--yes", *more)
             show(name, said)
             if said.status:
-                rest = ", ".join(lacking[at + 1 :])
+                is_unknown = said.status in (HALFWAY, NO_SSH)
+                rest = ", ".join(lacking[at + is_unknown :])
+                told = " (which one it has is not known)" if is_unknown else ""
                 old = f"; the old one is still at {rest}" if rest else ""
-                raise Halfway(f"{name}: {last(said.err)}{old}")
+                raise Halfway(f"{name}: {last(said.err)}{told}{old}")
             print(f"{name} has the new {self.kind}.")
 
 

@@ -8,9 +8,10 @@ import sys
 import tempfile
 
 from desk_tools import evidence
-from desk_tools.evidence import Evidence, Failed, Period, periods, read
+from desk_tools.evidence import Evidence, Period, periods, read
 from desk_tools.found import Parser, visible
 from desk_tools.judge import NoDesk, program
+from desk_tools.served import Failed
 from steelnewt_client.places import place
 
 MADE, FAILED = 0, 2

@@ -52,7 +52,8 @@ class History:
         self.program = place("packaging/desk-history", "libexec/steelnewt/desk-history")
 
     def last(self) -> Line | None:
-        return (lines(self.folder) or [None])[-1]
+        found = lines(self.folder)
+        return found[-1] if found else None
 
     def path(self, moment: str, name: str) -> str:
         return os.path.join(self.folder, moment, name)

@@ -8,7 +8,7 @@ import os
 import sys
 import time
 
-from desk_tools import change, change_program, evidence, people, people_settings, served
+from desk_tools import change, change_program, people, people_settings, served
 from desk_tools.change_program import visible_lines
 from desk_tools.directory import Unsure, unseen
 from desk_tools.found import Parser, visible
@@ -106,7 +106,7 @@ def main(words: list[str] | None = None) -> int:
         found.error("--on: a day is yyyymmdd")
     try:
         return followed(said)
-    except (Unsure, CannotEdit, Failed, NoDesk, evidence.Failed) as fault:
+    except (Unsure, CannotEdit, Failed, NoDesk) as fault:
         why = str(fault)
     except NoJsonschema:
         why = "it needs Debian's package python3-jsonschema"

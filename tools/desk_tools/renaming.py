@@ -12,7 +12,7 @@ from steelnewt_client.desk import Silent
 from steelnewt_client.messages import canonical
 from steelnewt_client.moments import of_stamp, stamp_of
 
-# Behind a door root revokes at a socket of its own, and the desk's takes what came through the door.
+# Behind a door root revokes at a socket of its own: the desk's takes what came through the door.
 BEHIND_DOOR, ROOT_DOOR = "unix:/run/desk-posts/desk.sock", "unix:/run/desk-door/root/desk.sock"
 OPEN = ("waiting", "granted", "disputed")
 

@@ -32,6 +32,10 @@ def told(span: tuple[str, str, str]) -> str:
     return " ".join([duty, *days])
 
 
+def pair(duties: frozenset[str]) -> str:
+    return " and ".join(sorted(duties))
+
+
 def people_lines(old: Tree, new: Tree) -> Iterator[str]:
     for name in sorted({*old, *new}):
         before, after = spans(old.get(name, [])), spans(new.get(name, []))
@@ -74,7 +78,7 @@ def lines(old_text: bytes, new_text: bytes) -> list[str]:
         found += [f"the {kind} {it} leaves{leaves}" for it in old[key] if it not in new[key]]
     pairs = [{frozenset(it) for it in tree["conflicts"]} for tree in (old, new)]
     for said, these in (("is new", pairs[1] - pairs[0]), ("is gone", pairs[0] - pairs[1])):
-        found += [f"the conflict of {' and '.join(sorted(it))} {said}" for it in sorted(these, key=sorted)]
+        found += [f"the conflict of {it} {said}" for it in sorted(map(pair, these))]
     found += people_lines(old["people"], new["people"])
     return found + [*ceiling_lines(old["ceilings"], new["ceilings"])]
 

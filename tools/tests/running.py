@@ -47,7 +47,7 @@ class Running:
     def __init__(self, folder: Path, desk: str) -> None:
         self.folder, self.real = folder, desk
         for name in ("bin", "etc", "store"):
-            (folder / name).mkdir()
+            (folder / name).mkdir(exist_ok=True)
         (folder / "store").chmod(0o700)
         self.roster = folder / "etc" / "roster.toml"
         shutil.copy(os.path.join(ROOT, "examples", "roster.toml"), self.roster)

@@ -2,7 +2,8 @@
 # What systemd would do with desk.service, in a test: stops, starts and reloads packaging/desk-serve
 # of the folder that ROOM names. A file `kill` there says before or behind which verb the program
 # that asks is killed (as `before reload`), by the signal of a file `signal`; a file `fail` which
-# verb fails; and a file `hook` is a script that is run before the desk is told to reload.
+# verb fails; and a file `hook` is a script that is run before the desk is told to reload, with the
+# program that asks as CALLER.
 set -u
 pid=$ROOM/pid log=$ROOM/desk.log
 runs() { [ "$(ps -o stat= -p "$1" | cut -c 1)" != Z ] && kill -0 "$1" 2> /dev/null; }
@@ -18,15 +19,13 @@ stop() {
     rm "$pid"
 }
 as_served() {
-    env -i PATH="$PATH" DESK="$REAL" ROSTER="$ROOM/etc/roster.toml" BASE="$ROOM/etc/base.sudo" \
-        STORE="$ROOM/store/desk.db" ADDR="unix:$ROOM/desk.sock" "$SERVE" "$@"
+    exec env -i PATH="$PATH" DESK="$REAL" ROSTER="$ROOM/etc/roster.toml" \
+        BASE="$ROOM/etc/base.sudo" STORE="$ROOM/store/desk.db" ADDR="unix:$ROOM/desk.sock" "$@"
 }
 start() {
     stop
     : > "$log"
-    setsid env -i PATH="$PATH" DESK="$REAL" ROSTER="$ROOM/etc/roster.toml" BASE="$ROOM/etc/base.sudo" \
-        STORE="$ROOM/store/desk.db" ADDR="unix:$ROOM/desk.sock" \
-        "$SERVE" > "$log" 2>&1 < /dev/null &
+    as_served setsid "$SERVE" > "$log" 2>&1 < /dev/null &
     echo $! > "$pid"
     for _ in $(seq 12000); do
         grep -q 'listening at' "$log" && return 0
@@ -38,8 +37,8 @@ start() {
 }
 # (as ExecReload says)
 reload() {
-    as_served --base || return 1
-    [ ! -e "$ROOM/hook" ] || { bash "$ROOM/hook"; rm "$ROOM/hook"; }
+    (as_served "$SERVE" --base) || return 1
+    [ ! -e "$ROOM/hook" ] || { CALLER=$PPID bash "$ROOM/hook"; rm "$ROOM/hook"; }
     kill -HUP "$(cat "$pid")"
 }
 [ "$2" = desk ] || exit 9

@@ -249,7 +249,7 @@ def test_a_roster_that_changes_while_it_is_read(running: Running) -> None:
     the desk has is in the history."""
     (running.folder / "hook").write_text('echo "# other" >> "$ROOM/etc/roster.toml"\n')
     ran = running.change(running.new(WITH_KIM), "--yes")
-    assert ran.returncode == 3 and "it is not known what the desk serves" in ran.stderr, ran
+    assert ran.returncode == 3 and "the desk serves another roster" in ran.stderr, ran
     until(lambda: running.serves() == digest(running.roster), "the desk has the file's")
     assert running.moments()[-1].roster == digest(running.roster)
     ran = running.change(running.new(WITH_KIM), "--yes")
@@ -277,7 +277,7 @@ def test_killed_at_a_step(running: Running, step: str) -> None:
     asked(running)
     messages, old = running.messages(), running.serves()
     if step == "reading it":
-        (running.folder / "hook").write_text("kill -KILL $(pgrep -f '[d]esk-change-roster')\n")
+        (running.folder / "hook").write_text('kill -KILL "$CALLER"\n')
     else:
         (running.folder / "kill").write_text(step)
     new = running.new(WITH_KIM)
@@ -354,7 +354,7 @@ def full(tmp_path: Path, desk: str) -> Iterator[Running]:
     """A desk whose store is on a disk of its own, of 8 MiB."""
     if os.geteuid() != 0:
         pytest.skip("a small disk needs root")
-    (tmp_path / "store").mkdir()
+    (tmp_path / "store").mkdir(mode=0o700)
     words = ["mount", "-t", "tmpfs", "-o", "size=8m,mode=700", "none", str(tmp_path / "store")]
     subprocess.run(words, check=True)
     try:
@@ -371,7 +371,7 @@ def test_the_history_has_an_end(running: Running) -> None:
     for number in range(3_700):
         (folder / f"2001010100{number:04}Z").mkdir()
     ran = running.change(running.new(WITH_KIM), "--yes")
-    assert ran.returncode == 0 and "3702 moments, of 4096" in ran.stdout.replace("3701", "3702"), ran
+    assert ran.returncode == 0 and "3701 moments, of 4096" in ran.stdout, ran
     for number in range(3_700, 4_096):
         (folder / f"2001010100{number:04}Z").mkdir()
     before = running.serves()
@@ -389,7 +389,7 @@ def test_the_history_has_an_end(running: Running) -> None:
 def test_a_rename_revokes_what_is_open(running: Running) -> None:
     """ann becomes ann.b: what ann has open is revoked in the same act, and it is asked for anew."""
     asked(running)
-    asked(running, 8, 2.0)
+    asked(running, 8, 1.0)
     new = running.new(('ann = ["operate-db"]', 'ann = [{ duty = "operate-db", until = "20261129" }]'
                        '\n"ann.b" = [{ duty = "operate-db", from = "20261130" }]'))
     shown = running.change(new, "--show")
