@@ -9,6 +9,7 @@ from __future__ import annotations
 
 import fcntl
 import os
+import re
 import shutil
 import signal
 import tempfile
@@ -30,6 +31,7 @@ LOCKED_FOR = 60.0  # seconds
 PATIENCE = 120.0  # seconds until a desk says what it serves; its store of so many bytes adds one
 BYTES_A_SECOND = 4 << 20
 ROOM = 1 << 20
+LEFT = re.compile(r"desk-change-([0-9]+)-\w+")
 KINDS = ("roster", "base")
 
 
@@ -108,7 +110,13 @@ def people_of(text: bytes) -> set[str]:
 
 
 def scratch() -> tempfile.TemporaryDirectory[str]:
-    return tempfile.TemporaryDirectory(prefix="desk-change-")
+    """A folder for a copy of the store. What runs that were killed have left goes first."""
+    for name in os.listdir(tempfile.gettempdir()):
+        path = os.path.join(tempfile.gettempdir(), name)
+        if (left := LEFT.fullmatch(name)) and not os.path.exists(f"/proc/{left[1]}"):
+            if os.lstat(path).st_uid == os.geteuid():
+                shutil.rmtree(path, ignore_errors=True)
+    return tempfile.TemporaryDirectory(prefix=f"desk-change-{os.getpid()}-")
 
 
 def audit(desk: Desk, roster: str, copy: str, told: bytes, more: list[str]) -> Audit:

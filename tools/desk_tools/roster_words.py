@@ -6,6 +6,7 @@ from collections.abc import Iterator
 from typing import Any
 
 from desk_tools.roster_text import day_after
+from desk_tools.site import FIRST, LAST
 from desk_tools.toml_text import read as read_toml
 
 Tree = dict[str, Any]
@@ -18,11 +19,14 @@ def tree_of(text: bytes) -> Tree:
 
 
 def spans(entries: list[Any]) -> set[tuple[str, str, str]]:
-    """Each duty of a person, with its first and its last day."""
+    """Each duty of a person, with its first and its last day, where it has one."""
     found = set()
     for it in entries:
-        said = {"duty": it} if isinstance(it, str) else it
-        found.add((said["duty"], said.get("from", ""), said.get("until", "")))
+        if isinstance(it, str):
+            found.add((it, "", ""))
+        else:
+            first, last = it["from"].replace(FIRST, ""), it["until"].replace(LAST, "")
+            found.add((it["duty"], first, last))
     return found
 
 

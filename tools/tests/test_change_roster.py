@@ -9,6 +9,7 @@ import random
 import re
 import signal
 import subprocess
+import tempfile
 import threading
 import time
 from collections.abc import Iterator
@@ -248,12 +249,13 @@ def test_a_roster_that_changes_while_it_is_read(running: Running) -> None:
     """Somebody writes another one into the file before the desk reads it: it is named, and what
     the desk has is in the history."""
     (running.folder / "hook").write_text('echo "# other" >> "$ROOM/etc/roster.toml"\n')
-    ran = running.change(running.new(WITH_KIM), "--yes")
+    new = running.new(WITH_KIM)
+    ran = running.change(new, "--yes")
     assert ran.returncode == 3 and "the desk serves another roster" in ran.stderr, ran
     until(lambda: running.serves() == digest(running.roster), "the desk has the file's")
     assert running.moments()[-1].roster == digest(running.roster)
-    ran = running.change(running.new(WITH_KIM), "--yes")
-    assert ran.returncode == 0 and running.serves() == digest(running.folder / "new.toml"), ran
+    ran = running.change(new, "--yes")
+    assert ran.returncode == 0 and running.serves() == digest(new), ran
 
 
 def test_two_changes_at_once(running: Running) -> None:
@@ -316,6 +318,8 @@ def test_killed_at_any_moment(running: Running) -> None:
         assert ran.returncode == 0 and running.serves() == digest(new), (number, ran)
         assert running.moments()[-1].roster == digest(new) == digest(running.roster)
     assert running.messages() == messages
+    left = [it for it in os.listdir(tempfile.gettempdir()) if it.startswith("desk-change-")]
+    assert all(os.path.exists(f"/proc/{it.split('-')[2]}") for it in left), left
 
 
 def test_somebody_ends_it(running: Running) -> None:
@@ -334,8 +338,8 @@ def test_a_disk_that_fills(full: Running) -> None:
 
 
 def test_a_disk_that_fills_meanwhile(full: Running) -> None:
-    """The desk's storage fails as it takes the roster: it is not known which it has, until the disk
-    has room; then the same call ends it."""
+    """It fills behind the history's line: the desk has room set aside for a roster, or it is not
+    known which one it has until there is some. The same call ends it."""
     asked(full)
     (full.folder / "hook").write_text('dd if=/dev/zero of="$ROOM/store/fill" 2> /dev/null\n')
     new, messages = full.new(WITH_KIM), full.messages()
@@ -386,23 +390,34 @@ def test_the_history_has_an_end(running: Running) -> None:
 # ---- renames
 
 
+def days(duty: str, first: str, last: str) -> str:
+    return f'{{ duty = "{duty}", from = "{first}", until = "{last}" }}'
+
+
+def dave_and_dina(first: str) -> tuple[str, str]:
+    """dave's duty ends in June, and dina's begins later."""
+    dave, dina = days("audit", "19700101", "20260630"), days("audit", first, "20991231")
+    return 'dave = ["audit"]', f"dave = [{dave}]\ndina = [{dina}]"
+
+
 def test_a_rename_revokes_what_is_open(running: Running) -> None:
     """ann becomes ann.b: what ann has open is revoked in the same act, and it is asked for anew."""
     asked(running)
     asked(running, 8, 1.0)
-    new = running.new(('ann = ["operate-db"]', 'ann = [{ duty = "operate-db", until = "20261129" }]'
-                       '\n"ann.b" = [{ duty = "operate-db", from = "20261130" }]'))
+    ends = days("operate-db", "19700101", "20261129")
+    begins = days("operate-db", "20261130", "20991231")
+    new = running.new(('ann = ["operate-db"]', f'ann = [{ends}]\n"ann.b" = [{begins}]'))
     shown = running.change(new, "--show")
     assert "ann and ann.b: the one gets what the other loses." in shown.stdout, shown
     assert "add --rename ann=ann.b" in shown.stdout and running.serves() != digest(new), shown
+    ran = running.change(new, "--rename", "ann=zoe", "--yes")
+    assert ran.returncode == 2 and "the new roster has no zoe" in ran.stderr, ran
     ran = running.change(new, "--rename", "ann=ann.b", "--yes", "--give-back")
     assert ran.returncode == 0 and "ann 7 is revoked: ann.b asks again\n" in ran.stdout, ran
     assert "ann 8 is revoked: ann.b asks again\n" in ran.stdout, ran
     assert running.ask("GET", f"/v1/grants/{moment(0)}") == "" and running.serves() == digest(new)
     kinds = [json.loads(it)["kind"] for it in running.messages()]
     assert kinds.count("revoke") == 2, kinds
-    ran = running.change(running.new(), "--rename", "ann=zoe", "--yes")
-    assert ran.returncode in (0, 2), ran
 
 
 @pytest.mark.parametrize(
@@ -411,10 +426,8 @@ def test_a_rename_revokes_what_is_open(running: Running) -> None:
         ([('ann = ["operate-db"]', '"ann.b" = ["operate-db"]')], [("ann", "ann.b")]),
         ([WITHOUT_CAROL], []),
         ([WITH_KIM], []),
-        ([('dave = ["audit"]', 'dave = [{ duty = "audit", until = "20260630" }]\n'
-           'dina = [{ duty = "audit", from = "20260701" }]')], [("dave", "dina")]),
-        ([('dave = ["audit"]', 'dave = [{ duty = "audit", until = "20260630" }]\n'
-           'dina = [{ duty = "audit", from = "20260901" }]')], []),
+        ([dave_and_dina("20260701")], [("dave", "dina")]),
+        ([dave_and_dina("20260901")], []),
     ],
 )
 def test_two_names_of_one_person(
