@@ -7,28 +7,30 @@ import subprocess
 
 from desk_tools import change
 from desk_tools.change import Desk
-from desk_tools.served import Failed
 
 NONE, SOME = 0, 1
 
 
-def beyond(desk: Desk, wide: str, narrow: str) -> str:
-    """A case that the one base allows and the other refuses; nothing where there is none."""
+def beyond(desk: Desk, wide: str, narrow: str, none: str, some: str) -> str:
+    """In words, a case that the one base allows and the other refuses; that there is none; or that
+    nobody knows, for there are too many."""
     words = [desk.desk, "beyond", wide, narrow]
     ran = subprocess.run(words, capture_output=True, text=True, check=False)
-    if ran.returncode not in (NONE, SOME):
-        said = "; ".join(ran.stderr.split("\n")).strip("; ")
-        raise Failed(f"desk beyond {wide} {narrow}: {said}")
-    return ran.stdout.strip() if ran.returncode == SOME else ""
+    if ran.returncode == NONE:
+        return none
+    if ran.returncode == SOME:
+        return f"{some}: {case(ran.stdout.strip())}"
+    said = "; ".join(filter(None, ran.stderr.split("\n")))
+    return f"It is not known whether this is so ({said}): {none}"
 
 
 def case(text: str) -> str:
-    """A case in words: who may run what, where, as whom and when."""
+    """Who may run what, where, as whom and when."""
     words = text.split(" ", 4)
     if len(words) != 5:
         return text
     who, host, target, at, command = words
-    return f"{who} on {host} as {target} at {at}: {command}"
+    return f"{who} on {host} as {target} at {at}, {command}"
 
 
 def text(desk: Desk, new: bytes) -> str:
@@ -37,12 +39,8 @@ def text(desk: Desk, new: bytes) -> str:
         path = os.path.join(room, "base.sudo")
         with open(path, "wb") as file:
             file.write(new)
-        count = desk.counted()
-        old = change.served_file(desk, "base", count.base)
-        more, less = beyond(desk, path, old), beyond(desk, old, path)
-    lines = ["The new base allows nothing more.", "It allows all that the old one does."]
-    if more:
-        lines[0] = f"The new base allows more, such as {case(more)}"
-    if less:
-        lines[1] = f"It allows no longer, for one, {case(less)}"
-    return "\n".join(lines)
+        desk.digest("base", path)  # (a base that is none ends it)
+        old = change.served_file(desk, "base", desk.counted().base)
+        allows = "The new base allows nothing more.", "The new base allows more, for one"
+        keeps = "It allows all that the old one does.", "It allows no longer, for one"
+        return f"{beyond(desk, path, old, *allows)}\n{beyond(desk, old, path, *keeps)}"

@@ -451,8 +451,8 @@ def test_a_base_is_changed(running: Running) -> None:
     new.write_text("dave db1 = (root) /usr/bin/true\n")
     ran = running.change(new, *REASONS, kind="base", given="y\n")
     assert ran.returncode == 0, ran
-    assert "The new base allows more, such as dave on db1 as root at " in ran.stdout, ran
-    assert "It allows no longer, for one, " in ran.stdout, ran
+    assert "The new base allows more, for one: dave on db1 as root at " in ran.stdout, ran
+    assert "It allows no longer, for one: " in ran.stdout, ran
     assert base.read_text() == new.read_text() and running.messages() == messages
     assert "dave db1 = (root) /usr/bin/true" in running.ask("GET", "/v1/hosts/db1/sudoers")
     assert running.reasons()[1] == "why kim joins" and running.moments()[-1].base != old
