@@ -50,8 +50,8 @@ for page in "$room"/pages/*.[1-8]; do
     put 0644 "$page" "$PREFIX/share/man/man${page##*.}/$(basename "$page")"
 done
 broker=(consume publish fill refused snapshot compare check-queues broker-definitions)
-for name in desk desk-audit desk-lint desk-import desk-used desk-evidence desk-change-roster desk-change-base \
-    desk-roster desk-demo desk-relay desk-relay-person desk-door desk-signer desk-verify mydesk \
+for name in desk desk-audit desk-lint desk-import desk-used desk-evidence desk-change-roster \
+    desk-change-base desk-roster desk-demo desk-relay desk-relay-person desk-door desk-signer desk-verify mydesk \
     "${broker[@]/#/desk-}"; do
     put 0644 "$room/pages/$name.bash" "$PREFIX/share/bash-completion/completions/$name"
     put 0644 "$room/pages/_$name" "$PREFIX/share/zsh/$zsh/_$name"
@@ -75,8 +75,8 @@ DEB_PYTHON_INSTALL_LAYOUT=$layout /usr/bin/python3 -m pip --disable-pip-version-
     --root-user-action=ignore --root "${root:-/}" "${where[@]}" "$room/python"
 packages=("$root$PREFIX"/lib/python3*/dist-packages)
 rm -f "${packages[0]}"/steelnewt-*.dist-info/{INSTALLER,RECORD,REQUESTED,direct_url.json}
-for name in desk-{lint,import,used,evidence,change-roster,change-base,roster,demo,relay,relay-person} \
-    desk-{door,signer,verify} "${broker[@]/#/desk-}"; do
+for name in desk-{lint,import,used,evidence,change-roster,change-base,roster,demo,relay} \
+    desk-{relay-person,door,signer,verify} "${broker[@]/#/desk-}"; do
     # (nothing of the caller's environment, or of the folder that it is in, is imported)
     sed -i '1s,.*,#!/usr/bin/python3 -I,' "$root$PREFIX/bin/$name"
 done

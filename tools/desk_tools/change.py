@@ -36,7 +36,7 @@ KINDS = ("roster", "base")
 
 
 class Halfway(Exception):
-    """It is not known what the desk serves, or not the same everywhere: it has to be run again."""
+    """The desk may serve either one, or not each desk the same: the change has to be run again."""
 
 
 class Compared(NamedTuple):

@@ -1,4 +1,4 @@
-"""The programs `desk-change-roster` and `desk-change-base`."""
+"""The program `desk-change-roster`, and what `desk-change-base` has of it."""
 
 from __future__ import annotations
 
@@ -218,15 +218,12 @@ def changed(said: argparse.Namespace, kind: str, desk: Desk, new: bytes) -> int:
     return CHANGED[kind](said, desk, new)
 
 
-def roster() -> int:
-    return main("roster")
+def main() -> int:
+    return changing("roster")
 
 
-def base() -> int:
-    return main("base")
-
-
-def main(kind: str) -> int:
+def changing(kind: str) -> int:
+    """The program that changes a roster, or a base."""
     said = parser(kind).parse_args()
     status = REFUSED
     try:

@@ -207,7 +207,7 @@ def begun(running: Running, new: Path) -> Iterator[tuple[subprocess.Popen[str], 
 
 
 def stays(running: Running, ran: subprocess.CompletedProcess[str], *said: str) -> None:
-    """It is named, and all is as before."""
+    """The fault is named, and all is as before."""
     assert ran.returncode == 2 and ran.stderr.endswith(": all is as before\n"), ran
     assert all(it in ran.stdout + ran.stderr for it in said), ran
     shown = Path(ROOT, "examples", "roster.toml")
@@ -332,14 +332,14 @@ def test_somebody_ends_it(running: Running) -> None:
 
 
 def test_a_disk_that_fills(full: Running) -> None:
-    """It is named before anything is written, and the desk serves on."""
+    """A full disk is named before anything is written, and the desk serves on."""
     (full.folder / "store" / "fill").write_bytes(b"x" * ((7 << 20) + (1 << 19)))
     stays(full, full.change(full.new(WITH_KIM), "--yes"), "has no room for it")
 
 
 def test_a_disk_that_fills_meanwhile(full: Running) -> None:
-    """It fills behind the history's line: the desk has room set aside for a roster, or it is not
-    known which one it has until there is some. The same call ends it."""
+    """The disk fills behind the history's line: the desk has room set aside for a roster, or may
+    have either one until there is some. The same call ends it."""
     asked(full)
     (full.folder / "hook").write_text('dd if=/dev/zero of="$ROOM/store/fill" 2> /dev/null\n')
     new, messages = full.new(WITH_KIM), full.messages()
@@ -370,7 +370,7 @@ def full(tmp_path: Path, desk: str) -> Iterator[Running]:
 
 
 def test_the_history_has_an_end(running: Running) -> None:
-    """It is said when it is near, and then nothing is changed until the oldest are carried away."""
+    """A near end is said, and at the end nothing is changed until the oldest are carried away."""
     folder = running.folder / "store" / "history"
     for number in range(3_700):
         (folder / f"2001010100{number:04}Z").mkdir()

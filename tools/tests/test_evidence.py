@@ -168,7 +168,7 @@ def test_what_is_refused(evidence: Make, tmp_path: Path) -> None:
     (tmp_path / "there").mkdir()
     for name, words, span, said in (
         ("there", (), SPAN, "it is there already"),
-        ("a", (), ("20240101000000Z", SPAN[1]), "it has no roster"),
+        ("a", (), ("20240101000000Z", SPAN[1]), "its moments name no roster"),
         ("a", (), (SPAN[1], SPAN[0]), "UNTIL is before FROM"),
         ("a", ("--base", "/nowhere"), SPAN, "/nowhere"),
         ("a", ("--log", "/nowhere"), SPAN, "/nowhere"),

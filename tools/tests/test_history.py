@@ -89,7 +89,7 @@ def test_it_is_killed(kept: Kept) -> None:
 
 
 def test_what_is_not_written(kept: Kept) -> None:
-    """It is named, and nothing is there but what was."""
+    """The fault is named, and nothing is there but what was."""
     ran = kept.write(WANTED="0" * 64)
     assert ran.returncode == 2 and "has changed since it was looked at" in ran.stderr, ran
     assert kept.write().returncode == 0
