@@ -51,8 +51,8 @@ for page in "$room"/pages/*.[1-8]; do
 done
 broker=(consume publish fill refused snapshot compare check-queues broker-definitions)
 for name in desk desk-audit desk-lint desk-import desk-used desk-evidence desk-change-roster \
-    desk-change-base desk-roster desk-demo desk-relay desk-relay-person desk-door desk-signer desk-verify mydesk \
-    "${broker[@]/#/desk-}"; do
+    desk-change-base desk-roster desk-demo desk-relay desk-relay-person desk-door desk-signer \
+    desk-verify mydesk "${broker[@]/#/desk-}"; do
     put 0644 "$room/pages/$name.bash" "$PREFIX/share/bash-completion/completions/$name"
     put 0644 "$room/pages/_$name" "$PREFIX/share/zsh/$zsh/_$name"
 done

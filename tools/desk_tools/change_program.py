@@ -1,4 +1,4 @@
-"""The program `desk-change-roster`, and what `desk-change-base` has of it."""
+"""The program `desk-change-roster`; `desk-change-base` is the same one over a base."""
 
 from __future__ import annotations
 
