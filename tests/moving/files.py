@@ -87,6 +87,7 @@ ci ALL = (root) NOPASSWD: /usr/bin/apt-get clean
 %helpdesk ALL = /usr/sbin/usermod -U *, /usr/bin/chage -l *, /usr/bin/lastlog
 %nobodyinit ALL = (root) ALL
 pam ALL = /usr/bin/lastlog -u pam
+pam, pam, %helpdesk ALL = (op) NOPASSWD: /bin/ls, !/sbin/fdisk, /bin/df -h
 """,
     ),
     File(

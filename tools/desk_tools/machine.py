@@ -25,6 +25,8 @@ TRIPLE = re.compile(r"\(([^,()]*),([^,()]*),([^,()]*)\)")
 NSSWITCH = "/etc/nsswitch.conf"
 # what a name service switch says of who is who
 WHO = ("passwd", "group", "initgroups")
+# folders of the root that are links into /usr on a machine whose programs are all there
+LINKED = re.compile(r"/(?:s?bin|lib(?:32|64|x32)?)(?=/.)")
 LIBC = ctypes.CDLL(None)
 NO_CASE = 16  # FNM_CASEFOLD
 
@@ -109,6 +111,12 @@ class Machine:
         """The triples of a netgroup; None where there is none."""
         return triples(run_getent("netgroup", "--", name).stdout)
 
+    def linked(self, path: str) -> str | None:
+        """The folder of a path that is a link here: it is the one of that name below /usr."""
+        found = LINKED.match(path)
+        is_link = found is not None and os.path.realpath(found[0]) == f"/usr{found[0]}"
+        return found[0] if found and is_link else None
+
 
 class Copy(Machine):
     """Another machine, by a copy of its /etc."""
@@ -128,6 +136,10 @@ class Copy(Machine):
 
     def netgroup(self, name: str) -> list[Triple] | None:
         """(Of a copy nobody can be asked.)"""
+        return None
+
+    def linked(self, path: str) -> str | None:
+        """(Nor does a copy of /etc have it.)"""
         return None
 
 
