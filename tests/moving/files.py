@@ -13,6 +13,10 @@ GROUPS = {
     "helpdesk": ("pam",),
     "admin": ("carol",),
     "debci": ("ci",),
+    "fvwm-crystal": ("olga",),
+    "pconsole": ("op",),
+    "x2gobroker": (),
+    "x2gobroker-users": ("pam",),
     "nobodyinit": (),
 }
 MORE = "/etc/sudoers.ops"  # the file that the first site's includes
