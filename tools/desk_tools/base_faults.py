@@ -118,8 +118,8 @@ class Base:
         ]
 
     def take_out(self, lines: list[bytes], line: int) -> None:
-        """Takes the line of a fault out, with those that continue it. What it defines stays defined,
-        so that lines that use it are no faults of their own."""
+        """Takes the line of a fault out, with those that continue it. What it defines stays
+        defined, so that lines that use it are no faults of their own."""
         line, last = span(lines, line)
         text = COMMENT.sub("", logical(lines, line))
         kind = DEFINES.match(text.lstrip())

@@ -1,7 +1,7 @@
 """Words of a base for which the desk likely refuses it: their forms, and what to do.
 
-The desk names a line and a code. A form that fits is a guess at the word; the desk is asked about the
-line with something harmless in its place.
+The desk names a line and a code. A form that fits is a guess at the word; the desk is asked about
+the line with something harmless in its place.
 """
 
 import re
@@ -28,8 +28,8 @@ LIKELY: dict[str, list[tuple[str, str]]] = {
         (r"(?<![^\s,!(])#-?[0-9]+", "write the user's name"),
         (
             r"\b(?:NO)?(?:EXEC|SETENV|LOG_INPUT|LOG_OUTPUT|MAIL|FOLLOW|INTERCEPT)[ \t]*:",
-            "a base has the tags NOPASSWD and PASSWD alone: without NOEXEC or INTERCEPT the command "
-            "may open a shell, so leave it out; leave out any other tag",
+            "a base has the tags NOPASSWD and PASSWD alone: without NOEXEC or INTERCEPT the "
+            "command may open a shell, so leave it out; leave out any other tag",
         ),
         (
             r"\b(?:TIMEOUT|CWD|CHROOT|ROLE|TYPE|PRIVS|LIMITPRIVS|APPARMOR_PROFILE)[ \t]*=[^\s,]*",
@@ -81,7 +81,10 @@ LIKELY: dict[str, list[tuple[str, str]]] = {
         (r"^[^=]+$", "write it as USERS HOSTS = COMMANDS"),
         (r"^[ \t]*(?P<word>[^\s,=]+)[ \t]*=", "name the hosts, or ALL, behind the user"),
         (r"\b(?:NO)?PASSWD\b(?![ \t]*:)", "a tag has a : behind it"),
-        (r"[^\s,:=)][ \t]+(?P<word>(?:NO)?PASSWD:)[ \t]*(?=,|$)", "write the tag before its command"),
+        (
+            r"[^\s,:=)][ \t]+(?P<word>(?:NO)?PASSWD:)[ \t]*(?=,|$)",
+            "write the tag before its command",
+        ),
         (r"!(?=[ \t])", "no blank stands behind it"),
         (r",(?=[ \t]*$)", "take it out, or write what comes behind it"),
         (r"\([^()]*$", "close it with a ) behind the target"),

@@ -220,7 +220,8 @@ class Translator:
         is_file = command(words).kind == "file" and has_form(f"/usr{words}", "command")
         if folder is None or not is_file:
             return words
-        self.note(place, f"{words} is /usr{words} in the base: {folder} is a link to /usr{folder} here")
+        said = f"{words} is /usr{words} in the base: {folder} is a link to /usr{folder} here"
+        self.note(place, said)
         return f"/usr{words}"
 
     def marks(self, entry: Entry) -> str:
