@@ -103,10 +103,12 @@ class Base:
         if joins != lines[first - 1 : last] and not is_refused(joins):
             return [("\\", "no blank stands behind it at the end of a line")]
         taken: dict[str, str] = {}
+        left = text
         for word, remedy in likely(code, text):
-            if len(taken) < MOST_WORDS and word in without(text, taken):
-                taken.setdefault(word, remedy)
-                if not is_refused([encoded(without(text, taken))]):
+            changed = without(left, [word])
+            if changed != left and len(taken) < MOST_WORDS:
+                taken[word], left = remedy, changed
+                if not is_refused([encoded(left)]):
                     break
         else:
             return [*taken.items()][:1]
@@ -114,7 +116,7 @@ class Base:
         return [
             (it, remedy)
             for it, remedy in taken.items()
-            if is_refused([encoded(without(text, others[it]))])
+            if len(taken) == 1 or is_refused([encoded(without(text, others[it]))])
         ]
 
     def take_out(self, lines: list[bytes], line: int) -> None:

@@ -22,7 +22,7 @@ LIKELY: dict[str, list[tuple[str, str]]] = {
         (r"(?<![^\s,!(])%:?[^\s,=:)]+", "name the group's users, or write an alias of them"),
         (r"(?<![^\s,!(])\+[^\s,=:)]+", "name the users or hosts of the netgroup"),
         (
-            r"=.*[^\s,(!=][ \t]+(?P<word>#[0-9]\S*)",
+            r"^[^=]*=.*[^\s,(!=][ \t]+(?P<word>#[0-9]\S*)",
             "write a blank behind the # of a comment",
         ),
         (r"(?<![^\s,!(])#-?[0-9]+", "write the user's name"),
@@ -123,10 +123,12 @@ def likely(code: str, text: str) -> Iterator[tuple[str, str]]:
 
 
 def without(text: str, words: Iterable[str]) -> str:
-    """A line with something harmless in the place of some words."""
+    """A line with something harmless in the place of some words, wherever they stand."""
     for word in words:
         is_mark = word.endswith(":") or "=" in word or word in MARKS
         is_name = re.search(rf"_Alias[ \t]+{re.escape(word)}", text)
         other = "X" if is_name else "" if is_mark else "/x" if word.startswith("/") else "ALL"
-        text = text.replace(word, other, 1)
+        before = r"(?<![\w./-])" if word[0].isalnum() else ""
+        behind = r"(?![\w.-])" if word[-1].isalnum() else ""
+        text = re.sub(f"{before}{re.escape(word)}{behind}", other, text)
     return text

@@ -441,6 +441,7 @@ MISLED = [
     ("ann ALL = ! /usr/bin/id", {"!": "no blank stands behind it"}),
     ("ann ALL = /usr/bin/id,", {",": "take it out, or write what comes behind it"}),
     ("ann ALL = (root /usr/bin/id", {"(root /usr/bin/id": "close it with a ) behind the target"}),
+    ("ann ALL = /usr/bin/id, id, /usr/bin/id -u", {"id": "write the command's full path"}),
     # each word that is at fault, and none beside it
     ("ann, %a, %b ALL = /usr/bin/id", {"%a": "name the group's users, or write an alias of them", "%b": "name the group's users, or write an alias of them"}),
     ("A ALL = B, /usr/bin/id", {"A": "define the alias on a line above, in its kind", "B": "define the alias on a line above, in its kind"}),
