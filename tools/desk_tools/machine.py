@@ -14,6 +14,7 @@ from dataclasses import dataclass, field
 from typing import NamedTuple
 
 from desk_tools.cvtsudoers import BadSudoers
+from desk_tools.site import LINKED
 
 # getent: it answers, and it knows none of that name
 ANSWERS, KNOWS_NONE = 0, 2
@@ -25,8 +26,6 @@ TRIPLE = re.compile(r"\(([^,()]*),([^,()]*),([^,()]*)\)")
 NSSWITCH = "/etc/nsswitch.conf"
 # what a name service switch says of who is who
 WHO = ("passwd", "group", "initgroups")
-# folders of the root that are links into /usr on a machine whose programs are all there
-LINKED = re.compile(r"/(?:s?bin|lib(?:32|64|x32)?)(?=/.)")
 LIBC = ctypes.CDLL(None)
 NO_CASE = 16  # FNM_CASEFOLD
 
