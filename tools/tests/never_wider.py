@@ -4,9 +4,9 @@ what the old file gives (tests/common/sudo_peer.py says how sudo is asked).
 
 The files are wideners.py's, each of which once had a base that gave more, and random ones: with
 comments, continuations, included files of all modes and owners, Defaults of every scope, netgroups,
-digests and negations. Of these, a third of the questions is put to `sudo -l`, which sees no tag; in
-the others the user runs the command: without a password, with one, and with a variable of the
-user's own; and the command starts another. Where desk-import makes no base, it has to refuse the
+digests and negations. About the random ones, `sudo -l` is asked a third of the questions: it sees no
+tag. For the others the user runs the command: without a password, with one, and with a variable of
+the user's own; and the command starts another. Where desk-import makes no base, it has to refuse the
 file by name, with its line. never_wider.py RANDOM [SEED]; DESK_IMPORT names another desk-import.
 """
 
@@ -70,7 +70,7 @@ class Question(NamedTuple):
 
 
 class Answer(NamedTuple):
-    """Whether it is allowed, and what is logged of it."""
+    """Whether sudo allows the command, and the kinds of its logs."""
 
     is_allowed: bool
     logged: frozenset[str] = frozenset()

@@ -557,7 +557,7 @@ def test_aliases_have_a_prefix(made: Make) -> None:
 
 
 def test_the_linter_takes_what_is_made(made: Make, lint: Run, desk: str, tmp_path: Path) -> None:
-    """It had a warning for each alias of a base that was just made."""
+    """The linter had a warning for each alias of such a base."""
     base = tmp_path / "base.sudo"
     base.write_text(made("User_Alias A = ann\nCmnd_Alias B = /usr/bin/id\nA ALL = B, /usr/bin/du\n")[0])
     said = lint("--desk", desk, "--strict", str(base))
@@ -571,7 +571,7 @@ bob ALL = /bin/less -*, /binary/x
 
 
 def test_a_folder_that_is_a_link(imports: Run, lint: Run, desk: str, tmp_path: Path) -> None:
-    """A program below it has its own name in the base: the linter warned of a base just made."""
+    """A program below /bin has its own name in the base: the linter warned of each."""
     if not os.path.islink("/bin"):
         pytest.skip("/bin is no link here")
     source, base, rest = (tmp_path / name for name in ("sudoers", "base.sudo", "rest"))
