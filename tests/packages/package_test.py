@@ -743,8 +743,8 @@ def behind_a_door(trial: Trial) -> None:
     (makes,) = [it for it in starts if it.startswith("+/usr/bin/install ")]
     trial.does("the folder for messages", *makes.lstrip("+").split())
     running = Service(trial)
-    is_told = f"listening at {AT_POSTS}".encode() in running.wait_ready()
-    trial.check("the desk listens for messages", is_told, running.told)
+    told = running.wait_ready().decode()
+    trial.check("the desk listens for messages", f"listening at unix:{AT_POSTS}" in told, told)
     made = service.make_runtime(trial.root, "desk-door.service")
     (before,) = service.settings_of(trial.root, "desk-door.service")["ExecStartPre"]
     as_door = ["setpriv", "--reuid", "desk-door", "--regid", "desk-front", "--clear-groups"]
