@@ -274,7 +274,7 @@ def auditing(page: Page) -> None:
     page.says("`ann db1 root 20260105091500Z /usr/bin/id` and status 1")
     page.holds("beyond", said.endswith("\nann db1 root 20260105091500Z /usr/bin/id\n1\n"), said)
     page.says(
-        "a delivery by somebody whom the roster does not list is refused (`A1`)",
+        "is never under `BARRED`: it is refused (`A1`)",
         "The hosts and commands stand in the request",
     )
     gone = desk.approval(by="zoe")
