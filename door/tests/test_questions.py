@@ -1,5 +1,5 @@
-"""A desk with a socket for questions beside the one that takes messages: the door brings messages
-to this one, and asks there what it has to know of them; what others ask goes to that."""
+"""A desk with two sockets, one of them for questions alone. The door brings messages to the other
+one and asks its own questions there; what others ask goes to the socket for questions."""
 
 from collections.abc import Iterator
 from pathlib import Path
@@ -57,8 +57,8 @@ def test_a_question_by_the_door_and_beside_it(apart: Doored) -> None:
 
 
 def test_messages_need_no_socket_for_questions(apart: Doored, tmp_path: Path) -> None:
-    """Where that is gone the door answers no question, and messages go on, also those of which it
-    asks the desk something first."""
+    """Where the socket for questions is gone, the door answers no question. Messages go on, also
+    an approval, whose request the door asks for first."""
     (tmp_path / "questions.sock").unlink()
     said = apart.raw(b"GET /v1/count HTTP/1.1\r\nHost: x\r\n\r\n")
     assert said.endswith(b"K20 DeskAway\n")

@@ -528,8 +528,8 @@ def reloads(count: Count, words: list[str], folder: str) -> None:
 
 
 def reloads_early(count: Count, words: list[str], folder: str) -> None:
-    """SIGHUP before the desk is opened ends nothing: the desk is opened over what is there then, and
-    its history has that."""
+    """SIGHUP before the desk is opened ends nothing: it is opened over what is there then, and its
+    history has that."""
     with site_of(words, folder) as served:
         served.start()
         begun = comes(lambda: "starting over" in served.said(), PATIENCE) is not None
