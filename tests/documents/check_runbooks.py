@@ -599,7 +599,7 @@ def second_front(room: Room, place: str) -> None:
     for first, second in (
         ("listen 443 ", "listen 8443 "),
         ("/server.", "/server-desk2.example."),
-        (f"http://unix:{SOCKET};", f"http://unix:{place};"),
+        ("http://$desk_at;", f"http://unix:{place};"),
     ):
         room.holds(f"the front has {first}", first in server)
         server = server.replace(first, second)
