@@ -314,8 +314,12 @@ def traced(trial: Trial) -> None:
 
 def empty(trial: Trial) -> None:
     """Takes away what a part left in the desk's folder."""
-    for name in os.listdir(trial.path("/var/lib/desk")):
-        os.unlink(trial.path(f"/var/lib/desk/{name}"))
+    with os.scandir(trial.path("/var/lib/desk")) as held:
+        for it in held:
+            if it.is_dir(follow_symlinks=False):
+                shutil.rmtree(it.path)
+            else:
+                os.unlink(it.path)
 
 
 def bad_starts(trial: Trial) -> None:

@@ -199,6 +199,8 @@ LS = "ALL ALL = /bin/ls\n"
         ("ann ALL = ALL\n", "ann ALL = sudoedit /etc/motd", True),
         ("ann ALL = /usr/bin/tail -f /var/log/messages\n", "ann ALL = !/usr/bin/tail *mess*", True),
         ("Cmnd_Alias C = /bin/a, /bin/ls\nann ALL = C\n", "ann ALL = NOEXEC: /bin/ls", True),
+        # (an alias may deny something of what it names)
+        ("Cmnd_Alias C = /bin/a, !ALL\nann ALL = C\n", "ann ALL = (:adm) /bin/ls", True),
         # other people, hosts or commands, or the same said
         (LS, "ann ALL = NOEXEC: /bin/kill", False),
         ("bob ALL = /bin/ls\n", "ann ALL = NOEXEC: /bin/ls", False),
