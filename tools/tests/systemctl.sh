@@ -8,9 +8,13 @@ set -u
 pid=$ROOM/pid log=$ROOM/desk.log
 runs() { [ "$(ps -o stat= -p "$1" | cut -c 1)" != Z ] && kill -0 "$1" 2> /dev/null; }
 killed() {
+    local signal
     [ "$(cat "$ROOM/kill" 2> /dev/null)" = "$1" ] || return 0
     rm "$ROOM/kill"
-    kill "-$(cat "$ROOM/signal" 2> /dev/null || echo KILL)" "$PPID"
+    signal=$(cat "$ROOM/signal" 2> /dev/null || echo KILL)
+    kill "-$signal" "$PPID"
+    # (who is killed before this asks for nothing; and systemd does one job at a time)
+    [ "$signal ${1%% *}" != 'KILL before' ] || exit 1
 }
 stop() {
     [ -e "$pid" ] || return 0
