@@ -6,8 +6,9 @@ It is done in a root of its own, this machine's under an overlay that is thrown 
 namespaces for mounts, processes and network. The service is `desk-serve` as the unit's account;
 `systemctl`, `ssh db1`, `ssh desk`, `sendmail`, `apt install` and the editor are stand-ins
 (STAND_INS), all else is Debian's: a block that the page has and nothing here runs is a fault. (On
-machines that boot, systemd, apt and ssh are real: tests/machines/books.py.) Needs root, and Debian's packages sudo, faketime, curl, nginx-light, openssl and iproute2; what the relay
-needs it installs.
+machines that boot, systemd, apt and ssh are real: tests/machines/books.py.) Needs root, and
+Debian's packages sudo, faketime, curl, nginx-light, openssl and iproute2; what the relay needs it
+installs.
 """
 
 from __future__ import annotations
