@@ -116,6 +116,14 @@ def change(books: Books, text: str) -> None:
     books.life.is_state("a changed roster", "desk.service", "active, enabled")
 
 
+def goes_back(books: Books) -> None:
+    """A host takes no file of a roster that it has left, until a person says so."""
+    late = books.host.run("systemctl start desk-fetch@db1")
+    books.holds("the host does not go back by itself", late.returncode != 0, late)
+    done = books.host.run("rm /var/lib/desk-host/db1.json; systemctl start desk-fetch@db1")
+    books.holds("and then it does", done.returncode == 0, done)
+
+
 def a_roster_is_changed(books: Books) -> None:
     """By one command, by hand, and back."""
     before = books.desk.read(ROSTER)
@@ -129,6 +137,7 @@ def a_roster_is_changed(books: Books) -> None:
     books.holds("rebuilt by hand", re.search("^ok", done.stdout, re.MULTILINE) is not None, done)
     books.holds("and served", books.desk.wait(f"{ASK}/v1/count", 60))
     books.holds("it is the old one again", books.desk.read(ROSTER) == before)
+    goes_back(books)
 
 
 def day(after: int) -> str:
@@ -166,6 +175,7 @@ def somebody_leaves(books: Books) -> None:
     books.holds("and nobody calls by it", done.returncode == 255, done)
     books.does("it is given again", "desk-relay-person add ann /root/ann.pub")
     change(books, before)
+    books.host.run("rm /var/lib/desk-host/db1.json")
 
 
 def on_call_rotation(books: Books) -> None:
@@ -178,7 +188,9 @@ def on_call_rotation(books: Books) -> None:
     books.holds("next week's approves nothing", "It is in force from" not in done.stdout, done)
     done = books.as_person("bob", f"approve ann {number} --yes")
     books.holds("this week's approves", "It is in force from" in done.stdout, done)
+    books.as_person("bob", f"revoke ann {number} --yes")
     change(books, before)
+    books.host.run("rm /var/lib/desk-host/db1.json")
 
 
 def a_right_has_to_end_now(books: Books) -> None:
