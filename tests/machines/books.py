@@ -155,8 +155,8 @@ def moved(block: str, first: str) -> str:
 
 
 def somebody_leaves(books: Books) -> None:
-    """At once, the logins and the key; and from the last day on, the duties."""
-    before = books.desk.read(ROSTER)
+    """At once, the logins and the key; and from the last day on, the duties. (The next change of
+    the roster has them back.)"""
     at = books.host
     at.run("install -d -m 0700 -o ann /home/ann /home/ann/.ssh")
     at.write("/home/ann/.ssh/authorized_keys", books.desk.read("/root/ann.pub"))
@@ -174,13 +174,10 @@ def somebody_leaves(books: Books) -> None:
     done = books.as_person("ann", "mine")
     books.holds("and nobody calls by it", done.returncode == 255, done)
     books.does("it is given again", "desk-relay-person add ann /root/ann.pub")
-    change(books, before)
-    books.host.run("rm /var/lib/desk-host/db1.json")
 
 
 def on_call_rotation(books: Books) -> None:
     """Whose week it is approves, and whoever had the duty before does not."""
-    before = books.desk.read(ROSTER)
     (lines,) = blocks_of(section("On-call rotation"), "toml")
     change(books, with_lines(moved(lines, "20261130")))
     number = books.number(books.as_person("ann", ASKS).stdout)
@@ -189,8 +186,6 @@ def on_call_rotation(books: Books) -> None:
     done = books.as_person("bob", f"approve ann {number} --yes")
     books.holds("this week's approves", "It is in force from" in done.stdout, done)
     books.as_person("bob", f"revoke ann {number} --yes")
-    change(books, before)
-    books.host.run("rm /var/lib/desk-host/db1.json")
 
 
 def a_right_has_to_end_now(books: Books) -> None:
@@ -220,16 +215,14 @@ def people_are_told(books: Books) -> None:
 
 
 def the_desk_is_down_and_a_right_is_needed(books: Books) -> None:
-    """The line for the night is a host's, whose sudo asks nobody; and what a person starts often
-    starts."""
+    """The line for the night is a host's, whose sudo asks nobody."""
     books.desk.run("systemctl stop desk")
     block = blocks_of(section("The desk is down and a right is needed"), "sh")[0]
     done = books.host.run(block)
     books.holds("visudo takes the line", "parsed OK" in done.stdout, done)
     books.holds("the right is there", books.may("/usr/bin/systemctl restart postgresql"), done)
     books.host.run("rm /etc/sudoers.d/zz-break-glass")
-    starts = "for _ in $(seq 10); do systemctl restart desk || exit 1; done"
-    books.does("ten starts in a row", f"{starts}; systemctl is-active desk")
+    books.does("the desk is back", "systemctl start desk")
 
 
 def nobody_can_approve(books: Books) -> None:
