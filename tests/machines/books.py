@@ -377,7 +377,9 @@ def the_disk_is_full(books: Books) -> None:
     books.holds("what is seen", "100%" in done.stdout, done)
     on.run("systemctl restart desk-relay-post")
     ends_on_a_full_disk(books, number, "one disk")
+    # (whichever of the two reserves was given up)
     watch = "/usr/lib/nagios/plugins/check_desk --outbox /var/lib/desk-relay/outbox.db"
+    watch += " --store /var/lib/desk/desk.db"
     found = on.run(watch)
     told = found.returncode == 2 and "refusals and revocations alone" in found.stdout
     books.holds("check_desk sees it", told, found)
