@@ -1,6 +1,6 @@
 # The commands of the repository. `rt` is the toolchain's command.
 
-.PHONY: all desk demo test quick try cases gate-times edits docs picture contracts peers bench faults soak types relays-test door-test tools-test several hosts moving install deb release pages package-test clean
+.PHONY: all desk demo test quick try cases gate-times edits docs picture contracts peers bench faults soak types relays-test door-test tools-test several hosts lost moving install deb release pages package-test clean
 
 all: desk
 
@@ -81,6 +81,12 @@ soak: desk
 	python3 -m tests.peers.crowd --whole
 	python3 -m tests.soak.kills
 	/usr/bin/python3 -m tests.soak.soak
+
+# A machine that is lost, in the long form: backup and restore killed at each of their system calls, and ten losses over 300 messages and 30 faked days, on
+# machines that boot (as root).
+lost: desk
+	python3 -m tests.backup.kills
+	WHOLE=1 bash tests/backup/machines.sh
 
 # The types and style of relays/, broker/ and tools/, by mypy and flake8 (it installs them where this is root).
 types:

@@ -89,7 +89,7 @@ PARTS = (
     Part("hosts", "/usr/bin/python3 -m tests.hosts.hosts --short", HOSTS, 7, cores=2),
     Part("backup/listed", "python3 -m tests.backup.listed", "", 0.1),
     Part("backup/backups", "python3 -m tests.backup.backups", BACKUP, 2),
-    Part("backup/kills", "python3 -m tests.backup.kills 60", BACKUP, 3),
+    Part("backup/kills", "python3 -m tests.backup.kills 20", BACKUP, 3),
     Part("backup/machines", "bash tests/backup/machines.sh 3", f"{BACKUP} nginx openssl ip cc", 3),
     Part("moving/here", "/usr/bin/python3 -m tests.moving.moving --short", MOVING, 3),
     Part("moving/13", "/usr/bin/python3 -m tests.moving.moving --short 13", MOVING, 2),

@@ -221,7 +221,8 @@ def not_admitted(folder: str) -> Iterator[Row]:
     listed = desk.write(folder, "strangers", f"{stranger}\n")
     room.lose()
     ran = room.restore("--messages", listed)
-    yield "a stranger's", *said(ran, 1, r"NOT TAKEN \(A2 \w+\), of .*zed", "Nothing was started")
+    named = r"NOT TAKEN \(A1 UnknownPerson\), of .*zed"
+    yield "a stranger's", *said(ran, 1, named, "Nothing was started")
 
 
 def heard(folder: str) -> Iterator[Row]:
@@ -384,6 +385,18 @@ def at_once(folder: str) -> Iterator[Row]:
     yield "what was there stays", room.moments()[-1] == moment, ""
 
 
+def upgraded(folder: str) -> Iterator[Row]:
+    """Packages that are others at the end than at the beginning: what was taken belongs to none."""
+    room, stand_in = made(folder, "upgraded", 2), os.path.join(folder, "bin")
+    os.mkdir(stand_in)
+    counts = f"echo >> {folder}/asked; echo installed steelnewt 1.$(wc -l < {folder}/asked)"
+    os.chmod(desk.write(stand_in, "dpkg-query", f"#!/bin/sh\n{counts}\n"), 0o755)
+    ran = room.backup(before=("env", f"PATH={stand_in}:{os.environ['PATH']}"))
+    yield "an upgrade meanwhile", *said(ran, 2, "packages were installed meanwhile", "no backup")
+    left = [it for it in os.listdir(room.backups) if it != "machine"]
+    yield "nothing is left of it", not left, left
+
+
 def full(folder: str) -> Iterator[Row]:
     """A disk that fills: all is as before."""
     room = made(folder, "full", 2)
@@ -451,7 +464,7 @@ def checked(folder: str) -> Iterator[Row]:
 
 PARTS: tuple[Callable[[str], Iterator[Row]], ...] = (
     round_trip, grows, unmounted, lambda _: bounded(), sealed, filled, followed, not_admitted,
-    heard, bad_backups, bad_machines, drills, checked,
+    heard, bad_backups, bad_machines, upgraded, drills, checked,
 )  # fmt: skip
 
 
