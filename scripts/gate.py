@@ -43,6 +43,7 @@ SOAK = "root cc visudo unshare mount prlimit setpriv"
 PAGES = "root mandoc zsh unshare ip visudo sudo faketime curl jq sqlite3 nginx openssl"
 DEBIAN = "root dpkg-buildpackage dh dh_python3"
 PACKAGES = f"{DEBIAN} faketime sudo unshare ip nginx haproxy openssl strace epmd"
+MACHINES = "root systemctl dbus-daemon nsenter unshare ip dpkg-deb nginx sshd sudo"
 HOSTS = "root debootstrap unshare sudo visudo cvtsudoers faketime ip cc"
 BACKUP = "root unshare strace sqlite3 curl flock age gpg"
 MOVING = "root apt-get unshare sudo visudo cvtsudoers ip sshd ansible debootstrap"
@@ -121,6 +122,9 @@ PARTS = (
         minutes=2,
         after="packages/make",
     ),
+    Part("machines/lives", "python3 -m tests.machines.lives", MACHINES, 2, after="packages/make"),
+    Part("machines/team", "python3 -m tests.machines.team", MACHINES, 2, after="packages/make"),
+    Part("machines/books", "python3 -m tests.machines.books", MACHINES, 3, after="packages/make"),
     Part("several", "bash tests/several/several.sh --short", "root unshare mount", 3),
 )
 

@@ -24,8 +24,8 @@ put() {
 
 # Writes the places of the programs into a text, and puts that in place.
 fill() {
-    sed "s,@LIBEXECDIR@,$libexec,g; s,@SBINDIR@,$PREFIX/sbin,g; s,@BINDIR@,$PREFIX/bin,g" \
-        "$1" > "$room/filled"
+    sed "s,@LIBEXECDIR@,$libexec,g; s,@SBINDIR@,$PREFIX/sbin,g; s,@BINDIR@,$PREFIX/bin,g" "$1" |
+        sed "s,@PREFIX@,$PREFIX,g" > "$room/filled"
     put "$2" "$room/filled" "$3"
 }
 
@@ -38,12 +38,15 @@ put 0755 build/desk-audit "$PREFIX/bin/desk-audit"
 put 0755 packaging/desk-serve "$libexec/desk-serve"
 put 0755 packaging/mydesk "$PREFIX/bin/mydesk"
 put 0755 packaging/desk-memory "$libexec/desk-memory"
+put 0755 packaging/desk-reserve "$libexec/desk-reserve"
 python3 scripts/host_program.py "$room/desk-host"
 put 0755 "$room/desk-host" "$PREFIX/sbin/desk-host"
 # (it is of this machine's kind, and needs a C compiler and the header of Debian's package sudo)
 bash scripts/plugin.sh "$room/desk_host.so"
 put 0644 "$room/desk_host.so" "$libexec/desk_host.so"
 put 0644 packaging/host/desk-defaults "$PREFIX/share/doc/steelnewt-host/desk-defaults"
+# (in the package sudo reads it at once; elsewhere an administrator copies it)
+[ "$PREFIX" != /usr ] || put 0440 packaging/host/desk-defaults /etc/sudoers.d/desk-defaults
 put 0755 examples/monitoring/check_desk.py "$PREFIX/lib/nagios/plugins/check_desk"
 for page in "$room"/pages/*.[1-8]; do
     put 0644 "$page" "$PREFIX/share/man/man${page##*.}/$(basename "$page")"

@@ -11,6 +11,7 @@ import logging
 import os
 import secrets
 import signal
+import sqlite3
 import subprocess
 import threading
 import time
@@ -71,7 +72,7 @@ class Notices:
     """The events of an outbox, each once."""
 
     def __init__(self, outbox: Outbox) -> None:
-        self.outbox, self.base = outbox, outbox.base
+        self.outbox = outbox
         with outbox.writing():
             for statement in SCHEMA.split(";"):
                 self.base.execute(statement)
@@ -79,6 +80,10 @@ class Notices:
             self.base.execute(
                 "INSERT OR IGNORE INTO told_from SELECT 1, coalesce(max(id), 0) FROM messages"
             )
+
+    @property
+    def base(self) -> sqlite3.Connection:
+        return self.outbox.base
 
     def untold(self) -> list[Kept]:
         return self.outbox.find(UNTOLD)
@@ -241,9 +246,12 @@ def keep_telling(
     """Looks and tells, again and again, until `ended`."""
     trouble = ""
     while not ended.is_set():
-        why = look(notices, finder)
+        # (what was told could not be noted on a full disk, and would be told again)
+        has_room = notices.outbox.has_room()
+        why = look(notices, finder) if has_room else "the disk is full, so nobody is told"
         if why and why != trouble:
             log.warning("what happened is not known: %s", why)
         trouble = why
-        tell(notices, *program, ended)
+        if has_room:
+            tell(notices, *program, ended)
         ended.wait(every)

@@ -339,9 +339,11 @@ def told(visit: Visit, knowledge: Knowledge, kept: Kept) -> str:
     if isinstance(kept.message, Verdict):
         verdict = kept.verdict
         request = visit.outbox.request(verdict.of, verdict.no)
-        barred = knowledge.standing(request).bar_of(verdict) if request else ""
+        after = knowledge.standing(request) if request else None
+        barred = after.bar_of(verdict) if after else ""
         fate = telling.verdict_fate(verdict.kind, kept.state, kept.answer, barred)
-        return f"{verdict.of} {verdict.no}: {fate}"
+        more = telling.on_hosts(verdict.kind, after) if after and kept.state == "acked" else ""
+        return f"{verdict.of} {verdict.no}: {fate} {more}".rstrip()
     standing = knowledge.standing(kept)
     return f"{standing.name}: {telling.fate(standing, visit.zone, visit.roster, visit.now)}"
 

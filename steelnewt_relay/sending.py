@@ -63,6 +63,8 @@ def told_verdict(call: Call, kept: Kept) -> int:
     call.say(telling.verdict_fate(verdict.kind, kept.state, kept.answer, barred))
     if after:
         call.say(telling.fate(after, call.zone, call.roster, now()))
+        if kept.state == "acked" and (more := telling.on_hosts(verdict.kind, after)):
+            call.say(more)
     data = {"verdict": vars(verdict), "state": kept.state, "answer": kept.answer or None}
     call.give_data(data | {"barred": barred or None})
     return status_of(kept)

@@ -24,7 +24,7 @@ from steelnewt_relay.reasons import Reason
 from steelnewt_relay.roster import BadRoster
 from steelnewt_relay.sending import DONE, KEPT, NOT_SENT, REFUSED, again_of, asked_of, told_request
 from steelnewt_relay.sending import told_verdict
-from steelnewt_relay.standing import Knowledge, Standing
+from steelnewt_relay.standing import Knowledge, Standing, State
 from steelnewt_relay.summary import summed_up
 from steelnewt_relay.words import USAGE, BadWords, parse, wish_of, words_of
 
@@ -149,12 +149,15 @@ def send(
 
 
 def same_wish(call: Call, wish: Wish) -> Standing | None:
-    """A request for the same that this person asked a few minutes ago: asked twice by mistake?"""
+    """A request for the same that this person asked a few minutes ago: asked twice by mistake? (What
+    was revoked, refused or is over is not the same.)"""
     since = stamp(now() - SAME_FOR)
     for kept in reversed(call.outbox.requests_of(call.person)):
         old = kept.request
         if old.at > since and kept.state != "refused" and old.wish.is_like(wish):
-            return call.knowledge().standing(kept)
+            found = call.knowledge().standing(kept)
+            if found.state not in (State.OVER, State.OBJECTED, State.LAPSED):
+                return found
     return None
 
 

@@ -33,6 +33,8 @@ BARS_NOW = {
     "objected": "the desk grants nothing of it any more",
     "over": "its window is over",
 }
+# Within which time each host fetches its file (desk-fetch@.timer).
+FETCHED = "within 5 minutes"
 NOUNS = {"approve": "approval", "refuse": "refusal", "revoke": "revocation"}
 FINDINGS = {
     "LIVE": "grants in force, and whether each is needed",
@@ -220,6 +222,16 @@ def verdict_fate(kind: str, state: str, answer: str, barred: str = "") -> str:
         return f"The desk refused that. {in_words(answer)}"
     kept = f"It is kept here and not yet at the desk: {answer}. It is posted again by itself."
     return kept + but
+
+
+def on_hosts(kind: str, standing: Standing) -> str:
+    """What a verdict means on the hosts, which know what the desk says by their next fetch; empty
+    where it changes nothing there."""
+    if kind == "approve" and standing.state is State.IN_FORCE:
+        return f"Each host has it with its next fetch, {FETCHED}."
+    if kind != "approve" and standing.is_cut:
+        return f"Each host takes it away with its next fetch, {FETCHED}: until then sudo allows it."
+    return ""
 
 
 def approvable(request: Kept) -> None:

@@ -5,7 +5,8 @@
     check_desk.py --store /var/lib/desk/desk.db           (beside the desk: its size and its disk)
     check_desk.py --certificate /etc/desk/front/server.pem --crl /etc/desk/front/crl.pem
                   --front-pid /run/nginx.pid              (beside the front)
-    check_desk.py --outbox /var/lib/desk-relay/outbox.db  (beside a relay: its oldest message)
+    check_desk.py --outbox /var/lib/desk-relay/outbox.db  (beside a relay: its oldest message, its disk)
+    check_desk.py --program /usr/bin/desk                 (whether this program is proved)
     check_desk.py --file /etc/sudoers.d/desk              (on a host: how old its file is)
     check_desk.py --backup /srv/desk-backup               (the last backup, and the last drill of one)
 
@@ -62,6 +63,8 @@ FIGURES = {
     "desk_grants_after_last_day": "grants that begin after their asker's last day",
     "desk_store_bytes": "the size of the store and its log",
     "desk_store_free_percent": "how much of the store's disk is free",
+    "desk_proved": "whether the program's promises are proved",
+    "desk_outbox_free_percent": "how much of the outbox's disk is free",
     "desk_certificate_seconds": "the time until the first of the certificates ends",
     "desk_crl_seconds": "the time until the first of the lists of revoked certificates ends",
     "desk_outbox_waiting": "messages that a relay keeps and the desk has not answered",
@@ -71,11 +74,11 @@ FIGURES = {
     "desk_host_file_age_seconds": "the age of the host's file since its last fetch",
 }
 # What is looked at; each may be left out, but not all.
-LOOKED_AT = ("desk", "store", "certificate", "crl", "outbox", "file", "backup")
+LOOKED_AT = ("desk", "store", "certificate", "crl", "outbox", "file", "program", "backup")
 # Each limit: the option, its two values, what it limits, and whether less is worse.
 LIMITS = (
     ("days", 30, 7, "days that a certificate or a list of revoked ones still holds", True),
-    ("free", 15, 5, "percent of the store's disk that are free", True),
+    ("free", 15, 5, "percent of the store's or the outbox's disk that are free", True),
     ("waits", 300, 3600, "seconds for which a relay's message waits", False),
 )
 # What a message may need of the desk's memory, in bytes.
@@ -95,6 +98,9 @@ PERSON_MOST = 256
 NEAR = 90
 # What one clock may be ahead of another, in seconds.
 AHEAD = 300
+# Where a desk and a relay say that they gave up their reserve of disk, for revocations alone.
+GIVEN_UP, RESERVE = "/run/desk-reserve/free", "reserve"
+ALONE = "refusals and revocations alone are kept until there is room"
 
 
 class Words(argparse.ArgumentParser):
@@ -146,6 +152,7 @@ def words() -> argparse.Namespace:
     parser.add_argument("--backup", help="the folder of desk-backup's backups")
     said = "seconds after which the last backup, and the last drill, is too old (26 hours)"
     parser.add_argument("--backup-age", type=int, default=93_600, help=said)
+    parser.add_argument("--program", help="the program desk: warn where it is not proved")
     parser.add_argument("--file", help="a host's sudoers file")
     parser.add_argument(
         "--file-age", type=int, default=3600, help="seconds after which the file is too old (3600)"
@@ -156,6 +163,10 @@ def words() -> argparse.Namespace:
     )
     given = parser.parse_args()
     check_words(parser, given)
+    # (as serve.conf has an address, and no store)
+    if given.desk and re.fullmatch(r"[^/]+:[0-9]+", given.desk):
+        given.desk = f"http://{given.desk}"
+    given.store = None if given.store == "-" else given.store
     return given
 
 
@@ -495,6 +506,8 @@ class Found:
         if size(path) > self.given.store_most:
             self.warning.append(f"the store has {size(path)} bytes")
         self.limit("free", left, f"{left} % of the store's disk are free")
+        if os.path.exists(GIVEN_UP):
+            self.critical.append(f"the disk of {path} is full: {ALONE}")
 
     def certificate(self, path: str) -> None:
         self.holds_until("desk_certificate_seconds", path, certificate_end(path, self.now))
@@ -514,9 +527,24 @@ class Found:
             if os.path.getmtime(file) > began:
                 self.critical.append(f"{file} is newer than what the front has read: restart it")
 
+    def program(self, path: str) -> None:
+        words = [path, "--version"]
+        said = subprocess.run(words, capture_output=True, text=True, check=False).stdout
+        if not said.startswith("desk "):
+            raise ValueError("it says no version of a desk")
+        self.figures["desk_proved"] = int("NOT PROVED" not in said)
+        if "NOT PROVED" in said:
+            self.warning.append(f"{path} is NOT PROVED: it is for trials")
+
     def outbox(self, path: str) -> None:
+        os.stat(path)
+        left = free(path)
+        self.limit("free", left, f"{left} % of the outbox's disk are free")
+        if not os.path.exists(os.path.join(os.path.dirname(path), RESERVE)):
+            self.critical.append(f"the disk of {path} is full: {ALONE}")
         count, age = waiting(path, self.now)
         self.figures |= {"desk_outbox_waiting": count, "desk_outbox_oldest_seconds": max(0, age)}
+        self.figures["desk_outbox_free_percent"] = left
         if age < -AHEAD:
             raise ValueError("it has a message from the future: look at the clock")
         self.limit("waits", age, f"{count} messages wait in {path}, one for {age} seconds")
@@ -559,7 +587,7 @@ def gather(given: argparse.Namespace, now: float) -> Found:
     for part in ("unit", "roster"):
         if getattr(given, part) and found.figures["desk_up"]:
             found.look(getattr(given, part), getattr(found, part))
-    for part in ("store", "certificate", "crl", "front_pid", "outbox", "file"):
+    for part in ("store", "certificate", "crl", "front_pid", "outbox", "file", "program"):
         named = getattr(given, part) or []
         for path in [named] if isinstance(named, str) else named:
             found.look(path, getattr(found, part))

@@ -12,6 +12,7 @@ import pytest
 
 from relays.tests.site import PATIENCE, ROOT, Site, wait_for_next_second
 from relays.tests.sshd import USER, Sshd
+from steelnewt_relay.telling import FETCHED
 
 ASK = "ask db-care --on db1 --as root --for 2h /usr/bin/id".split()
 
@@ -56,6 +57,7 @@ def test_a_grants_whole_life(both: tuple[Site, Sshd]) -> None:
     assert "Nothing" in sshd.ssh("ann", "waiting").stdout
     ran = sshd.ssh("bob", "approve", "ann", no, given="y\n")
     assert ran.returncode == 0 and "It is in force from" in ran.stdout, ran
+    assert "Each host has it with its next fetch, within 5 minutes." in ran.stdout
     assert f"ann {no}" in sshd.ssh("dave", "live").stdout
     assert "ann db1 = (root) NOTBEFORE=" in sudoers(site, "db1")
     assert "/usr/bin/id" not in sudoers(site, "db2")
@@ -64,8 +66,18 @@ def test_a_grants_whole_life(both: tuple[Site, Sshd]) -> None:
     ran = sshd.ssh("ann", "revoke", "ann", no, "--yes")
     assert ran.returncode == 0 and "It was in force from" in ran.stdout, ran
     assert "revoked, so it ends before" in ran.stdout
+    assert "Each host takes it away with its next fetch, within 5 minutes: until" in ran.stdout
     assert f"ann {no}" not in sshd.ssh("dave", "live").stdout
     assert "[over]" in sshd.ssh("ann", "mine").stdout
+    # (what was revoked is not the same as what is asked for a minute later)
+    ran = sshd.ssh("ann", *ASK, given="y\n")
+    assert ran.returncode == 0 and "Kept as ann " in ran.stdout, ran
+
+
+def test_hosts_fetch_as_soon_as_people_are_told() -> None:
+    text = (ROOT / "packaging" / "units" / "desk-fetch@.timer").read_text()
+    parts = re.findall(r"^(?:OnUnitInactiveSec|RandomizedDelaySec|AccuracySec)=(\d+)", text, re.M)
+    assert len(parts) == 3 and sum(map(int, parts)) <= 300 and FETCHED == "within 5 minutes"
 
 
 def test_a_refusal_is_told(both: tuple[Site, Sshd]) -> None:

@@ -5,9 +5,10 @@ is run as it stands there, and its output is compared with the page.
 It is done in a root of its own, this machine's under an overlay that is thrown away, with
 namespaces for mounts, processes and network. The service is `desk-serve` as the unit's account;
 `systemctl`, `ssh db1`, `ssh desk`, `sendmail`, `apt install` and the editor are stand-ins
-(STAND_INS), all else is Debian's: a block that the page has and nothing here runs is a fault. Needs
-root, and Debian's packages sudo, faketime, curl, nginx-light, openssl and iproute2; what the relay
-needs it installs.
+(STAND_INS), all else is Debian's: a block that the page has and nothing here runs is a fault. (On
+machines that boot, systemd, apt and ssh are real: tests/machines/books.py.) Needs root, and
+Debian's packages sudo, faketime, curl, nginx-light, openssl and iproute2; what the relay needs it
+installs.
 """
 
 from __future__ import annotations
@@ -25,7 +26,10 @@ from tests.common import desk
 from tests.common.sudo_peer import host_program
 from tests.packages.package_test import furnish
 
+SECOND = "\n## A second desk\n"
+# (and the one of docs/SEVERAL.md)
 PAGE = desk.read("docs", "RUNBOOKS.md")
+PAGE += SECOND + desk.read("docs", "SEVERAL.md").split(SECOND)[1]
 PROGRAM = os.path.abspath(os.environ.get("DESK", desk.PROGRAM[0]))
 BOOK = "/runbooks"  # the folder of the stand-ins
 HERE = "/var/lib/desk"
@@ -237,11 +241,13 @@ def with_lines(lines: str) -> str:
     return text
 
 
-def change(room: Room, roster: str) -> tuple[desk.Run, desk.Run]:
-    """The runbook of a changed roster: what would change, and the change."""
+SAYS_YES = 'desk-change-roster() { echo y | command desk-change-roster "$@"; }\n'
+
+
+def change(room: Room, roster: str) -> desk.Run:
+    """The runbook of a changed roster, and a person who says yes."""
     room.write(f"{BOOK}/new.toml", roster)
-    heading = "A roster is changed"
-    return room.follow(heading, 1), room.follow(heading, 2)
+    return room.follow("A roster is changed", 0, SAYS_YES)
 
 
 def by_one_command(room: Room) -> None:
@@ -249,11 +255,9 @@ def by_one_command(room: Room) -> None:
     heading = "A roster is changed"
     asked, approved = granted_now()
     room.begin(asked, approved)
-    new = with_lines("bob = []")
-    room.write(f"{BOOK}/new.toml", new)
-    says_yes = 'desk-change-roster() { echo y | command desk-change-roster "$@"; }\n'
+    before, new = room.text(f"/v1/grants/{near(0)}"), with_lines("bob = []")
     room.says(heading, "it shows which grants change, asks, rebuilds, starts the desk")
-    done = room.follow(heading, 0, says_yes)
+    done = change(room, new)
     room.holds("it is changed", done.returncode == 0, done)
     shown = re.search(r"ENDS\nann 7 .*\n(?s:.*) bob counts no more \(duty\)\n", done.stdout)
     room.holds("what ends", shown is not None, done)
@@ -264,30 +268,11 @@ def by_one_command(room: Room) -> None:
     others = [line for line in kept.stdout.splitlines()[1:] if " desk desk" not in line]
     room.holds("the desk's own store", not others, kept)
     room.holds("a copy by its moment", kept.returncode == 0, kept)
-    room.run("rm -r /etc/desk/rosters")
-
-
-def roster_changed(room: Room) -> None:
-    asked, approved = granted_now()
-    room.begin(asked, approved, desk.request(3, by="carol"))
-    before = room.text(f"/v1/grants/{near(0)}")
-    shown, made = change(room, with_lines('bob = []\ncarol = ["approve-db"]\n'))
-    room.says("A roster is changed", "A line `line N: A..`", "`rebuild` prints `ok`")
-    found = re.findall(r"^([<>] [a-z]+ +[37] .*)$", shown.stdout, re.MULTILINE)
-    barred = [line.split() for line in found if line.startswith(">")]
-    room.holds("what was in force", found[0].startswith("< ann"), shown.stdout)
-    room.holds("who counts no more", barred == [["> ann 7 bob duty".split()][0]], shown.stdout)
-    named = re.search(r"^line [1-3]: A3 NotAsker$", shown.stderr, re.MULTILINE)
-    room.holds("a request that is not admitted", named is not None, shown.stderr)
-    room.holds("rebuilt", (made.stdout, made.returncode) == ("ok\n", 0), made)
-    kept = room.run("cd /etc/desk/rosters && ls && cat *Z.toml | cmp - /etc/desk/roster.toml")
-    is_kept = re.fullmatch(r"\d{14}Z\.toml\n", kept.stdout) is not None
-    room.holds("the roster is kept", is_kept and kept.returncode == 0, kept)
-    room.holds("it is not granted", room.text(f"/v1/grants/{near(0)}") == "")
-    room.says("A roster is changed", "same with `/root/old.toml`: the desk answers as before")
-    done = room.follow("A roster is changed", 2, "cp /root/old.toml /root/new.toml")
-    room.holds("rebuilt with the old one", done.stdout == "ok\n", done)
+    room.says(heading, "To go back, give it the earlier one of `/etc/desk/rosters`")
+    done = change(room, desk.read("examples", "roster.toml"))
+    room.holds("it goes back", done.returncode == 0 and "GIVEN BACK\nann 7 " in done.stdout, done)
     room.holds("as before", room.text(f"/v1/grants/{near(0)}") == before != "", before)
+    room.run("rm -r /etc/desk/rosters")
 
 
 def leaver(room: Room) -> None:
@@ -297,8 +282,8 @@ def leaver(room: Room) -> None:
     room.begin(*asked)
     question = "/v1/grants/20260105093000Z"
     before = room.text(question)
-    _, made = change(room, with_lines(line))
-    room.holds("the roster is taken", made.stdout == "ok\n", made)
+    made = change(room, with_lines(line))
+    room.holds("the roster is taken", made.returncode == 0, made)
     room.says(heading, "what they approved up to that day stays approved", "refused (`A3`)")
     room.holds("what was asked before stays", room.text(question) == before != "", before)
     last = {"at": "20261125235959Z", "from": "20261127000000Z", "until": "20261127010000Z"}
@@ -306,8 +291,8 @@ def leaver(room: Room) -> None:
     answers = room.post(desk.request(8, **last), desk.request(9, **late))
     room.holds("what is asked after it", answers == ["ack\n", "A3 NotAsker\n"], answers)
     approver = line.replace("ann", "bob").replace("operate", "approve")
-    _, made = change(room, with_lines(approver))
-    room.holds("an approver leaves", made.stdout == "ok\n", made)
+    made = change(room, with_lines(approver))
+    room.holds("an approver leaves", made.returncode == 0, made)
     room.holds("what was approved before stays", room.text(question) == before, before)
     room.says(heading, "`desk review` lists under `BARRED` an approval without the duty")
     room.post(desk.approval(8, at="20261126000000Z"))
@@ -378,19 +363,23 @@ def mails(room: Room, *subjects: str) -> str:
 
 
 def with_relay(room: Room) -> None:
-    """The desk of examples/break-glass.toml, and a relay that rings the bells."""
+    """The desk with what examples/break-glass.toml adds, and a relay that rings the bells."""
     heading = "Nobody can approve"
     (notify,) = blocks(section(heading), "toml")
     example = desk.read("examples", "break-glass.toml")
     room.says(heading, "`examples/break-glass.toml` has a person `glass`")
     has_both = "\nglass = [" in example and "\n[ceilings.break-glass]\n" in example
     room.holds("the example has its part", has_both, example)
-    shutil.copy(f"{desk.EXAMPLES}/break-glass.toml", room.path(FILES[0]))
+    shutil.copy(f"{desk.EXAMPLES}/break-glass.toml", room.path(DOC))
+    on_call = example.replace("[people]\n", '[people]\nann = ["on-call"]\n')
+    room.write(f"{BOOK}/new.toml", on_call)
     settings = desk.read("relays", "relay.example.toml")
     room.write("/etc/desk/relay.toml", settings.partition("[page]")[0] + notify)
     room.write("/etc/desk/bells", "# all\nbob robert@site\ndave dave@site\nann ann@site\n")
+    added = room.follow(heading, 0, SAYS_YES)
+    room.holds("it is added", added.returncode == 0, added)
     made = room.run(
-        f"systemctl stop desk; rm {HERE}/*; systemctl start desk; systemctl start desk-relay-post;"
+        "systemctl start desk-relay-post;"
         " ssh-keygen -q -t ed25519 -N '' -f /root/ann && desk-relay-person add ann /root/ann.pub"
     )
     room.holds("the relay", made.returncode == 0, made)
@@ -400,7 +389,7 @@ def no_approver(room: Room) -> None:
     heading = "Nobody can approve"
     room.begin()
     with_relay(room)
-    done = room.follow(heading, 0)
+    done = room.follow(heading, 1)
     phrase = re.search(r"for the envelope: \S{24}\n", done.stdout)
     room.holds("the envelope", phrase is not None, done)
     # (it tells what comes from its first round on; root's sqlite3 would make an outbox that is not
@@ -409,7 +398,7 @@ def no_approver(room: Room) -> None:
     told = f"[ -s {box} ] && grep -q told_from <(sqlite3 {box} .dump)"
     room.run(f"for _ in $(seq 600); do {told} && break; sleep 0.1; done")
     room.says(heading, "its use rings every bell", "An asker's own approval counts under no")
-    done = room.follow(heading, 1)
+    done = room.follow(heading, 2)
     room.holds("the key approves", "It is in force from" in done.stdout, done)
     room.holds("everything on the host", room.may("/usr/bin/env"), done)
     subjects = ("ann asks.", "glass approved ann 1.", "ann 1 is granted.")
@@ -418,9 +407,9 @@ def no_approver(room: Room) -> None:
         part = rung.partition(f"Subject: [desk] BREAK-GLASS: {subject}")[0].split("To: ")[-1]
         everybody = all(f"{it}@site" in part for it in ("ann", "dave", "robert"))
         room.holds(f"every bell: {subject}", everybody, rung)
-    done = room.follow(heading, 2)
-    room.holds("it ends", done.returncode == 0 and not room.may("/usr/bin/env"), done)
     done = room.follow(heading, 3)
+    room.holds("it ends", done.returncode == 0 and not room.may("/usr/bin/env"), done)
+    done = room.follow(heading, 4)
     reviewed = re.search(r"approve +\d+Z glass counts\n(?s:.*)nobody answers", done.stdout)
     room.holds("it is reviewed", reviewed is not None, done)
     alone = "-o IdentitiesOnly=yes -o IdentityAgent=none"
@@ -698,7 +687,7 @@ def relay_account_lost(room: Room) -> None:
     is_shown = forged in done.stdout.splitlines()
     is_said = "its outbox proves nothing" in " ".join(section(heading).split())
     room.holds("a forged line in the outbox is shown, or said not to be", is_shown or is_said, done)
-    room.says(heading, "A relay's account `desk-relay`, or its machine**: the same, off the")
+    room.says(heading, "`deluser desk-relay desk-front`; then as above, but **its outbox proves")
     room.says(heading, "ask people which lines of `/root/held` are theirs")
     made = room.run(f"{FRONT_CA} auditor web && cp /etc/desk/front/auditor-web.* /root/stolen")
     before = by_certificate(room, "/root/stolen/auditor-web", "/v1/messages")
@@ -730,7 +719,6 @@ def authority_lost(room: Room) -> None:
 
 BOOKS = (
     by_one_command,
-    roster_changed,
     leaver,
     on_call,
     revoked,

@@ -67,6 +67,7 @@ UNITS = """case $* in
     'restart desk-door') door ;;
     'enable --now desk-relay-post') relay post ;;
     'enable --now desk-fetch@prod1.timer' | 'start desk-fetch@prod1') desk-host fetch prod1 ;;
+    'start desk-sessions') ;;
 """
 UNITS += check_team_rest.UNITS
 APT = f"""#!/bin/bash
@@ -77,6 +78,11 @@ for word; do
     tar -C {TREES}/$name -c . | tar -C / -x --keep-directory-symlink
     [ ! -e {TREES}/$name.postinst ] || sh {TREES}/$name.postinst configure ''
 done
+"""
+# (prod1 is this machine)
+SCP = """#!/bin/bash
+[ "$1" = -p ] && shift
+cp --preserve=mode "$1" "${2#prod1:}"
 """
 # the packages themselves; what they need of Debian is there
 DPKG = """#!/bin/bash
@@ -118,7 +124,7 @@ def prepare(room: Room, is_built: bool) -> None:
     units = STAND_INS["systemctl"].replace("desk-front", '"${group:-desk-front}"')
     units = units.replace("case $* in\n", DOOR + UNITS)
     units = units.replace("/usr/local/bin/desk-serve", "/usr/libexec/steelnewt/desk-serve")
-    stand_ins = {"systemctl": units, "ssh": STAND_INS["ssh"].replace("db1", "prod1")}
+    stand_ins = {"systemctl": units, "ssh": STAND_INS["ssh"].replace("db1", "prod1"), "scp": SCP}
     if is_built:
         stand_ins["apt"] = DPKG
     else:
@@ -211,13 +217,14 @@ def door(page: Page, room: Room) -> None:
 def host(page: Page, room: Room) -> None:
     done = page.next("sh")
     room.holds("the front", done.returncode == 0, done)
-    copied = room.run(
-        "cd /etc/desk/front && cp host-prod1.pem ../host.pem && cp ca.pem .. &&"
-        " install -m 0400 host-prod1.key ../host.key"
-    )
-    room.holds("the host's files", copied.returncode == 0, copied)
     done = page.next("sh")
-    room.holds("the host fetches", done.returncode == 0 and "parsed OK" in done.stdout, done)
+    room.holds("the host's packages", done.returncode == 0, done)
+    done = page.next("sh")
+    mode = os.stat(room.path("/etc/desk/host.key")).st_mode & 0o077
+    room.holds("the host's files", done.returncode == 0 and mode == 0, done)
+    # (what `desk-host check` says of a host that boots: tests/machines/team.py)
+    done = page.next("sh")
+    room.holds("the host fetches", "parsed OK" in done.stdout, done)
     room.holds("its file", "dba ALL" in room.read("/etc/sudoers.d/desk"))
 
 

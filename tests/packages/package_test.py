@@ -547,17 +547,19 @@ def through_the_front(trial: Trial) -> None:
     subprocess.run(["hostname", "db1"], check=True)
     os.makedirs(trial.path("/sys/fs/cgroup"), exist_ok=True)
     trial.does("control groups", "mount", "-t", "cgroup2", "none", "/sys/fs/cgroup")
+    says = "^DESK HOST OK - .*: 0 to mend [|]"
+    trial.does("desk-host check", "desk-host", "check", says=says)
+    settings = trial.path("/etc/sudoers.d/desk-defaults")
+    trial.run("mv", "/etc/sudoers.d/desk-defaults", "/etc/desk/desk-defaults")
     trial.does(
-        "desk-host check",
+        "and without sudo's settings",
         "desk-host",
         "check",
         status=1,
         says="^desk-host: sudo compares names without case.*\nDESK HOST WARNING - .*: 1 to mend: ",
     )
-    trial.run("cp", "/usr/share/doc/steelnewt-host/desk-defaults", "/etc/sudoers.d/desk-defaults")
-    trial.run("chmod", "0440", "/etc/sudoers.d/desk-defaults")
-    says = "^DESK HOST OK - .*: 0 to mend [|]"
-    trial.does("and with sudo's settings", "desk-host", "check", says=says)
+    trial.run("mv", "/etc/desk/desk-defaults", "/etc/sudoers.d/desk-defaults")
+    trial.check("their mode", os.stat(settings).st_mode & 0o777 == 0o440)
     subprocess.run(["hostname", name], check=True)
     said = by_curl(trial, "auditor-carol", f"/v1/grants/{DAY}093000Z")
     trial.check("an auditor reads", said == f"ann 7 db-care {DAY}091500Z {DAY}110000Z\n 200", said)
@@ -885,9 +887,9 @@ def purged(trial: Trial) -> None:
     trial.check("it says that the host's file stays", is_told and 0 < ends < len(rules), said)
     is_told = f"{other} stays" in said and " 1 of its 2 rules end by their dates" in said
     trial.check("and where the settings had it", is_told, said)
-    trial.check("and sudo's settings", "/etc/sudoers.d/desk-defaults stays" in said, said)
+    trial.check("and the host's key", "/etc/desk/host.key stays" in said, said)
     left = {it for it in os.listdir(trial.path("/etc/sudoers.d")) if it.startswith("desk")}
-    trial.check("what is left", left == {"desk", "desk-defaults", "desk.new.ours"}, str(left))
+    trial.check("what is left", left == {"desk", "desk.new.ours"}, str(left))
     pam = [trial.read(f"/etc/pam.d/common-{it}") for it in ("account", "session-noninteractive")]
     trial.check("the step of PAM is gone", not any("desk-host" in text for text in pam), str(pam))
     settings = trial.read("/etc/sudo.conf")

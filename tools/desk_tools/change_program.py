@@ -8,10 +8,12 @@ import sys
 import time
 
 from desk_tools import change, changes, evidence, lint, served
+from desk_tools.adding import added
 from desk_tools.change import Compared, Desk, Ended, Halfway
 from desk_tools.found import Parser, visible
 from desk_tools.journal import Journal
 from desk_tools.judge import NoDesk, program
+from desk_tools.roster_text import CannotEdit
 from desk_tools.schema import NoJsonschema
 from desk_tools.served import Failed, digest
 from steelnewt_client.moments import stamp_of
@@ -27,7 +29,9 @@ def parser() -> argparse.ArgumentParser:
         epilog="Exit status: 0 the desk has the roster, 1 nothing was changed, 2 it is refused"
         " or failed and all is as before, 3 it failed and a person has to look.",
     )
-    found.add_argument("roster", metavar="NEW_ROSTER", help="the new roster")
+    found.add_argument("roster", metavar="NEW_ROSTER", nargs="?", help="the new roster")
+    said = "the new roster is the old one with what it lacks of this file's entries"
+    found.add_argument("--add", metavar="FILE", help=said)
     found.add_argument("--yes", action="store_true", help="ask nobody")
     said = "with --yes: also where rights come back that were taken away"
     found.add_argument("--give-back", action="store_true", help=said)
@@ -43,10 +47,25 @@ def parser() -> argparse.ArgumentParser:
     return found
 
 
-def checked(name: str) -> bytes:
+def new_roster(said: argparse.Namespace) -> bytes:
+    """The new roster's text: a file's, or the old one's with what it lacks of a file's entries."""
+    if said.add is None:
+        return checked(said.roster, text_of(said.roster))
+    path = served.settings(said.conf).roster
+    old, more = (text_of(it).decode("utf-8") for it in (path, said.add))
+    try:
+        return checked(path, added(old, more, said.add).encode("utf-8"))
+    except CannotEdit as fault:
+        raise Failed(str(fault)) from None
+
+
+def text_of(path: str) -> bytes:
+    with open(path, "rb") as file:
+        return file.read()
+
+
+def checked(name: str, text: bytes) -> bytes:
     """A roster's text, by desk-lint: faults end it, and warnings are shown."""
-    with open(name, "rb") as file:
-        text = file.read()
     looked = lint.look_at_roster(name, text, time.strftime("%Y%m%d", time.gmtime()))
     sys.stdout.write(looked.as_text())
     if looked.faults:
@@ -119,7 +138,7 @@ def is_there(desk: Desk, journal: Journal, new: bytes) -> bool:
 
 def followed(said: argparse.Namespace) -> int:
     """The change, from its words on."""
-    new = checked(said.roster)
+    new = new_roster(said)
     desk = desk_of(said)
     journal = Journal(said.keep)
     if not said.show:
@@ -140,6 +159,8 @@ def followed(said: argparse.Namespace) -> int:
 
 def main(words: list[str] | None = None) -> int:
     said = parser().parse_args(words)
+    if (said.roster is None) == (said.add is None):
+        parser().error("name a NEW_ROSTER, or --add a file, and not both")
     status = REFUSED
     try:
         return followed(said)

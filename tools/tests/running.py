@@ -152,6 +152,14 @@ class Running:
             check=False,
         )
 
+    def add(self, path: str, *more: str) -> subprocess.CompletedProcess[str]:
+        """Gives the desk what its roster lacks of a file's entries."""
+        words = self.words(Path("--add"), *more)
+        words.insert(words.index("--add") + 1, path)
+        return subprocess.run(
+            words, env=self.environment, capture_output=True, text=True, timeout=300, check=False
+        )
+
     def pending(self) -> bool:
         return (self.folder / "kept" / "pending.json").exists()
 
