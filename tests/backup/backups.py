@@ -272,12 +272,14 @@ def is_live(line: str) -> bool:
 
 def bad_backups(folder: str) -> Iterator[Row]:
     """A backup that was cut, altered, is another's, or a newer version's."""
+    room = made(folder, "bad", 2)
+    room.backup()
+    room.lose()
+    whole = room.backups
     for name, spoil, says in SPOILT:
-        room = made(folder, f"bad-{name}", 2)
-        room.backup()
-        at = os.path.join(room.backups, room.moments()[-1])
-        room.lose()
-        spoil(at)
+        room.backups = os.path.join(folder, name)
+        shutil.copytree(whole, room.backups)
+        spoil(os.path.join(room.backups, room.moments()[-1]))
         ran = room.restore()
         yield name, *said(ran, 2, says)
         yield f"{name}: nothing was begun", room.files() == {}, room.files()

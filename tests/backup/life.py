@@ -107,7 +107,8 @@ class Life:
 
     def set_up(self) -> None:
         """As OPERATING and RELAYS have it."""
-        self.known["began"] = int(time.time()) - 31 * DAY
+        # (so that the last day of all is yesterday, and no right is over before it has to be)
+        self.known["began"] = int(time.time()) - (self.lives * DAYS + 1) * DAY
         write(FILES[0], ROSTER)
         write(FILES[1], "dba ALL = (root) /usr/bin/id\n")
         write("/etc/desk/rosters/20260101000000Z.toml", ROSTER)
