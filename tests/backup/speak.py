@@ -24,10 +24,15 @@ def ask(outbox: Outbox, at: int, who: str, no: int) -> Kept:
     return outbox.keep_request(who, wish, stamp_of(at))
 
 
+def is_granted(outbox: Outbox, asked: Request) -> bool:
+    kinds = [it.verdict.kind for it in outbox.verdicts(asked.by, asked.no)]
+    return kinds == ["approve"]
+
+
 def spoken(outbox: Outbox, at: int) -> list[Kept]:
     """Ten messages: four requests, three approvals, a refusal of the fourth, and two revocations:
-    of one of these, and of what was granted on an earlier day."""
-    older = [it for it in outbox.requests() if it.state == "acked"]
+    of one of these, and of what was granted on an earlier day, and is in force."""
+    older = [it for it in outbox.requests() if is_granted(outbox, it.request)]
     found = [ask(outbox, at + 600 * no, "ann" if no % 2 else "carol", no) for no in range(4)]
     verdicts = [("approve", it) for it in found[:3]] + [("refuse", found[3]), ("revoke", found[0])]
     verdicts.append(("revoke", older[len(older) // 2] if older else found[1]))
