@@ -1,6 +1,6 @@
 """docs/RUNBOOKS.md on machines that boot: a desk with a relay and a front, and a host.
-`python3 -m tests.machines.books [FOLDER]` takes the packages of a folder (build/deb); most headings
-of the page have their function here.
+`python3 -m tests.machines.books [FOLDER [NAME ..]]` takes the packages of a folder (build/deb).
+Each heading of the page has the function of its name here, or in team.py.
 
 apt, systemd, ssh with an agent, nginx, sudo and full disks are real. What is stood in for: whoever
 edits a file (`editor` puts the new text there), whoever says yes, and a mailbox (`sendmail`). What
@@ -10,6 +10,7 @@ the pages' own test tries of a copy, a key or an authority is left to it
 
 from __future__ import annotations
 
+import calendar
 import os
 import re
 import sys
@@ -18,7 +19,7 @@ import time
 from collections.abc import Callable
 
 from tests.common import desk
-from tests.documents.check_runbooks import PREAMBLE, granted_now, near, section
+from tests.documents.check_runbooks import PREAMBLE, granted_now, near, section, with_lines
 from tests.documents.check_runbooks import blocks as blocks_of
 from tests.machines import sites
 from tests.machines.lives import ASK, DEBS, EXAMPLES, Life, in_a_room, later
@@ -57,6 +58,7 @@ class Books:
         on.run("sed -i '/^.page/,$d' /etc/desk/relay.toml")
         on.run(f"cp {EXAMPLES}/nginx/desk.conf /etc/nginx/conf.d/")
         made = f"{CA} init && {CA} server desk.example && {CA} host db1 && {CA} auditor carol"
+        made += f" && {CA} relay chat"
         self.does("the front", f"{made} && systemctl enable --now nginx")
         self.does("the desk and its relay", f"systemctl enable --now {' '.join(SERVED)}")
         sites.sshd(on)
@@ -103,13 +105,80 @@ class Books:
         return found[1] if found else "0"
 
 
-def a_roster_is_changed(books: Books) -> None:
-    text = books.desk.read("/etc/desk/roster.toml")
-    books.desk.write("/root/edited", text.replace('["db1", "db2", "web1"]', '["db1", "db2"]', 1))
+ROSTER = "/etc/desk/roster.toml"
+
+
+def change(books: Books, text: str) -> None:
+    """The runbook's one command, and whoever edits the file and says yes."""
+    books.desk.write("/root/edited", text)
     done = books.follow("A roster is changed", 0, given="y\n")
     books.holds("it is changed", "serves the new roster" in done.stdout, done)
     books.life.is_state("a changed roster", "desk.service", "active, enabled")
+
+
+def a_roster_is_changed(books: Books) -> None:
+    """By one command, by hand, and back."""
+    before = books.desk.read(ROSTER)
+    changed = before.replace('["db1", "db2", "web1"]', '["db1", "db2"]', 1)
+    change(books, changed)
     books.holds("the host fetches", books.host.holds("systemctl start desk-fetch@db1"))
+    books.desk.write("/root/edited", before)
+    done = books.follow("A roster is changed", 1)
+    books.holds("what changes is shown", done.returncode in (0, 1) and not done.stderr, done)
+    done = books.follow("A roster is changed", 2)
+    books.holds("rebuilt by hand", re.search("^ok", done.stdout, re.MULTILINE) is not None, done)
+    books.holds("and served", books.desk.wait(f"{ASK}/v1/count", 60))
+    books.holds("it is the old one again", books.desk.read(ROSTER) == before)
+
+
+def day(after: int) -> str:
+    return time.strftime("%Y%m%d", time.gmtime(time.time() + after * 86_400))
+
+
+def moved(block: str, first: str) -> str:
+    """The lines of a page with other days, of which `first` is today."""
+    begin = calendar.timegm(time.strptime(first, "%Y%m%d"))
+
+    def other(found: re.Match[str]) -> str:
+        return day((calendar.timegm(time.strptime(found[0], "%Y%m%d")) - begin) // 86_400)
+
+    return re.sub(r"20261\d{3}", other, block)
+
+
+def somebody_leaves(books: Books) -> None:
+    """At once, the logins and the key; and from the last day on, the duties."""
+    before = books.desk.read(ROSTER)
+    at = books.host
+    at.run("install -d -m 0700 -o ann /home/ann /home/ann/.ssh")
+    at.write("/home/ann/.ssh/authorized_keys", books.desk.read("/root/ann.pub"))
+    at.run("chown -R ann: /home/ann; chsh -s /bin/bash ann")
+    books.desk.run("setsid ssh -i /root/ann ann@db1 sleep 600 > /dev/null 2>&1 < /dev/null &")
+    books.holds("ann has a login", at.wait("pgrep -u ann sleep", 60))
+    (word,) = re.findall(r"`(loginctl [^`]*)`", section("Somebody leaves"))
+    at.run(word)
+    books.holds("it is ended", at.wait("! pgrep -u ann sleep", 30), at.out("loginctl"))
+    (line,) = blocks_of(section("Somebody leaves"), "toml")
+    change(books, with_lines(moved(line, "20261126")))
+    done = books.as_person("ann", ASKS)
+    books.holds("who left asks for nothing", "To approve it" not in done.stdout, done)
+    books.does("the key is taken away", "desk-relay-person remove ann")
+    done = books.as_person("ann", "mine")
+    books.holds("and nobody calls by it", done.returncode == 255, done)
+    books.does("it is given again", "desk-relay-person add ann /root/ann.pub")
+    change(books, before)
+
+
+def on_call_rotation(books: Books) -> None:
+    """Whose week it is approves, and whoever had the duty before does not."""
+    before = books.desk.read(ROSTER)
+    (lines,) = blocks_of(section("On-call rotation"), "toml")
+    change(books, with_lines(moved(lines, "20261130")))
+    number = books.number(books.as_person("ann", ASKS).stdout)
+    done = books.as_person("carol", f"approve ann {number} --yes")
+    books.holds("next week's approves nothing", "It is in force from" not in done.stdout, done)
+    done = books.as_person("bob", f"approve ann {number} --yes")
+    books.holds("this week's approves", "It is in force from" in done.stdout, done)
+    change(books, before)
 
 
 def a_right_has_to_end_now(books: Books) -> None:
@@ -138,7 +207,7 @@ def people_are_told(books: Books) -> None:
     books.holds("a name that the roster lacks", "nobody whose name is zed" in done.stderr, done)
 
 
-def the_desk_is_down(books: Books) -> None:
+def the_desk_is_down_and_a_right_is_needed(books: Books) -> None:
     """The line for the night is a host's, whose sudo asks nobody; and what a person starts often
     starts."""
     books.desk.run("systemctl stop desk")
@@ -192,6 +261,8 @@ def a_key_is_lost(books: Books) -> None:
     books.does("a new one", "cd /etc/desk/front && scp host-db1.pem db1:/etc/desk/host.pem &&"
                " scp -p host-db1.key db1:/etc/desk/host.key && nginx -t && systemctl restart nginx"
                " && ssh db1 systemctl start desk-fetch@db1")
+    a_relays_key(books)
+    the_authority(books)
     page = " ".join(section(heading).split())
     ends = re.findall(r"`((?:systemctl disable|usermod|deluser) [^`]*desk-[^`]*)`", page)
     books.holds("what ends a relay's account", len(ends) == 3, ends)
@@ -203,6 +274,31 @@ def a_key_is_lost(books: Books) -> None:
     books.desk.run("chage -E -1 desk-relay; adduser desk-relay desk-front;"
                    " systemctl enable --now desk-relay-post")
     books.does("it is let in again", "systemctl is-active desk-relay-post")
+
+
+def a_relays_key(books: Books) -> None:
+    """What was forged by the key alone is found."""
+    on, forged = books.desk, desk.approval(60, at=near(0))
+    post = "curl -sS --cert relay-chat.pem --key relay-chat.key --cacert ca.pem --data-binary"
+    target = "https://desk.example/v1/relays/chat/messages"
+    said = on.out(f"cd /etc/desk/front && {post} '{forged}' {target}")
+    books.holds("the desk takes what is forged", said == "ack", said)
+    on.run("cp /etc/desk/front/relay-chat.* /root")
+    done = books.follow("A key is lost", 1)
+    books.holds("what is forged is found", forged in done.stdout.splitlines(), done)
+    said = on.out(f"cd /root && cp /etc/desk/front/ca.pem . && {post} '{forged}' {target}")
+    books.holds("the old key posts no more", said != "ack", said)
+
+
+def the_authority(books: Books) -> None:
+    """Everybody has a new certificate, and the host fetches by its own."""
+    done = books.follow("A key is lost", 2)
+    books.holds("the authority is replaced", done.returncode == 0, done)
+    late = books.host.run("systemctl start desk-fetch@db1")
+    books.holds("the host's is of the old one", late.returncode != 0, late)
+    books.does("what the host gets", "cd /etc/desk/front && scp ca.pem db1:/etc/desk/ca.pem && scp"
+               " host-db1.pem db1:/etc/desk/host.pem && scp -p host-db1.key db1:/etc/desk/host.key"
+               " && ssh db1 systemctl start desk-fetch@db1")
 
 
 def small_disk(books: Books, folders: tuple[str, ...]) -> None:
@@ -323,30 +419,42 @@ def an_upgrade(books: Books) -> None:
 
 
 def a_restore(books: Books) -> None:
-    """A restore, of the messages. (tests/backup has that of the whole machine.)"""
+    """From a copy of the messages. (tests/backup has that of the whole machine.)"""
     on = books.desk
+    books.desk.wait(f"{ASK}/v1/count", 60)
     before = on.out(f"{ASK}/v1/messages")
     on.run(f"{PREAMBLE}backup")
     done = books.follow("A restore", 0)
     count = str(len(before.splitlines()))
     books.holds("each is acknowledged", done.stdout.split() == [count, "ack"], done)
     books.holds("the same messages", on.out(f"{ASK}/v1/messages") == before)
-    done = books.does("each relay posts again",
+    said = books.does("each relay posts again",
                       "runuser -u desk-relay -- desk-relay post-again", "messages are posted again")
-    books.holds("some", not done.startswith("0 "), done)
+    books.holds("some", not said.startswith("0 "), said)
 
 
 BOOKS: tuple[Callable[[Books], None], ...] = (
     a_roster_is_changed,
+    somebody_leaves,
+    on_call_rotation,
     a_right_has_to_end_now,
     people_are_told,
-    the_desk_is_down,
+    the_desk_is_down_and_a_right_is_needed,
     nobody_can_approve,
     a_key_is_lost,
     the_disk_is_full,
     an_upgrade,
     a_restore,
 )
+# behind a door: team.py; of a lost machine: tests/backup/life.py
+ELSEWHERE = ("signers_cannot_be_read", "the_machine_is_lost")
+
+
+def unnamed() -> list[str]:
+    """The headings of the page that have no function of their name."""
+    had = {*ELSEWHERE, *(it.__name__ for it in BOOKS)}
+    found = re.findall(r"^## (.*)$", sites.page("RUNBOOKS.md"), re.MULTILINE)
+    return [it for it in found if re.sub(r"\W+", "_", it.lower()) not in had]
 
 
 def inside(source: str, *chosen: str) -> None:
@@ -355,6 +463,7 @@ def inside(source: str, *chosen: str) -> None:
         site = Site(folder)
         try:
             books = Books(site, source)
+            books.holds("each heading has its function here", not unnamed(), unnamed())
             print(f"furnished: {time.monotonic() - began:.1f} s", flush=True)
             for book in BOOKS:
                 if chosen and book.__name__ not in chosen:

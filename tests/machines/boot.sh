@@ -32,6 +32,8 @@ if [ ! -e "$folder/made" ]; then
         "$root"/etc/{desk,cron.d/feed-desk,machine-id} "$root"/etc/sudoers.d/desk* \
         "$root"/var/lib/{desk,desk-relay,desk-door,desk-host} "$root"/var/log/{nginx,journal}/* \
         "$root"/etc/nginx/conf.d/*
+    # (the index of manual pages takes minutes after each installation, and nobody asks it)
+    rm -f "$root/var/lib/man-db/auto-update"
     : > "$root/etc/machine-id"
     for unit in udevd udev-trigger timesyncd networkd networkd-wait-online resolved modules-load \
         sysctl remount-fs random-seed update-utmp tmpfiles-setup-dev firstboot; do

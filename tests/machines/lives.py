@@ -26,7 +26,7 @@ EXAMPLES = "/usr/share/doc/steelnewt/examples"
 FIRST, SECOND = "/root/first", "/root/second"
 SERVED = ("desk.service", "desk-relay-post.service")
 FETCH = "desk-fetch@db1.timer"
-TIMERS = (FETCH, "desk-sessions.timer", "desk-starts.path", "desk-check.timer")
+TIMERS = (FETCH, "desk-sessions.timer", "desk-starts.path", "desk-check.timer", "desk-watch.timer")
 ASK = "curl -sS -m 60 --unix-socket /run/desk/desk.sock http://desk"
 STARTS = 10
 # what nobody wants to see on a machine
@@ -184,12 +184,14 @@ def kept(life: Life, what: str) -> None:
     life.holds(f"{what}: the messages", held == "2", held)
 
 
-def upgraded(life: Life, folder: str) -> None:
-    """What runs goes on with the new version, and what does not stays so."""
-    before = {it: life.pid(it) for it in SERVED}
-    said = life.does("apt upgrades", f"cd {folder} && apt install --only-upgrade ./*.deb")
+def upgraded(life: Life, units: tuple[str, ...]) -> None:
+    """What runs goes on with the new version, these units by another process, and what does not
+    stays so."""
+    before = {it: life.pid(it) for it in units}
+    said = life.does("apt upgrades", f"cd {SECOND} && apt install --only-upgrade ./*.deb")
     for unit in SERVED:
         life.is_state("upgraded", unit, "active, enabled")
+    for unit in units:
         life.holds(f"upgraded: {unit} is another", life.pid(unit) not in ("0", before[unit]), said)
     for unit in TIMERS:
         found = life.machine.out(f"systemctl is-active {unit}")
@@ -203,8 +205,10 @@ def upgraded(life: Life, folder: str) -> None:
 
 def alone(life: Life) -> None:
     """One package alone is upgraded: what stays behind is named, and nothing is taken away."""
+    before = life.pid("desk.service")
     said = life.does("the desk alone", f"cd {SECOND} && apt install --no-remove ./steelnewt_*.deb")
     life.holds("what is behind is named", "steelnewt-relay is still " in said, said)
+    life.holds("the desk alone: it is another", life.pid("desk.service") not in ("0", before), said)
     for unit in SERVED:
         life.is_state("the desk alone", unit, "active, enabled")
     ran = life.machine.run(f"cd {SECOND} && apt install --no-remove ./python3-steelnewt-c*.deb")
@@ -221,7 +225,7 @@ def removed(life: Life) -> None:
     for unit in (*SERVED, *TIMERS):
         found = machine.out(f"systemctl is-active {unit}")
         life.holds(f"removed: {unit} is inactive", found == "inactive", found)
-    links = machine.out("find /etc/systemd/system -xtype l -name 'desk-*'")
+    links = machine.out("find /etc/systemd/system -xtype l -name 'desk-fetch*'")
     life.holds("removed: a link of a host's timer", links == "", links)
     life.holds("removed: the timer is named", f"{FETCH} is off" in said, said)
     life.nothing_failed("removed")
@@ -257,7 +261,7 @@ PARTS: tuple[Callable[[Life], None], ...] = (
     restarted,
     booted,
     alone,
-    lambda life: upgraded(life, SECOND),
+    lambda life: upgraded(life, SERVED[1:]),  # (the desk is of that version already)
     removed,
     purged,
     again,
@@ -279,7 +283,7 @@ def from_release(site: Site, source: str, last: str) -> Life:
     life.does("it is enabled", f"systemctl enable --now {' '.join(SERVED)} {FETCH}")
     for line in machine.read(f"{EXAMPLES}/approved.messages").splitlines():
         machine.run(f"{ASK}/v1/relays/chat/messages --data-binary '{line}'")
-    upgraded(life, SECOND)
+    upgraded(life, SERVED)
     return life
 
 

@@ -9,7 +9,10 @@ from __future__ import annotations
 import contextlib
 import os
 import shlex
+import shutil
+import signal
 import subprocess
+import sys
 import time
 
 from tests.common import desk
@@ -18,6 +21,7 @@ HERE = os.path.dirname(os.path.abspath(__file__))
 PATIENCE = 300  # the seconds after which something hangs: the machine may be busy
 PATH = "/usr/local/sbin:/usr/local/bin:/usr/sbin:/usr/bin:/sbin:/bin"
 BRIDGE = "site"
+CALLED = "called"  # the control group of what is run in a machine from outside
 SPACES = ["--mount", "--pid", "--net", "--uts", "--ipc", "--cgroup"]
 UNATTENDED = """APT::Get::Assume-Yes "true";
 APT::Install-Recommends "false";
@@ -26,14 +30,14 @@ DPkg::Options:: "--force-unsafe-io";
 DPkg::Options:: "--force-confold";
 """
 # What this machine lacks for it; nothing where it can boot one.
-NEEDED = ("/lib/systemd/systemd", "/usr/bin/dbus-daemon", "/usr/bin/nsenter", "/usr/sbin/ip")
+NEEDED = ("/lib/systemd/systemd", "dbus-daemon", "nsenter", "unshare", "ip", "dpkg-deb")
 
 
 def lacks() -> str:
     """Why no machine can be booted here; nothing where one can."""
     if os.geteuid() != 0:
         return "root's rights"
-    return ", ".join(it for it in NEEDED if not os.path.exists(it) and it != "/usr/sbin/ip")
+    return ", ".join(it for it in NEEDED if shutil.which(it, path=PATH) is None)
 
 
 class Site:
@@ -43,6 +47,8 @@ class Site:
         self.folder, self.lower = folder, lower
         self.groups = os.path.join(folder, "groups")
         self.machines: list[Machine] = []
+        # (the first process of a room hears only what it handles, and all end with it)
+        signal.signal(signal.SIGTERM, lambda *_: sys.exit("ended from outside"))
         ip("link", "set", "lo", "up")
         ip("link", "add", BRIDGE, "type", "bridge")
         ip("link", "set", BRIDGE, "up")
@@ -102,6 +108,7 @@ class Machine:
                 stdin=subprocess.DEVNULL, stdout=log, stderr=log,
             )  # fmt: skip
         self.first = self.child()
+        os.makedirs(os.path.join(self.group, CALLED), exist_ok=True)
         self.connect()
         self.wait("systemctl is-system-running | grep -Eq 'running|degraded'")
         self.boots += 1
@@ -141,7 +148,9 @@ class Machine:
         words = ["env", "-i", *(f"{name}={value}" for name, value in held.items())]
         if account:
             words += ["setpriv", "--reuid", account, "--regid", account, "--init-groups"]
-        enter = ["nsenter", "--target", str(self.first)]
+        # (into a control group of the machine first: sudo's plugin makes one below it)
+        enter = ["bash", "-c", 'echo $$ > "$0" && exec "$@"', f"{self.group}/{CALLED}/cgroup.procs"]
+        enter += ["nsenter", "--target", str(self.first)]
         enter += ["--mount", "--pid", "--net", "--uts", "--ipc", "--cgroup", "--"]
         inside = [*words, "bash", "-c", f"cd {shlex.quote(home)} || exit; {script}"]
         return desk.run([*enter, *inside], given, PATIENCE)

@@ -1,4 +1,5 @@
 """docs/TEAM.md to the letter, on three machines that boot: the desk's, a host, and the people's.
+Behind a door it runs the runbook 'Signers cannot be read', too.
 `python3 -m tests.machines.team [FOLDER]` takes the packages of a folder (build/deb).
 
 Each block is run where the page says, by Debian's own apt, systemd, ssh, scp, nginx and sudo.
@@ -23,6 +24,7 @@ PEOPLE = ("ann", "ben", "carol")
 SSH = f"Host desk\n    HostName desk.example\n    User desk-relay\n{sites.QUICK}"
 OK = r"^DESK HOST OK - .*: 0 to mend [|]"
 SUDO = "sudo -l -U ann /usr/bin/id"
+ASK = "ask prod --on prod1 --as root --for 1h --why ticket OPS-7 --yes"
 
 
 class Team:
@@ -53,7 +55,7 @@ class Team:
     def holds(self, what: str, is_right: bool, found: object = "") -> None:
         self.life.holds(what, is_right, found)
 
-    def next(self, kind: str, machine: Machine | None = None, given: str = "") -> desk.Run:
+    def next(self, kind: str, machine: Machine | None = None, says_yes: bool = False) -> desk.Run:
         """The next block, which is of that kind: run, or written where the page says."""
         its_kind, block = self.blocks.pop(0)
         self.holds(f"the next block is {kind}", its_kind == kind, block)
@@ -62,7 +64,8 @@ class Team:
             return self.desk.run("true")
         self.commands += len(re.findall(r"^\S", block, re.MULTILINE))
         # (a person sees where a line fails, and does not go on)
-        return (machine or self.desk).run(f"umask 022; set -e\n{block}", given=given)
+        block = f"yes | {{\n{block}}}" if says_yes else block
+        return (machine or self.desk).run(f"umask 022; set -e\n{block}")
 
     def people(self, *words: str) -> list[desk.Run]:
         """The next block, each line of which a person types on their machine."""
@@ -125,7 +128,7 @@ def people(team: Team) -> None:
     team.holds("they sign it", all(it.returncode == 0 for it in signs), signs)
     for person in PEOPLE:
         team.desk.write(f"/root/{person}.line", team.lap.read(f"/home/{person}/{person}.line"))
-    done = team.next("sh", given="y\n" * 9)
+    done = team.next("sh", says_yes=True)
     team.holds("whose key is whose", done.stdout.count(" hold\n") == 3, done)
     _, ask, waiting, approved = team.people()
     team.holds("ann asks", "Kept as ann 1." in ask.stdout, ask)
@@ -142,11 +145,36 @@ def people(team: Team) -> None:
 def audited(team: Team) -> None:
     done = team.next("sh")
     team.holds("the audit", "ann 1  granted" in done.stdout, done)
-    done = team.next("sh", given="y\n")
+    done = team.next("sh", says_yes=True)
     team.holds("the change", "serves the new roster" in done.stdout, done)
     team.holds("no block is left", not team.blocks, team.blocks)
     found = team.host.run("systemctl start desk-fetch@prod1; desk-host check")
     team.holds("the host is as it has to be", re.search(OK, found.stdout) is not None, found)
+
+
+def signers_cannot_be_read(team: Team) -> None:
+    """The runbook of that name: nothing signed is taken, root's socket takes a revocation, and the
+    version before holds where the newest is moved away."""
+    on = team.desk
+    newest = on.out("ls -d /etc/desk/signers/*Z | tail -n 1")
+    on.run(f"cp -a {newest} /root/kept && rm {newest}/allowed_signers")
+    done = team.types("ann", f"mydesk {ASK} --again /usr/bin/id")
+    team.holds("nothing signed is taken", "K25 NoSigners" in done.stdout + done.stderr, done)
+    check = "runuser -u desk-door -g desk-front -G desk-door -- desk-door check"
+    done = on.run(check)
+    told = f"{newest}/allowed_signers cannot be read" in done.stdout + done.stderr
+    team.holds("the check says why", done.returncode != 0 and told, done)
+    revoke = f'{{"at":"{desk.stamp(time.time())}","by":"ben","kind":"revoke","no":9,"of":"ann"}}'
+    said = on.out(f"curl -sS --unix-socket /run/desk-door/root/desk.sock --data-binary '{revoke}'"
+                  " http://desk/v1/relays/chat/messages")
+    team.holds("root takes a right away", said == "ack", said)
+    on.run(f"mv {newest} /root/away")
+    done = on.run(check)
+    team.holds("the one before it holds", done.returncode == 0, done)
+    on.run(f"mv /root/kept {newest}")
+    waits = "SELECT count(*) FROM messages WHERE state = 'kept'"
+    box = f"runuser -u desk-relay -- sqlite3 /var/lib/desk-relay/outbox.db \"{waits}\""
+    team.holds("what waited is posted", on.wait(f"{box} | grep -qx 0", 60))
 
 
 def revoked(team: Team) -> None:
@@ -184,13 +212,16 @@ def watched(team: Team) -> None:
     team.holds("a timer that is off", "desk-fetch@prod1.timer does not run" in found.stderr, found)
 
 
+PARTS = (desks, hosts, people, audited, signers_cannot_be_read, revoked, watched)
+
+
 def inside(source: str) -> None:
     began = time.monotonic()
     with tempfile.TemporaryDirectory() as folder:
         site = Site(folder)
         try:
             team = Team(site, source)
-            for part in (desks, hosts, people, audited, revoked, watched):
+            for part in PARTS:
                 start = time.monotonic()
                 part(team)
                 print(f"{part.__name__}: {time.monotonic() - start:.1f} s", flush=True)
