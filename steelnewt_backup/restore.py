@@ -33,8 +33,10 @@ OURS = ("/var/lib/desk/", "/var/lib/desk-door/", "/var/lib/desk-relay/", "/etc/d
 # after the backup, and are never given again.
 LEAP, ROUND = 10_000, 1_000
 # The door notes what was filled in past it.
-BEGIN = ("setpriv", "--reuid=desk-door", "--regid=desk-front", "--groups=desk-door", "desk-door")
-BEGIN += ("begin",)
+BEGIN = (
+    "setpriv", "--reuid=desk-door", "--regid=desk-front", "--groups=desk-door",
+    "desk-door", "begin",
+)  # fmt: skip
 
 
 @dataclass(frozen=True)

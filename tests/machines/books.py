@@ -446,7 +446,7 @@ BOOKS: tuple[Callable[[Books], None], ...] = (
     an_upgrade,
     a_restore,
 )
-# behind a door: team.py; of a lost machine: tests/backup/life.py
+# (team.py runs what is behind a door, and tests/backup/life.py the lost machine)
 ELSEWHERE = ("signers_cannot_be_read", "the_machine_is_lost")
 
 
