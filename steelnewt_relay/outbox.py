@@ -9,9 +9,8 @@ import json
 import os
 import re
 import sqlite3
-import urllib.parse
 from collections.abc import Callable, Iterable, Iterator, Mapping
-from contextlib import contextmanager, suppress
+from contextlib import closing, contextmanager, suppress
 from dataclasses import dataclass, replace
 from datetime import timedelta
 from functools import lru_cache
@@ -141,6 +140,7 @@ class Outbox:
         """(`signs` is false where no door takes signatures: a desk itself takes messages alone)"""
         self.numbers, self.signs = numbers, signs
         self.path, self.reserve, self.is_reading = path, Reserve(path), False
+        self.base = sqlite3.connect(":memory:")  # (until it is open)
         try:
             self.open()
         except sqlite3.OperationalError as fault:
@@ -166,12 +166,14 @@ class Outbox:
 
     def open_to_read(self) -> None:
         """On a full disk SQLite cannot make the file that those share who have the outbox open. Then
-        nobody has: it is read without that file, and without a lock."""
-        place = f"file:{urllib.parse.quote(self.path)}?mode=ro&vfs=unix-none"
-        self.base = sqlite3.connect(place, uri=True, isolation_level=None)
-        self.base.execute("PRAGMA locking_mode = exclusive")
-        self.base.execute("SELECT count(*) FROM sqlite_master").fetchone()
+        nobody has: it is copied into memory without that file, under a lock that no other has
+        beside it, and is read there."""
+        self.base.close()
+        self.base = sqlite3.connect(":memory:", isolation_level=None)
         self.is_reading = True
+        with closing(sqlite3.connect(self.path, timeout=20, isolation_level=None)) as alone:
+            alone.execute("PRAGMA locking_mode = exclusive")
+            alone.backup(self.base)
 
     def is_made(self) -> bool:
         """Whether the file has all that the schema names."""

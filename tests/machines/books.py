@@ -116,19 +116,24 @@ def change(books: Books, text: str) -> None:
     books.life.is_state("a changed roster", "desk.service", "active, enabled")
 
 
+def goes_back(books: Books) -> None:
+    """A host takes no file of a roster that it has left, until a person says so."""
+    late = books.host.run("systemctl start desk-fetch@db1")
+    books.holds("the host does not go back by itself", late.returncode != 0, late)
+    done = books.host.run("rm /var/lib/desk-host/db1.json; systemctl start desk-fetch@db1")
+    books.holds("and then it does", done.returncode == 0, done)
+
+
 def a_roster_is_changed(books: Books) -> None:
-    """By one command, by hand, and back."""
+    """By one command, and back."""
     before = books.desk.read(ROSTER)
     changed = before.replace('["db1", "db2", "web1"]', '["db1", "db2"]', 1)
     change(books, changed)
     books.holds("the host fetches", books.host.holds("systemctl start desk-fetch@db1"))
-    books.desk.write("/root/edited", before)
-    done = books.follow("A roster is changed", 1)
-    books.holds("what changes is shown", done.returncode in (0, 1) and not done.stderr, done)
-    done = books.follow("A roster is changed", 2)
-    books.holds("rebuilt by hand", re.search("^ok", done.stdout, re.MULTILINE) is not None, done)
+    change(books, before)
     books.holds("and served", books.desk.wait(f"{ASK}/v1/count", 60))
     books.holds("it is the old one again", books.desk.read(ROSTER) == before)
+    goes_back(books)
 
 
 def day(after: int) -> str:
@@ -146,8 +151,8 @@ def moved(block: str, first: str) -> str:
 
 
 def somebody_leaves(books: Books) -> None:
-    """At once, the logins and the key; and from the last day on, the duties."""
-    before = books.desk.read(ROSTER)
+    """At once, the logins and the key; and from the last day on, the duties. (The next change of
+    the roster has them back.)"""
     at = books.host
     at.run("install -d -m 0700 -o ann /home/ann /home/ann/.ssh")
     at.write("/home/ann/.ssh/authorized_keys", books.desk.read("/root/ann.pub"))
@@ -165,12 +170,10 @@ def somebody_leaves(books: Books) -> None:
     done = books.as_person("ann", "mine")
     books.holds("and nobody calls by it", done.returncode == 255, done)
     books.does("it is given again", "desk-relay-person add ann /root/ann.pub")
-    change(books, before)
 
 
 def on_call_rotation(books: Books) -> None:
     """Whose week it is approves, and whoever had the duty before does not."""
-    before = books.desk.read(ROSTER)
     (lines,) = blocks_of(section("On-call rotation"), "toml")
     change(books, with_lines(moved(lines, "20261130")))
     number = books.number(books.as_person("ann", ASKS).stdout)
@@ -178,7 +181,7 @@ def on_call_rotation(books: Books) -> None:
     books.holds("next week's approves nothing", "It is in force from" not in done.stdout, done)
     done = books.as_person("bob", f"approve ann {number} --yes")
     books.holds("this week's approves", "It is in force from" in done.stdout, done)
-    change(books, before)
+    books.as_person("bob", f"revoke ann {number} --yes")
 
 
 def a_right_has_to_end_now(books: Books) -> None:
@@ -208,16 +211,14 @@ def people_are_told(books: Books) -> None:
 
 
 def the_desk_is_down_and_a_right_is_needed(books: Books) -> None:
-    """The line for the night is a host's, whose sudo asks nobody; and what a person starts often
-    starts."""
+    """The line for the night is a host's, whose sudo asks nobody."""
     books.desk.run("systemctl stop desk")
     block = blocks_of(section("The desk is down and a right is needed"), "sh")[0]
     done = books.host.run(block)
     books.holds("visudo takes the line", "parsed OK" in done.stdout, done)
     books.holds("the right is there", books.may("/usr/bin/systemctl restart postgresql"), done)
     books.host.run("rm /etc/sudoers.d/zz-break-glass")
-    starts = "for _ in $(seq 10); do systemctl restart desk || exit 1; done"
-    books.does("ten starts in a row", f"{starts}; systemctl is-active desk")
+    books.does("the desk is back", "systemctl start desk")
 
 
 def nobody_can_approve(books: Books) -> None:

@@ -28,7 +28,7 @@ hostname "$name"
 # The first time: a machine on which nothing is enabled, and nothing of the desk is there.
 if [ ! -e "$folder/made" ]; then
     echo "$name" > "$root/etc/hostname"
-    rm -rf "$root"/etc/systemd/system/*.wants "$root"/etc/rc?.d/S* "$root/usr/sbin/policy-rc.d" \
+    rm -rf "$root"/etc/systemd/system/*.wants "$root"/etc/rc?.d/[SK]* "$root/usr/sbin/policy-rc.d" \
         "$root"/etc/{desk,cron.d/feed-desk,machine-id} "$root"/etc/sudoers.d/desk* \
         "$root"/var/lib/{desk,desk-relay,desk-door,desk-host} "$root"/var/log/{nginx,journal}/* \
         "$root"/etc/nginx/conf.d/*
