@@ -270,7 +270,7 @@ def by_one_command(room: Room) -> None:
     room.holds("a copy by its moment", kept.returncode == 0, kept)
     room.says(heading, "To go back, give it the earlier one of `/etc/desk/rosters`")
     done = change(room, desk.read("examples", "roster.toml"))
-    room.holds("it goes back", done.returncode == 0 and "GIVEN BACK\nann 7 " in done.stdout, done)
+    room.holds("it goes back", done.returncode == 0 and "BEGINS\nann 7 " in done.stdout, done)
     room.holds("as before", room.text(f"/v1/grants/{near(0)}") == before != "", before)
     room.run("rm -r /etc/desk/rosters")
 
