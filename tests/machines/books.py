@@ -245,8 +245,8 @@ def nobody_can_approve(books: Books) -> None:
     books.holds("the key approves", "You are glass." in done.stdout, done)
     books.holds("what hosts know", "Each host has it with its next fetch" in done.stdout, done)
     books.holds("everything on the host", books.may("/usr/bin/env"), done)
-    on.wait("grep -q 'BREAK-GLASS: ann . is granted' /tmp/mails", 60)
-    rung = on.out("cat /tmp/mails")
+    on.wait(f"grep -q 'BREAK-GLASS: ann .* is granted' {sites.MAILS}", 60)
+    rung = on.out(f"cat {sites.MAILS}")
     books.holds("the bells", all(f"{it}@site" in rung for it in ("robert", "dave", "ann")), rung)
     done = books.follow(heading, 3, agent)
     books.holds("it ends", not books.may("/usr/bin/env"), done)
@@ -373,7 +373,9 @@ def the_disk_is_full(books: Books) -> None:
     books.holds("what is seen", "100%" in done.stdout, done)
     on.run("systemctl restart desk-relay-post")
     ends_on_a_full_disk(books, number, "one disk")
+    # (whichever of the two reserves was given up)
     watch = "/usr/lib/nagios/plugins/check_desk --outbox /var/lib/desk-relay/outbox.db"
+    watch += " --store /var/lib/desk/desk.db"
     found = on.run(watch)
     told = found.returncode == 2 and "refusals and revocations alone" in found.stdout
     books.holds("check_desk sees it", told, found)

@@ -21,6 +21,7 @@ HERE = os.path.dirname(os.path.abspath(__file__))
 PATIENCE = 300  # the seconds after which something hangs: the machine may be busy
 PATH = "/usr/local/sbin:/usr/local/bin:/usr/sbin:/usr/bin:/sbin:/bin"
 BRIDGE = "site"
+SOON = 20  # the seconds in which what was killed ends
 CALLED = "called"  # the control group of what is run in a machine from outside
 SPACES = ["--mount", "--pid", "--net", "--uts", "--ipc", "--cgroup"]
 UNATTENDED = """APT::Get::Assume-Yes "true";
@@ -209,10 +210,14 @@ class Machine:
             self.process.kill()
             self.process.wait()
             self.process = None
-        self.remove_group()
+        until = time.monotonic() + SOON
+        while not self.remove_group() and time.monotonic() < until:
+            time.sleep(0.1)
 
-    def remove_group(self) -> None:
-        """Takes the control groups of the last boot away."""
+    def remove_group(self) -> bool:
+        """Takes the control groups of the last boot away; whether they are gone, for what is killed
+        in them ends a little later."""
         for place, _, _ in os.walk(self.group, topdown=False):
             with contextlib.suppress(OSError):
                 os.rmdir(place)
+        return not os.path.exists(self.group)

@@ -14,8 +14,9 @@ from tests.machines.machine import Machine, Site
 
 DEBS = "/root/new"
 QUICK = "    StrictHostKeyChecking accept-new\n    ConnectionAttempts 20\n"
-# a person's mailbox: nobody sends mail from here
-SENDMAIL = "#!/bin/sh\numask 0\ncat >> /tmp/mails\n"
+# a person's mailbox: nobody sends mail from here (and the unit that tells people has its own /tmp)
+MAILS = "/var/lib/desk-relay/mails"
+SENDMAIL = f"#!/bin/sh\ncat >> {MAILS}\n"
 # whoever edits a file has written the new text before
 EDITOR = '#!/bin/sh\ncp /root/edited "$1"\n'
 
