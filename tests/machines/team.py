@@ -158,7 +158,7 @@ def signers_cannot_be_read(team: Team) -> None:
     on = team.desk
     newest = on.out("ls -d /etc/desk/signers/*Z | tail -n 1")
     on.run(f"cp -a {newest} /root/kept && rm {newest}/allowed_signers")
-    done = team.types("ann", f"mydesk {ASK} --again /usr/bin/id")
+    done = team.types("ann", f"mydesk {ASK} /usr/bin/id")
     team.holds("nothing signed is taken", "K25 NoSigners" in done.stdout + done.stderr, done)
     check = "runuser -u desk-door -g desk-front -G desk-door -- desk-door check"
     done = on.run(check)
