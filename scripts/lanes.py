@@ -195,9 +195,10 @@ class Lanes:
         return 0.0
 
     def rest(self, name: str) -> float:
-        """About the minutes that a part that runs still takes."""
+        """About the minutes that a part that runs still takes. One that is late takes some more,
+        the more the later it is: so short parts may pass while it goes on."""
         lasted = (time.monotonic() - self.running[name].begun) / 60
-        return max(0.0, self.known[name] - lasted)
+        return max(self.known[name] - lasted, lasted / 4)
 
     def fills(self, part: Part) -> int:
         return min(part.cores, self.lanes)

@@ -195,8 +195,27 @@ def passing(count: Count) -> None:
         parts = [it._replace(minutes=lasts[it.name]) for it in parts]
         said = ran(parts, 2)[1]
     ended = [it.split()[3] for it in said.splitlines() if it.startswith("(")]
-    count.same("the order of their ends", ended[:3], ["first", "short", "slow"])
+    count.holds("a short one passes", ended.index("short") < ended.index("wide"), ended)
     count.holds("none that is longer passes", ended.index("wide") < ended.index("long"), ended)
+
+
+def passing_late(count: Count) -> None:
+    """The same where the part that holds the other lane takes longer than it last took."""
+    with tempfile.TemporaryDirectory() as folder:
+        over = os.path.join(folder, "over")
+        waits = f"bash -c 'for _ in $(seq 300); do [ -e {over} ] && break; sleep 0.1; done'"
+        parts = [
+            Part("first", "sleep 3"),
+            Part("slow", waits),
+            Part("wide", WELL, cores=2, after="first"),
+            Part("short", f"touch {over}", after="first"),
+        ]
+        known = {"first": 0.05, "slow": 0.04, "wide": 0.03, "short": 0.01}
+        said: list[str] = []
+        Lanes(parts, 2, folder, known=known, say=said.append).run()
+    ended = [it.split()[3] for it in "".join(said).splitlines() if it.startswith("(")]
+    is_right = ended.index("short") < ended.index("wide")
+    count.holds("a short one passes one that waits for one that is late", is_right, ended)
 
 
 def apart(count: Count) -> None:
@@ -289,7 +308,7 @@ def ends(count: Count) -> None:
 
 def main() -> int:
     count = Count()
-    for part in (faults, order, side_by_side, passing, apart, planted, ends):
+    for part in (faults, order, side_by_side, passing, passing_late, apart, planted, ends):
         begun = time.monotonic()
         part(count)
         print(f"{part.__name__}: {time.monotonic() - begun:.1f} seconds", flush=True)

@@ -2,6 +2,7 @@
 
 from __future__ import annotations
 
+import calendar
 import contextlib
 import json
 import os
@@ -22,6 +23,13 @@ OTHER_ROSTER, OTHER_BASE = "c" * 64, "d" * 64
 UNFIT = 3
 
 BOB = b"bob ALL = (root) ALL\n"
+# desk-host under a clock of that second (by `faketime`, what Python waits for fails at times)
+CLOCK = """\
+import runpy, sys, time
+time.time = lambda: {}
+sys.argv[0] = "/usr/sbin/desk-host"
+runpy.run_path(sys.argv[0], run_name="__main__")
+"""
 # replies to the question for the file that a host must not take
 REPLIES = {
     "a 201": reply(b"", "201 Created"),
@@ -416,9 +424,9 @@ def odd_clock(host: Host) -> None:
 
     for year in (1969, 2105):
         begin(host)
-        clock = ("env", "FAKETIME_DONT_FAKE_MONOTONIC=1", "faketime", f"{year}-06-01 12:00:00")
+        clock = CLOCK.format(calendar.timegm((year, 6, 1, 12, 0, 0)))
         with serving(host, lambda path: of_a_host(file_of(path), counted(1))(path)):
-            ran = host.run(*clock, "desk-host", "fetch", "db1")
+            ran = host.run("/usr/bin/python3", "-c", clock, "fetch", "db1")
         is_taken = ran.returncode == 0 and host.held() == MORE
         host.check(f"the file is taken in {year}", is_taken, ran.stdout)
         is_told = f"this host's clock shows the year {year}: set it" in ran.stdout
