@@ -35,6 +35,31 @@ def objections(roster: Roster, person: str, wish: Wish, at: datetime) -> list[st
     return found
 
 
+def lacking(roster: Roster, person: str, wish: Wish, at: datetime) -> str:
+    """Why too few people may approve a request as long as its window lasts; empty where enough
+    may. (One approval of each is counted, on whichever day they hold the duty.)"""
+    ceiling = roster.ceilings.get(wish.ceiling)
+    if ceiling is None:
+        return ""
+    may: set[str] = set()
+    day, ends = at, of_stamp(wish.ends)
+    while len(may) < ceiling.needs and day.date() <= ends.date():
+        may |= set(roster.approvers(person, wish.ceiling, day))
+        day += timedelta(days=1)
+    if len(may) >= ceiling.needs:
+        return ""
+    who = f"only {', '.join(sorted(may))} may" if may else "nobody may"
+    many = "1 approval" if ceiling.needs == 1 else f"approvals of {ceiling.needs} people"
+    return f"it needs {many}, and {who} approve it for {person} until it ends"
+
+
+def surely_refused(roster: Roster, person: str, wish: Wish, at: datetime) -> list[str]:
+    """Why a request cannot be granted, whoever says yes to it; empty where it can."""
+    found = objections(roster, person, wish, at)
+    few = "" if found else lacking(roster, person, wish, at)
+    return [*found, *([few] if few else [])]
+
+
 def listed(words: list[str] | tuple[str, ...]) -> str:
     return f"it may be {', '.join(words)}" if words else "there is none for you"
 
