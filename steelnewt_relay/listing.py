@@ -102,9 +102,9 @@ def row_of(standing: Standing, call: Call, at: datetime) -> list[str]:
 def state_of(standing: Standing, call: Call, at: datetime) -> str:
     """What a request needs, or what became of it, in a few words."""
     if standing.state is State.OBJECTED:
-        return f"{telling.DONE[standing.objections()[0].verdict.kind]}"
+        return telling.DONE[standing.objections()[0].verdict.kind]
     if standing.state is not State.WAITING:
-        return standing.state.value.partition(":")[0]
+        return str(standing.state.value).partition(":")[0]
     ceiling = call.roster.ceilings.get(standing.request.wish.ceiling)
     given = {it.verdict.by for it in standing.approvals()}
     needs = f"needs {max(1, ceiling.needs - len(given))}" if ceiling else "waits"

@@ -1,5 +1,5 @@
-"""What a person means by a host's short name or pattern, and under which ceiling they ask where they
-name none. The desk's message has the whole names, which are shown before a yes."""
+"""What a person means by a host's short name or pattern, and under which ceiling they ask where
+they name none. The desk's message has the whole names, which are shown before a yes."""
 
 import argparse
 import fnmatch

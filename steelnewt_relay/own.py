@@ -49,8 +49,11 @@ class Own:
         return bool(first) and first <= day <= last
 
     def save(self, person: str, name: str, message: int) -> None:
-        self.base.execute("INSERT OR REPLACE INTO templates VALUES (?, ?, ?)", (person, name, message))
+        row = (person, name, message)
+        self.base.execute("INSERT OR REPLACE INTO templates VALUES (?, ?, ?)", row)
 
     def names(self, person: str) -> list[str]:
-        rows = self.base.execute("SELECT name FROM templates WHERE person = ? ORDER BY name", (person,))
+        rows = self.base.execute(
+            "SELECT name FROM templates WHERE person = ? ORDER BY name", (person,)
+        )
         return [name for (name,) in rows]

@@ -96,7 +96,12 @@ def again_of(call: Call) -> tuple[Wish, Reason]:
 
 
 def saved(call: Call) -> int:
-    """Asks for what a person saved under a name, on other hosts if they say so."""
+    """Asks for what a person saved under a name."""
+    return send(call, *saved_of(call), True)
+
+
+def saved_of(call: Call) -> tuple[Wish, Reason]:
+    """What a person saved under a name, on other hosts if they say so."""
     kept = call.outbox.template(call.person, call.said.name)
     if kept is None:
         names = call.outbox.own.names(call.person)
@@ -111,7 +116,7 @@ def saved(call: Call) -> int:
         hosts = hosts_of(typed_hosts(call.said), ceiling.hosts if ceiling else wish.hosts)
         window = (wish.begins, wish.ends)
         wish = Wish.of(wish.ceiling, hosts, wish.runas, wish.commands, window)
-    return send(call, wish, reason, True)
+    return wish, reason
 
 
 def renewed(call: Call, old: Kept) -> tuple[Wish, Reason]:

@@ -15,7 +15,7 @@ from steelnewt_relay.admission import surely_refused
 from steelnewt_relay.posting import post_one
 from steelnewt_relay.reasons import NONE, Reason
 from steelnewt_relay.call import DONE
-from steelnewt_relay.sending import again_of, asked_of, told_request, told_verdict
+from steelnewt_relay.sending import again_of, asked_of, saved_of, told_request, told_verdict
 
 if TYPE_CHECKING:
     from steelnewt_client.messages import Wish
@@ -104,7 +104,8 @@ def prepare(call: Call) -> int:
         names = call.said.names
         told([prepare_verdict(call, call.said.command, *it) for it in names])
     else:
-        wish, reason = again_of(call) if call.said.command == "again" else asked_of(call)
+        ways = {"again": again_of, "saved": saved_of, "ask": asked_of}
+        wish, reason = ways[call.said.command](call)
         told([prepare_request(call, wish, reason)])
     return DONE
 

@@ -114,7 +114,8 @@ def answer(config: Config, caller: Caller, line: str) -> int:
     except Gone as why:
         return complain(f"Nothing was sent: {why}. Ask the operator.", REFUSED)
     except sqlite3.Error as fault:
-        return complain(f"Nothing was sent: what is kept here fails: {fault}. Tell the operator.", REFUSED)
+        why = f"what is kept here fails: {fault}"
+        return complain(f"Nothing was sent: {why}. Tell the operator.", REFUSED)
     except BadTime as fault:
         return complain(f"Nothing was sent: {fault}.", REFUSED)
     except (BadWords, BadWord, BadRoster, OutOfNumbers) as fault:

@@ -4,7 +4,7 @@ from __future__ import annotations
 
 import time
 
-from steelnewt_client.messages import BadWord, Wish
+from steelnewt_client.messages import BadWord, Wish, number_of
 from steelnewt_client.moments import now
 from steelnewt_relay import telling
 from steelnewt_relay.call import DONE, KEPT, NOT_SENT, Call, Late, admit
@@ -13,7 +13,7 @@ from steelnewt_relay.outbox import Kept
 from steelnewt_relay.standing import Standing, State
 from steelnewt_relay.summary import by_reach, few
 from steelnewt_relay.woken import Woken
-from steelnewt_relay.words import number_of, unescaped
+from steelnewt_relay.words import unescaped
 
 EVERY = 3.0  # seconds between two looks
 OPEN = (State.WAITING, State.KEPT, State.UNKNOWN)

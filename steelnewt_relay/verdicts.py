@@ -13,7 +13,7 @@ from steelnewt_relay.posting import post_one
 from steelnewt_relay.reasons import Reason
 from steelnewt_relay.sending import told_verdict
 from steelnewt_relay.standing import Knowledge, Standing, State
-from steelnewt_relay.summary import headline, left_of_window, summed_up
+from steelnewt_relay.summary import left_of_window, summed_up
 
 Name = tuple[str, int]
 
@@ -92,8 +92,7 @@ def show_request(
         return
     if kind == "approve":
         telling.approvable(standing.kept)
-    call.say_strong(headline(of, standing.request.wish, standing.kept.reason))
-    call.say(f"{of} {no}")
+    call.say_strong(f"{of} {no}")
     call.say_lines(telling.brief_lines(standing.kept, call.zone))
     call.say(telling.fate(standing, call.zone, call.roster, now()))
     if standing.state is State.WAITING and (left := left_of_window(standing.request.wish, now())):

@@ -4,6 +4,7 @@ import json
 import sqlite3
 from collections.abc import Iterable
 from datetime import datetime, timedelta
+from typing import Any
 
 from steelnewt_client.moments import of_stamp, stamp
 from steelnewt_relay.outbox import Outbox
@@ -25,11 +26,8 @@ class Woken:
 
     def calls(self, message: int) -> list[tuple[str, datetime]]:
         """Who was told to act on a request, and when; the first ones first."""
-        return [
-            (person, of_stamp(it["at"]))
-            for it in self.notices([message], CALLS)
-            for person in it["to"]
-        ]
+        found = self.notices([message], CALLS)
+        return [(person, of_stamp(str(it["at"]))) for it in found for person in it["to"]]
 
     def left(self, standing: Standing) -> set[str]:
         """Who was told to act and has not heard that nothing is left to do."""
@@ -42,7 +40,7 @@ class Woken:
         rows = self.base.execute(LATE, (stamp(now - patience), stamp(now)))
         return [message for (message,) in rows]
 
-    def notices(self, messages: Iterable[int], kinds: tuple[str, ...]) -> list[dict[str, list[str]]]:
+    def notices(self, messages: Iterable[int], kinds: tuple[str, ...]) -> list[dict[str, Any]]:
         places = ", ".join("?" * len(kinds))
         try:
             rows = self.base.execute(

@@ -8,9 +8,8 @@ import shlex
 from datetime import datetime, tzinfo
 from typing import NoReturn
 
-from steelnewt_client.messages import VERDICTS, BadWord, Wish, checked, command_of, number_of
+from steelnewt_client.messages import VERDICTS, BadWord, checked, command_of, number_of
 from steelnewt_client.moments import stamp
-from steelnewt_client.names import is_label
 from steelnewt_client.signed import MOST_LISTED
 from steelnewt_relay.moments import length_of, moment_of
 from steelnewt_relay.typed import BadWords as BadWords
@@ -99,9 +98,7 @@ def parser() -> Parser:
     return main
 
 
-def add_asking(
-    commands: "argparse._SubParsersAction[Parser]", common: argparse.ArgumentParser
-) -> None:
+def add_asking(commands: "argparse._SubParsersAction[Parser]", common: Parser) -> None:
     """`ask`, by all its words or by a name of one's own, and what asks the same again."""
     ask = commands.add_parser("ask", parents=[common])
     ask.add_argument("ceiling", nargs="?")
@@ -171,7 +168,8 @@ def parse(line: str) -> argparse.Namespace:
     elif first == "withdraw":
         said.names = [number for it in said.names for number in numbers_of(it)]
     elif first in ("show", "let"):
-        [(said.of, said.no)] = names_of(said.names) if len(said.names) == 2 else [(None, None)]
+        found = names_of(said.names) if len(said.names) == 2 else []
+        said.of, said.no = found[0] if found else (None, None)
     if first == "again" and said.no is not None:
         said.no = number_of(said.no)
     if first == "history":

@@ -44,13 +44,13 @@ def test_a_grants_life(signing: Doored) -> None:
     said = ann.run(*ASK[:-1], "--why", "disk", ASK[-1])
     assert "ann as root on db1: 1 command, /usr/bin/id first, 15 minutes" in said
     name = " ".join(named(signing))
-    assert f"Kept as {name}." in said and f"To approve it they write: approve {name}" in said
+    assert f"Kept as {name}." in said and f"To approve it they write: mydesk approve {name}" in said
     said = bob.run("approve", *named(signing))
     assert "why       | disk" in said and "may run   /usr/bin/id" in said
-    assert "The desk acknowledged that you approved it." in said
+    assert "The desk has your approval." in said
     assert signing.in_force()
     said = bob.run("revoke", *named(signing))
-    assert "The desk acknowledged that you revoked it." in said
+    assert "The desk has your revocation." in said
     rows = signing.came()
     assert [it["how"] for it in rows] == ["signed"] * 3
     assert rows[0]["why"] == rows[1]["why"] == reason_digest("disk", "")
@@ -330,7 +330,7 @@ def test_a_sealed_key(signing: Doored) -> None:
     asks = script(carol.home / "asks", f"echo {words}")
     more = {"SSH_ASKPASS": asks, "SSH_ASKPASS_REQUIRE": "force"}
     said = carol.run("revoke", *named(signing), status=0, **more)
-    assert "The desk acknowledged that you revoked it." in said
+    assert "The desk has your revocation." in said
     more["SSH_ASKPASS"] = script(carol.home / "asks-else", "echo no")
     assert "did not sign it" in carol.run("revoke", *named(signing, 2), status=2, **more)
     sealed.unlink()
