@@ -69,6 +69,56 @@ def test_several_with_one_signature(signing: Doored) -> None:
     assert "there twice" in bob.run("revoke", *named(signing), *named(signing), status=2)
 
 
+def test_several_by_a_span_and_a_reason_that_is_signed(signing: Doored) -> None:
+    """A refusal's own reason is signed as a request's is; an approval is over the request's."""
+    ann, bob = Person(signing, "ann"), Person(signing, "bob")
+    for _ in range(3):
+        ann.run(*ASK)
+    first, last = named(signing, 1)[1], named(signing, 3)[1]
+    said = bob.run("refuse", "ann", f"{first}-{last}", "--why", "not now, see OPS-9")
+    assert said.count("| not now, see OPS-9") == 3 and "Sign these 3 as bob" in said
+    rows = [it for it in signing.came() if '"refuse"' in it["message"]]
+    assert {it["why"] for it in rows} == {reason_digest("not now, see OPS-9", "")}
+    found = signing.site.data("ann", "mine")
+    assert isinstance(found, list)
+    assert {it["verdicts"][0]["why"] for it in found} == {"not now, see OPS-9"}
+    assert "leave --why" in bob.run("approve", "ann", first, "--why", "yes", status=2)
+    lying(signing, bob, 'told["why"] = "all is well"')
+    said = bob.run("refuse", "ann", first, "--why", "not now", status=2)
+    assert "another reason than you typed" in said
+
+
+def test_the_words_of_the_night(signing: Doored) -> None:
+    """What the relay chooses is shown; what is typed is what is signed."""
+    ann = Person(signing, "ann")
+    said = ann.run("ask", "/usr/bin/id", "--on", "db*", "--for", "9m", "--why", "disk of /var full")
+    assert "on        db1" in said and "on        db2" in said and "under     db-care" in said
+    said = ann.run("ask", "db-care", "--on", "db1", "--for", "8m", "--why", "disk /var", "--",
+                   "/usr/bin/id", "--why", "x")  # fmt: skip
+    assert "may run   /usr/bin/id --why x" in said and "| disk /var" in said
+    assert "an option of yours" in ann.run("ask", "db-care", "--on", "db1", "--for", "8m",
+                                           "/usr/bin/id", "--why", "x", status=2)  # fmt: skip
+    assert "db9 is outside db-care" in ann.run(*[*ASK[:3], "db9", *ASK[4:]], status=2)
+    ann.run("save", "pg", named(signing, 1)[1])
+    assert "Kept as ann" in ann.run("ask", "pg")
+    assert "The desk has your revocation." in ann.run("withdraw", named(signing, 1)[1])
+
+
+def test_at_a_terminal(signing: Doored) -> None:
+    """ssh has a terminal where the person has one, and data are never mixed with words."""
+    ann = Person(signing, "ann")
+    (ann.home / ".config" / "mydesk").write_text("desk = desk\n")
+    (ann.home / "bin" / "ssh").write_text('#!/bin/sh\necho "$TERM" "$@"\n')
+    for words, way in (((), "-t"), (("mine",), "-t"), (("mine", "--json"), "-T")):
+        assert ann.typed(*words).startswith(f"dumb {way} -- desk"), words
+    assert ann.run("mine").startswith("dumb -T -- desk mine")
+
+
+def test_completions_ask_the_relay(signing: Doored) -> None:
+    ann = Person(signing, "ann")
+    assert ann.run("complete", "ask", "db-care", "--on", "").split() == ["all", "db1", "db2"]
+
+
 def test_where_the_site_signs_nothing(signing: Doored) -> None:
     """Then it is ssh, with each word as it was typed, and nothing raw."""
     ann = Person(signing, "ann")
