@@ -152,8 +152,8 @@ def test_a_verdict_has_a_reason(site: Site) -> None:
     assert said(site, "bob", f"refuse ann {site.no()} --yes --why not now, see OPS-9")[0] == 0
     told = said(site, "ann", f"show ann {site.no()}")[1]
     assert "bob refused it" in told and "why       | not now, see OPS-9" in told, told
-    [found] = site.data("ann", "mine")  # type: ignore[misc]
-    assert found["verdicts"][0]["why"] == "not now, see OPS-9"
+    [found] = data(site, "ann", "mine")
+    assert found["verdicts"][0]["why"] == "not now, see OPS-9"  # type: ignore[index]
     status, told = said(site, "bob", f"refuse ann {site.no()} --yes --again --why {'x' * 501}")
     assert status == 2 and "at most 500" in told
 
@@ -182,7 +182,8 @@ def test_a_grant_is_extended_from_its_end(quiet_site: Site) -> None:
 def test_what_too_few_may_approve_is_not_sent(quiet_site: Site) -> None:
     """carol may not approve her own, and bob alone is not two."""
     status, told = said(quiet_site, "carol", f"{NIGHT} --yes ALL")
-    assert status == 2 and "only bob may approve it for carol" in told, told
+    assert status == 2 and "This cannot be granted: it needs approvals of 2" in told, told
+    assert "only bob may approve it for carol" in told, told
     assert said(quiet_site, "carol", f"{NIGHT} --yes --anyway ALL")[0] == 3
     assert said(quiet_site, "ann", f"{NIGHT} --yes ALL")[0] == 3
 
@@ -277,7 +278,7 @@ def test_each_person_has_a_zone(quiet_site: Site) -> None:
     assert "CE" in said(quiet_site, "ann", "show ann 1")[1]
     assert said(quiet_site, "ann", "set zone America/New_York")[0] == 0
     assert re.search(r" E[SD]T\)", said(quiet_site, "ann", "show ann 1")[1])
-    assert re.search(r"until \d\d:\d\d( \w+ \d+ \w+)? E[SD]T", said(quiet_site, "ann", "mine")[1])
+    assert re.search(r"until (\w+ )?\d\d:\d\d E[SD]T", said(quiet_site, "ann", "mine")[1])
     assert "no time zone" in said(quiet_site, "ann", "set zone Mars")[1]
     assert said(quiet_site, "ann", "set zone none")[0] == 0
 
@@ -330,8 +331,9 @@ def test_a_ticket_is_spelled_as_the_sites(quiet_site: Site) -> None:
 def test_who_asks_withdraws(site: Site) -> None:
     asks(site)
     assert said(site, "ann", f"withdraw {site.no()} --yes --why found it")[0] == 0
-    [found] = site.data("ann", "mine")  # type: ignore[misc]
-    assert found["state"] == "objected" and found["verdicts"][0]["why"] == "found it"
+    [found] = data(site, "ann", "mine")
+    assert found["state"] == "objected"
+    assert found["verdicts"][0]["why"] == "found it"  # type: ignore[index]
 
 
 def test_a_name_of_ones_own(quiet_site: Site) -> None:
