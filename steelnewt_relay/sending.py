@@ -180,7 +180,8 @@ def send(
     """Shows what is asked for, keeps it, posts it, and says what became of it."""
     call.say_strong(f"{call.person} asks")
     call.say_lines(telling.asked_lines(wish, reason, call.zone))
-    if is_hopeless(call, wish):
+    is_repeat = once is not None and call.outbox.same(call.person, once) is not None
+    if not is_repeat and is_hopeless(call, wish):
         return REFUSED
     if not once and not is_meant and (old := same_wish(call, wish)):
         call.say(f"You asked for the same just now, as {old.name}.")
