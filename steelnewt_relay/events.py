@@ -100,6 +100,12 @@ class Finder:
             raise Silent(self.knowledge.trouble)
         return found
 
+    def is_under_way(self, kept: Kept) -> bool:
+        """Whether a verdict on a request was sent whose answer is not noted yet: what it brought is
+        told then, as its author's doing."""
+        verdicts = self.knowledge.outbox.verdicts(kept.request.by, kept.request.no)
+        return any(it.state == "kept" for it in verdicts)
+
     def of_grant(self, kept: Kept) -> Event:
         standing = self.standing(kept)
         return self.event("granted", kept, standing, f"{standing.name} is granted.")
@@ -197,7 +203,7 @@ class Finder:
         return [it for it in may if not standing.is_approved_by(it)]
 
     def awake(self, people: list[str]) -> list[str]:
-        """These people without those who are away; everybody, where nobody is left."""
+        """Those people who are not away; all people, if nobody else is left."""
         now, zone = self.knowledge.now, self.manner.zone
         return [it for it in people if not self.own.is_away(it, now, zone)] or people
 

@@ -148,7 +148,8 @@ def find(notices: Notices, finder: Finder) -> Iterator[Event]:
         yield finder.of_late(kept)
     for grant in knowledge.live():
         request = knowledge.asked_here(grant)
-        if request and notices.is_new(request) and not notices.has(request, "granted"):
+        is_untold = request and notices.is_new(request) and not notices.has(request, "granted")
+        if request and is_untold and not finder.is_under_way(request):
             yield finder.of_grant(request)
         if request and finder.is_ending(grant) and not notices.has(request, "ends-soon"):
             yield finder.of_end(grant, request)
