@@ -41,6 +41,7 @@ CREATE TABLE IF NOT EXISTS notices (
     UNIQUE (message, kind)
 ) STRICT;
 CREATE INDEX IF NOT EXISTS due_notices ON notices (state) WHERE state = 'due';
+CREATE INDEX IF NOT EXISTS open_calls ON notices (body ->> '$.until') WHERE kind = 'asked';
 CREATE TABLE IF NOT EXISTS told_from (
     one INTEGER PRIMARY KEY CHECK (one = 1), message INTEGER NOT NULL
 ) STRICT;

@@ -16,6 +16,7 @@ import pytest
 from relays.tests.site import PATIENCE, Site
 from relays.tests.test_asks import brought, wish
 from relays.tests.test_fuzz import answer
+from relays.tests.test_reasons import exported
 from steelnewt_client.messages import Wish
 from steelnewt_client.moments import now, stamp
 from steelnewt_relay.config import read_config
@@ -154,7 +155,9 @@ def test_a_verdict_has_a_reason(site: Site) -> None:
     told = said(site, "ann", f"show ann {site.no()}")[1]
     assert "bob refused it" in told and "why       | not now, see OPS-9" in told, told
     [found] = data(site, "ann", "mine")
-    assert found["verdicts"][0]["why"] == "not now, see OPS-9"  # type: ignore[index]
+    why = "not now, see OPS-9"
+    assert found["verdicts"][0]["why"] == why  # type: ignore[index]
+    assert [it["why"] for it in exported(site) if it.get("kind") == "refuse"] == [why]
     status, told = said(site, "bob", f"refuse ann {site.no()} --yes --again --why {'x' * 501}")
     assert status == 2 and "at most 500" in told
 
