@@ -100,12 +100,6 @@ class Finder:
             raise Silent(self.knowledge.trouble)
         return found
 
-    def is_under_way(self, kept: Kept) -> bool:
-        """Whether a verdict on a request was sent whose answer is not noted yet: what it brought is
-        told then, as its author's doing."""
-        verdicts = self.knowledge.outbox.verdicts(kept.request.by, kept.request.no)
-        return any(it.state == "kept" for it in verdicts)
-
     def of_grant(self, kept: Kept) -> Event:
         standing = self.standing(kept)
         return self.event("granted", kept, standing, f"{standing.name} is granted.")

@@ -28,10 +28,7 @@ if TYPE_CHECKING:
     from steelnewt_relay.call import Call
 
 Item = dict[str, object]
-SIGN = (
-    "this site takes signed messages alone: write mydesk in place of ssh and the relay's name"
-    " (man mydesk)"
-)
+SIGN = "this site takes signed messages alone: write mydesk in place of ssh desk (man mydesk)"
 
 
 def item(text: str, request: str | None, reason: Reason, notes: list[str]) -> Item:
