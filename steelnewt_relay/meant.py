@@ -71,8 +71,8 @@ def runas_of(said: argparse.Namespace, ceiling: Ceiling | None) -> str:
 def fitting(
     said: argparse.Namespace, roster: Roster, person: str, window: tuple[str, str], at: datetime
 ) -> Wish:
-    """The wish under the ceiling that covers it and needs the fewest approvals; if two do, under the
-    narrower one."""
+    """The wish under the ceiling that covers it and needs the fewest approvals; if two do, under
+    the narrower one."""
     tried: list[tuple[int, int, str, Wish, list[str]]] = []
     for ceiling in roster.may_ask(person, at):
         try:
