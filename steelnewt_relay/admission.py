@@ -1,38 +1,74 @@
-"""What the desk would refuse of a request, by the roster that this relay reads: said before a
-person says yes. The desk decides all the same, and its roster may be another by then."""
+"""What cannot be granted of a request, by the roster that this relay reads: said before a person says
+yes. The desk decides all the same, and its roster may be another by then."""
 
 from datetime import datetime, timedelta
+from typing import NamedTuple
 
 from steelnewt_client.messages import Wish
 from steelnewt_client.moments import of_stamp
 from steelnewt_relay.moments import spoken
-from steelnewt_relay.roster import Roster
+from steelnewt_relay.roster import Ceiling, Roster
+
+
+class Fault(NamedTuple):
+    """What is wrong with a word of a request, by the name of that word, with what would do."""
+
+    field: str
+    text: str
+
+
+def faults(roster: Roster, person: str, wish: Wish, at: datetime) -> list[Fault]:
+    """Why a request can never be granted: the desk refuses it, or too few may approve it."""
+    refused = refusals(roster, person, wish, at)
+    lack = "" if refused else too_few(roster, person, wish, at)
+    return [*refused, Fault("ceiling", lack)] if lack else refused
+
+
+def too_few(roster: Roster, person: str, wish: Wish, at: datetime) -> str:
+    """Why a request cannot get its approvals, on any of its days; empty where it can."""
+    ceiling, last = roster.ceilings[wish.ceiling], of_stamp(wish.ends)
+    days = [at + timedelta(days=it) for it in range(max(0, (last.date() - at.date()).days) + 1)]
+    may = sorted({it for day in days for it in roster.approvers(person, ceiling.label, day)})
+    if len(may) >= ceiling.needs:
+        return ""
+    who = f"only {', '.join(may)} may approve it for you" if may else "nobody may approve it for you"
+    people = "1 person" if ceiling.needs == 1 else f"{ceiling.needs} people"
+    return f"{ceiling.label} needs the approval of {people}, and {who}"
 
 
 def objections(roster: Roster, person: str, wish: Wish, at: datetime) -> list[str]:
-    """What is wrong with a request, each with what would do."""
+    """What the desk would refuse of a request, each with what would do."""
+    return [it.text for it in refusals(roster, person, wish, at)]
+
+
+def refusals(roster: Roster, person: str, wish: Wish, at: datetime) -> list[Fault]:
     if person not in roster.people:
-        return ["your name is not in the roster"]
+        return [Fault("ceiling", "your name is not in the roster")]
     ceiling = roster.ceilings.get(wish.ceiling)
     if ceiling is None:
         labels = [it.label for it in roster.may_ask(person, at)]
-        return [f"the roster has no ceiling {wish.ceiling}: {listed(labels)}"]
+        return [Fault("ceiling", f"the roster has no ceiling {wish.ceiling}: {listed(labels)}")]
     found = []
     if not roster.holds(person, ceiling.ask, at):
-        found.append(f"you do not hold the duty {ceiling.ask}, which {ceiling.label} needs")
-    if outside := [it for it in wish.hosts if it not in ceiling.hosts]:
-        found.append(f"{', '.join(outside)} is outside {ceiling.label}: {listed(ceiling.hosts)}")
-    if wish.runas not in ceiling.runas:
-        found.append(f"{wish.runas} is outside {ceiling.label}: {listed(ceiling.runas)}")
-    found += [
-        f"{it} is outside {ceiling.label}: {listed(ceiling.commands)}"
-        for it in wish.commands
-        if not any(lies_inside(it, wide) for wide in ceiling.commands)
-    ]
+        text = f"you do not hold the duty {ceiling.ask}, which {ceiling.label} needs"
+        found.append(Fault("ceiling", text))
+    found += outside("hosts", wish.hosts, ceiling.hosts, ceiling)
+    found += outside("runas", (wish.runas,), ceiling.runas, ceiling)
+    far = [it for it in wish.commands if not any(lies_inside(it, to) for to in ceiling.commands)]
+    found += [it for each in far for it in outside("commands", (each,), ceiling.commands, ceiling)]
     if of_stamp(wish.ends) - of_stamp(wish.begins) > timedelta(seconds=ceiling.longest):
         longest = spoken(timedelta(seconds=ceiling.longest))
-        found.append(f"{ceiling.label} gives at most {longest}")
+        found.append(Fault("length", f"{ceiling.label} gives at most {longest}"))
     return found
+
+
+def outside(
+    field: str, asked: tuple[str, ...], given: tuple[str, ...], ceiling: Ceiling
+) -> list[Fault]:
+    """The words of a request that a ceiling does not have."""
+    far = [it for it in asked if it not in given]
+    text = f"{', '.join(far)} is outside {ceiling.label}: {listed(given)}"
+    return [Fault(field, text)] if far else []
 
 
 def listed(words: list[str] | tuple[str, ...]) -> str:
