@@ -17,7 +17,7 @@ from functools import lru_cache
 from steelnewt_client.messages import BadWord, Request, Verdict, Wish, measured, read
 from steelnewt_client.moments import of_stamp, stamp
 from steelnewt_client.signed import Signed, reason_digest
-from steelnewt_relay.reasons import NONE, Reason
+from steelnewt_relay.reasons import NONE, Reason, Reasons
 
 SCHEMA = """
 CREATE TABLE IF NOT EXISTS messages (
@@ -127,6 +127,7 @@ class Outbox:
         self.base = sqlite3.connect(path, timeout=20, isolation_level=None)
         self.base.execute("PRAGMA journal_mode = wal")
         self.base.execute("PRAGMA synchronous = full")
+        self.reasons = Reasons(self.base)
         # (whoever only looks at what is kept waits for nobody who writes)
         if not self.is_made():
             with self.writing():
@@ -171,9 +172,7 @@ class Outbox:
             kept = self.insert(request, "request", by, request.no, once)
             if once:
                 self.base.execute("INSERT INTO said VALUES (?, ?)", (kept.id, words))
-            if reason:
-                row = (kept.id, reason.why, reason.ticket)
-                self.base.execute("INSERT INTO reasons VALUES (?, ?, ?)", row)
+            self.reasons.keep(kept.id, reason)
             return replace(kept, reason=reason)
 
     def check_words(self, old: Kept, wish: Wish, words: str) -> None:
@@ -187,15 +186,20 @@ class Outbox:
                 " has a key of its own"
             )
 
-    def keep_verdict(self, verdict: Verdict, once: str | None = None) -> Kept:
-        """Keeps a verdict. The same `once` again is the same verdict. Nobody approves what the
-        desk refused: their word would wait there for any other request of that name."""
+    def keep_verdict(
+        self, verdict: Verdict, once: str | None = None, why: str | None = None
+    ) -> Kept:
+        """Keeps a verdict and why it is given. The same `once` again is the same verdict. Nobody
+        approves what the desk refused: their word would wait there for any other request of that
+        name."""
         with self.writing():
             if old := self.same(verdict.by, once):
                 return old
             if self.is_approval_of_refused(verdict):
                 raise BadWord(f"{UNASKED}: there is nothing to approve")
-            return self.insert(verdict, verdict.kind, verdict.of, verdict.no, once)
+            kept = self.insert(verdict, verdict.kind, verdict.of, verdict.no, once)
+            self.reasons.keep_verdict(kept.id, why)
+            return self.entry(kept.id) if why else kept
 
     def prepare_request(self, by: str, wish: Wish, at: str, reason: Reason = NONE) -> Request:
         """Gives a wish the person's next number, for its author to sign. It is sent once it comes
@@ -206,7 +210,8 @@ class Outbox:
             return request
 
     def prepare_verdict(self, verdict: Verdict, reason: Reason = NONE) -> None:
-        """Notes a verdict for its author to sign, with the reason that the request has."""
+        """Notes a verdict for its author to sign, with its reason; an approval's is that of its
+        request, which the approver was shown."""
         with self.writing():
             if self.is_approval_of_refused(verdict):
                 raise BadWord(f"{UNASKED}: there is nothing to approve")
@@ -230,14 +235,13 @@ class Outbox:
             if signed.why != reason_digest(*row):
                 raise BadWord("this was signed with another reason or ticket: begin again")
             message = read(signed.message)
-            is_request = isinstance(message, Request)
             of = message.by if isinstance(message, Request) else message.of
             kind = "request" if isinstance(message, Request) else message.kind
             kept = self.insert(message, kind, of, message.no, None)
             what = (kept.id, signed.signature, signed.about, signed.why)
             self.base.execute("INSERT OR IGNORE INTO signatures VALUES (?, ?, ?, ?)", what)
-            if is_request and row != ("", ""):
-                self.base.execute("INSERT OR IGNORE INTO reasons VALUES (?, ?, ?)", (kept.id, *row))
+            if kind != "approve":  # (an approval is signed over the reason of its request)
+                self.reasons.keep(kept.id, Reason(*row))
             return replace(self.entry(kept.id), is_new=kept.is_new)
 
     def is_approval_of_refused(self, verdict: Verdict) -> bool:

@@ -1,6 +1,8 @@
-"""Why somebody asks: a text and a ticket, kept beside the request. The desk's message has none."""
+"""Why somebody asks, approves, refuses or revokes: a text, and a request's ticket, kept beside the
+message. The desk's message has none."""
 
 import re
+import sqlite3
 from collections.abc import Iterator
 from dataclasses import dataclass, field
 
@@ -48,6 +50,32 @@ class Reason:
 
 
 NONE = Reason()
+
+
+class Reasons:
+    """The reasons that an outbox keeps, each beside its message."""
+
+    def __init__(self, base: sqlite3.Connection) -> None:
+        self.base = base
+
+    def keep(self, message: int, reason: Reason) -> None:
+        """Keeps the reason of a message, whose first one stays."""
+        if reason:
+            row = (message, reason.why, reason.ticket)
+            self.base.execute("INSERT OR IGNORE INTO reasons VALUES (?, ?, ?)", row)
+
+    def keep_verdict(self, message: int, why: str | None) -> None:
+        """Keeps why somebody gave a verdict."""
+        self.keep(message, Reason.of(why, ""))
+
+    def of_verdict(self, by: str, kind: str, of_asker: str, of_no: int) -> str | None:
+        """Why a person gave a verdict on a request, the last time that they did."""
+        found = self.base.execute(
+            "SELECT why FROM messages JOIN reasons USING (id)"
+            " WHERE by = ? AND kind = ? AND of = ? AND no = ? ORDER BY id DESC LIMIT 1",
+            (by, kind, of_asker, of_no),
+        ).fetchone()
+        return str(found[0]) if found else None
 
 
 @dataclass(frozen=True)
