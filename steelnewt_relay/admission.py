@@ -10,6 +10,10 @@ from steelnewt_relay.moments import spoken
 from steelnewt_relay.roster import Ceiling, Roster
 
 
+# A window that ends later is not looked at: who holds which duty then is not settled yet.
+MOST_DAYS = 31
+
+
 class Fault(NamedTuple):
     """What is wrong with a word of a request, by the name of that word, with what would do."""
 
@@ -25,11 +29,11 @@ def faults(roster: Roster, person: str, wish: Wish, at: datetime) -> list[Fault]
 
 
 def too_few(roster: Roster, person: str, wish: Wish, at: datetime) -> str:
-    """Why a request cannot get its approvals, on any of its days; empty where it can."""
-    ceiling, last = roster.ceilings[wish.ceiling], of_stamp(wish.ends)
-    days = [at + timedelta(days=it) for it in range(max(0, (last.date() - at.date()).days) + 1)]
+    """Why a request cannot get its approvals on any day until its end; empty where it can."""
+    ceiling, left = roster.ceilings[wish.ceiling], (of_stamp(wish.ends).date() - at.date()).days
+    days = [at + timedelta(days=it) for it in range(left + 1)] if left <= MOST_DAYS else []
     may = sorted({it for day in days for it in roster.approvers(person, ceiling.label, day)})
-    if len(may) >= ceiling.needs:
+    if len(may) >= ceiling.needs or not days:
         return ""
     who = f"only {', '.join(may)} may approve it for you" if may else "nobody may approve it for you"
     people = "1 person" if ceiling.needs == 1 else f"{ceiling.needs} people"
@@ -55,7 +59,7 @@ def refusals(roster: Roster, person: str, wish: Wish, at: datetime) -> list[Faul
     found += outside("hosts", wish.hosts, ceiling.hosts, ceiling)
     found += outside("runas", (wish.runas,), ceiling.runas, ceiling)
     far = [it for it in wish.commands if not any(lies_inside(it, to) for to in ceiling.commands)]
-    found += [it for each in far for it in outside("commands", (each,), ceiling.commands, ceiling)]
+    found += [fault for it in far for fault in outside("commands", (it,), ceiling.commands, ceiling)]
     if of_stamp(wish.ends) - of_stamp(wish.begins) > timedelta(seconds=ceiling.longest):
         longest = spoken(timedelta(seconds=ceiling.longest))
         found.append(Fault("length", f"{ceiling.label} gives at most {longest}"))

@@ -100,10 +100,15 @@ class Demand:
         return found
 
     def check(self, ceiling: str, reason: Reason) -> None:
-        why, ticket = self.wants(ceiling)
-        if why and not reason.why:
+        self.check_why(ceiling, reason)
+        self.check_ticket(ceiling, reason)
+
+    def check_why(self, ceiling: str, reason: Reason) -> None:
+        if self.wants(ceiling)[0] and not reason.why:
             raise BadWord(f"say why: a request under {ceiling} needs a reason (--why TEXT)")
-        if ticket and not reason.ticket:
+
+    def check_ticket(self, ceiling: str, reason: Reason) -> None:
+        if self.wants(ceiling)[1] and not reason.ticket:
             raise BadWord(f"name a ticket: a request under {ceiling} needs one (--ticket ID)")
         if reason.ticket and not self.form.fullmatch(reason.ticket):
             raise BadWord(

@@ -8,7 +8,7 @@ from steelnewt_client.messages import BadWord, Verdict, Wish
 from steelnewt_client.moments import of_stamp, stamp
 from steelnewt_client.told import Grant
 from steelnewt_relay.letters import wrapped
-from steelnewt_relay.moments import shown, spoken
+from steelnewt_relay.moments import as_asked, shown, spoken
 from steelnewt_relay.outbox import UNASKED, Kept
 from steelnewt_relay.reasons import Demand, Reason
 from steelnewt_relay.roster import Ceiling, Roster
@@ -110,7 +110,7 @@ def wish_lines(wish: Wish, zone: tzinfo) -> Lines:
         *command_lines(wish.commands),
         ("from", shown(first, zone)),
         ("until", shown(last, zone)),
-        ("how long", spoken(last - first)),
+        ("how long", spoken(as_asked(last - first))),
     ]
 
 
