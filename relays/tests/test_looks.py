@@ -1,0 +1,273 @@
+"""How the page looks in a browser, over a site that has everything: on a phone and on a desk, light
+and dark, with letters twice as large, by the tree that a screen reader has, and by keyboard."""
+
+import base64
+import re
+from collections.abc import Iterator
+from typing import Any, NamedTuple
+
+import pytest
+from selenium import webdriver
+from selenium.webdriver.common.by import By
+from selenium.webdriver.common.keys import Keys
+
+from relays.tests.chromium import browser
+from relays.tests.everything import Everything
+from relays.tests.front import Front
+from relays.tests.site import ROOT
+from relays.tests.test_browser import CONTRAST
+
+SHOTS = ROOT / "build" / "relays-screenshots"
+SIZES = ((360, 740), (768, 1024), (1440, 900))
+SCHEMES = ("light", "dark")
+# A page may be so much higher, and a place so much further, than the numbers say.
+TOLERANCE = 0.15
+# The pages by their names: whose they are, and where. NAME stands for the number of that request.
+PAGES = {
+    "home": ("bob", "/"),
+    "mine": ("ann", "/"),
+    "findings": ("dave", "/"),
+    "request": ("bob", "/r/ann/WIDE"),
+    "refused": ("ann", "/r/ann/OBJECTED"),
+    "approve": ("bob", "/verdict?kind=approve&of=ann&no=WIDE"),
+    "several": ("bob", "/verdict?kind=approve&each=ann+WIDE&each=ann+SHORT&each=carol+2"),
+    "refuse": ("bob", "/verdict?kind=refuse&of=ann&no=SHORT"),
+    "again": ("ann", "/again?no=LIVE-WIDE"),
+    "wrong": ("ann", "/usual?no=REFUSED"),
+    "history": ("dave", "/history"),
+}
+# Whatever can be pressed or filled in, as far as it is shown.
+SHOWN = """
+const shown = e => { const r = e.getBoundingClientRect(); return r.width > 1 && r.height > 1
+  && getComputedStyle(e).visibility == 'visible'; };
+const all = [...document.querySelectorAll('a[href], button, input, select, textarea, summary')]
+  .filter(e => e.type != 'hidden' && !e.classList.contains('skip') && shown(e));
+"""
+# The contrast of the ring that each of these has with what is behind it, and with its own paper.
+RINGS = SHOWN + CONTRAST.partition("return [...document")[0] + """
+const page = behind(document.body);
+return all.map(e => { e.focus(); const s = getComputedStyle(e), r = light(rgb(s.outlineColor));
+  const b = light(behind(e.parentElement));
+  return [(Math.max(r, b) + .05) / (Math.min(r, b) + .05), parseFloat(s.outlineWidth),
+    document.activeElement == e, e.outerHTML.slice(0, 120)]; });
+"""
+# How large they are, without those within a line of text.
+TARGETS = SHOWN + """
+return all.filter(e => !(e.tagName == 'A' && getComputedStyle(e).display == 'inline')).map(e => {
+  const r = e.getBoundingClientRect();
+  return [r.width, r.height, e.tagName, e.outerHTML.slice(0, 120)]; });
+"""
+# Those that stand before others in the text and below them on the screen.
+OUT_OF_ORDER = SHOWN + """
+const at = all.filter(e => !e.closest('.bar')).map(e => [e.getBoundingClientRect(), e]);
+return at.slice(1).map(([r, e], n) => [at[n][0].top - r.bottom, e.outerHTML.slice(0, 120)])
+  .filter(([far]) => far > 0);
+"""
+# What has a place on the first screen, and how high the page is.
+PLACES = """
+const top = q => { const e = document.querySelector(q);
+  return e ? Math.round(e.getBoundingClientRect().bottom) : null; };
+return {high: document.documentElement.scrollHeight, wide: document.documentElement.scrollWidth,
+  approve: top('button.approve'), yes: top('#yes'), show: top('#show'), card: top('article')};
+"""
+
+
+class Place(NamedTuple):
+    """How high a page is, and how far down its first card and its first button of yes end."""
+
+    high: int
+    card: int | None
+    approve: int | None
+
+
+# By page and width. (With 34 own requests and 58 that waited, a phone's home was 69,007 high.)
+NUMBERS: dict[tuple[str, int], Place] = {}
+
+
+class Looking:
+    """A browser over everything, which goes from one person's page to another's."""
+
+    def __init__(self, everything: Everything, front: Front, driver: webdriver.Chrome) -> None:
+        self.everything, self.front, self.driver = everything, front, driver
+
+    def open(self, name: str) -> None:
+        person, path = PAGES[name]
+        for word, no in sorted(self.everything.numbers.items(), reverse=True):
+            path = path.replace(word.upper(), str(no))
+        self.driver.get(self.front.url(person) + path)
+
+    def screen(self, width: int, height: int, scheme: str = "light") -> None:
+        size = {"width": width, "height": height, "deviceScaleFactor": 1, "mobile": width < 500}
+        self.driver.execute_cdp_cmd("Emulation.setDeviceMetricsOverride", size)
+        features = [{"name": "prefers-color-scheme", "value": scheme}]
+        self.driver.execute_cdp_cmd("Emulation.setEmulatedMedia", {"features": features})
+
+    def ask(self, script: str) -> Any:
+        return self.driver.execute_script(script)
+
+    def shoot(self, name: str) -> None:
+        SHOTS.mkdir(parents=True, exist_ok=True)
+        found = self.driver.execute_cdp_cmd("Page.captureScreenshot", {})
+        (SHOTS / f"{name}.png").write_bytes(base64.b64decode(found["data"]))
+
+    def tree(self) -> list[dict[str, Any]]:
+        """What a screen reader has of the page."""
+        found = self.driver.execute_cdp_cmd("Accessibility.getFullAXTree", {})["nodes"]
+        return [it for it in found if not it.get("ignored")]
+
+
+def value(node: dict[str, Any], name: str) -> Any:
+    return node.get(name, {}).get("value", "")
+
+
+def property_of(node: dict[str, Any], name: str) -> Any:
+    found = {it["name"]: it["value"].get("value") for it in node.get("properties", [])}
+    return found.get(name)
+
+
+@pytest.fixture(scope="module")
+def served(tmp_path_factory: pytest.TempPathFactory) -> Iterator[tuple[Everything, Front]]:
+    everything = Everything(tmp_path_factory.mktemp("everything"))
+    try:
+        everything.site.start_page()
+        front = Front(everything.site, ["ann", "bob", "dave"])
+        yield everything, front
+        front.stop()
+    finally:
+        everything.site.close()
+
+
+@pytest.fixture(scope="module", params=[16, 32], ids=["letters", "large letters"])
+def looking(
+    request: pytest.FixtureRequest,
+    served: tuple[Everything, Front],
+    tmp_path_factory: pytest.TempPathFactory,
+) -> Iterator[Looking]:
+    driver = browser(tmp_path_factory.mktemp("looks"), with_scripts=True, letters=request.param)
+    try:
+        yield Looking(*served, driver)
+    finally:
+        driver.quit()
+
+
+@pytest.mark.parametrize("name", PAGES)
+def test_each_page_at_each_size(
+    looking: Looking, name: str, request: pytest.FixtureRequest
+) -> None:
+    """Nothing stands beside the screen, texts and rings can be seen, what is pressed is large
+    enough and in order, and the yes is always on the screen."""
+    is_large = "large" in request.node.name
+    looking.open(name)
+    for width, height in ((320, 640), *SIZES):
+        looking.screen(width, height)
+        found = looking.ask(PLACES)
+        assert found["wide"] <= width, (width, found)
+        if found["yes"] and not is_large:
+            assert found["yes"] <= height, (width, found)
+        sized(looking, width)
+        if (name, width) in NUMBERS and not is_large:
+            near(found, NUMBERS[name, width], (name, width))
+        for scheme in SCHEMES:
+            looking.screen(width, height, scheme)
+            seen(looking, (name, width, scheme))
+            looking.shoot(f"{name}-{width}-{scheme}{'-large' if is_large else ''}")
+
+
+def near(found: dict[str, int], wanted: Place, what: tuple[str, int]) -> None:
+    for name, number in wanted._asdict().items():
+        if number is not None:
+            assert abs(found[name] - number) <= TOLERANCE * number, (what, name, found, number)
+
+
+def sized(looking: Looking, width: int) -> None:
+    """WCAG 2.2, 2.5.8; buttons are as high as a finger."""
+    for wide, high, tag, text in looking.ask(TARGETS):
+        assert wide >= 24 and high >= 24, (width, wide, high, text)
+        assert tag != "BUTTON" or high >= 40, (width, high, text)
+    assert not looking.ask(OUT_OF_ORDER), (width, looking.ask(OUT_OF_ORDER))
+
+
+def seen(looking: Looking, what: tuple[str, int, str]) -> None:
+    """WCAG 2.2, 1.4.3 and 1.4.11."""
+    found = looking.ask(CONTRAST)
+    assert len(found) > 5 and not [it for it in found if it[0] < 4.5], (what, sorted(found)[:5])
+    dark = looking.ask("return getComputedStyle(document.body).backgroundColor")
+    is_dark = sum(int(it) for it in re.findall("[0-9]+", dark)[:3]) < 150
+    assert is_dark == (what[2] == "dark"), (what, dark)
+    for contrast, width, is_there, text in looking.ask(RINGS):
+        assert is_there and width >= 2 and contrast >= 3, (what, contrast, width, text)
+
+
+@pytest.mark.parametrize("name", PAGES)
+def test_what_a_screen_reader_has(looking: Looking, name: str) -> None:
+    looking.open(name)
+    nodes = looking.tree()
+    by_role: dict[str, list[dict[str, Any]]] = {}
+    for node in nodes:
+        by_role.setdefault(value(node, "role"), []).append(node)
+    # names, and each button's is its own
+    widgets = ("button", "link", "textbox", "combobox", "checkbox", "article", "region", "heading")
+    for role in (*widgets, "DisclosureTriangle", "image", "figure"):
+        for node in by_role.get(role, []):
+            is_named = value(node, "name") or role == "figure"
+            assert is_named, (role, node)
+    buttons = [value(it, "name") for it in by_role.get("button", [])]
+    assert len(set(buttons)) == len(buttons), sorted(buttons)
+    # roles: one of each landmark, and nothing that takes the focus has none
+    for role in ("banner", "main", "RootWebArea"):
+        assert len(by_role[role]) == 1, role
+    for node in nodes:
+        if property_of(node, "focusable"):
+            assert value(node, "role") not in ("generic", "none", ""), node
+    # labels, headings and the language
+    script = "return [...document.querySelectorAll('input:not([type=hidden]), select, textarea')]"
+    assert all(looking.ask(f"{script}.map(e => e.labels.length == 1)"))
+    levels = [property_of(it, "level") for it in by_role["heading"]]
+    assert levels[0] == 1 and levels.count(1) == 1, levels
+    assert all(after <= before + 1 for before, after in zip(levels, levels[1:])), levels
+    assert looking.ask("return document.documentElement.lang") == "en"
+    assert value(by_role["RootWebArea"][0], "name").endswith(("The desk", ": the desk"))
+
+
+def test_a_field_that_is_wrong(looking: Looking) -> None:
+    """The focus is in it, and what is wrong is said with it."""
+    looking.open("wrong")
+    found = [it for it in looking.tree() if property_of(it, "invalid") == "true"]
+    assert [value(it, "name") for it in found] == ["On which hosts"], found
+    assert "web1 is outside db-care" in value(found[0], "description")
+    assert looking.ask("return document.activeElement.id") == "hosts"
+
+
+def test_ticked_and_decided_by_keyboard(looking: Looking) -> None:
+    """The bar of what is ticked comes to the screen, and a page shows each whole."""
+    looking.screen(360, 740)
+    looking.open("home")
+    driver = looking.driver
+    bar = "return document.querySelector('.bar.several').getBoundingClientRect().top < innerHeight"
+    assert looking.ask(bar) is False
+    boxes = driver.find_elements(By.CSS_SELECTOR, ".tick input")
+    for box in boxes[:2]:
+        box.send_keys(Keys.SPACE)
+    looking.ask("scrollTo(0, 0)")
+    assert looking.ask(bar) is True
+    driver.find_element(By.CSS_SELECTOR, ".bar.several button").send_keys(Keys.ENTER)
+    assert driver.find_element(By.TAG_NAME, "h1").text == "Approve 2 requests?"
+    assert len(driver.find_elements(By.CSS_SELECTOR, "main article")) == 2
+    assert driver.find_element(By.ID, "yes").text == "Yes, approve 2"
+
+
+def test_a_tap_reaches_what_it_shows(looking: Looking) -> None:
+    """On a phone, as soon as something is in force that its reader may end."""
+    looking.screen(360, 740)
+    looking.open("mine")
+    looking.ask("document.querySelector('#show').scrollIntoView({block: 'center'})")
+    assert looking.ask(
+        "const r = document.querySelector('#show').getBoundingClientRect();"
+        "const e = document.elementFromPoint(r.x + r.width / 2, r.y + r.height / 2);"
+        "return e && e.id"
+    ) == "show"
+    driver = looking.driver
+    for field, text in (("hosts", "db1"), ("commands", "/usr/bin/id"), ("length", "1h")):
+        driver.find_element(By.ID, field).send_keys(text)
+    driver.find_element(By.ID, "show").click()
+    assert driver.find_element(By.TAG_NAME, "h1").text == "Ask for this?"
