@@ -185,7 +185,9 @@ def complain(fault: Exception) -> tuple[str, int]:
     is_ours = isinstance(fault, (Silent, BadRoster, sqlite3.Error))
     status = getattr(fault, "code", None) or (503 if is_ours else 400)
     text = getattr(fault, "description", None) or str(fault)
-    person = flask.g.visit.person if "visit" in flask.g else None
+    visit: Visit | None = flask.g.get("visit")
+    # (whom the roster does not have reads the same on each page)
+    person = visit.person if visit and visit.person in visit.roster.people else None
     is_sent = flask.request.method == "POST"
     return flask.render_template("wrong.html", text=text, person=person, is_sent=is_sent), status
 
