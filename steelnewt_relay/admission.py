@@ -22,22 +22,29 @@ class Fault(NamedTuple):
 
 
 def faults(roster: Roster, person: str, wish: Wish, at: datetime) -> list[Fault]:
-    """Why a request can never be granted: the desk refuses it, or too few may approve it."""
-    refused = refusals(roster, person, wish, at)
-    lack = "" if refused else too_few(roster, person, wish, at)
-    return [*refused, Fault("ceiling", lack)] if lack else refused
+    """Why a request cannot be granted, whoever says yes to it; empty where it can."""
+    found = refusals(roster, person, wish, at)
+    few = "" if found else lacking(roster, person, wish, at)
+    return [*found, Fault("ceiling", few)] if few else found
 
 
-def too_few(roster: Roster, person: str, wish: Wish, at: datetime) -> str:
-    """Why a request cannot get its approvals on any day until its end; empty where it can."""
-    ceiling, left = roster.ceilings[wish.ceiling], (of_stamp(wish.ends).date() - at.date()).days
-    days = [at + timedelta(days=it) for it in range(left + 1)] if left <= MOST_DAYS else []
-    may = sorted({it for day in days for it in roster.approvers(person, ceiling.label, day)})
-    if len(may) >= ceiling.needs or not days:
+def surely_refused(roster: Roster, person: str, wish: Wish, at: datetime) -> list[str]:
+    return [it.text for it in faults(roster, person, wish, at)]
+
+
+def lacking(roster: Roster, person: str, wish: Wish, at: datetime) -> str:
+    """Why too few people may approve a request as long as its window lasts; empty where enough
+    may. (One approval of each is counted, on whichever day they hold the duty.)"""
+    ceiling, left = roster.ceilings.get(wish.ceiling), (of_stamp(wish.ends).date() - at.date()).days
+    if ceiling is None or left > MOST_DAYS:
         return ""
-    who = f"only {', '.join(may)} may approve it for you" if may else "nobody may approve it for you"
-    people = "1 person" if ceiling.needs == 1 else f"{ceiling.needs} people"
-    return f"{ceiling.label} needs the approval of {people}, and {who}"
+    days = [at + timedelta(days=it) for it in range(left + 1)]
+    may = sorted({it for day in days for it in roster.approvers(person, wish.ceiling, day)})
+    if len(may) >= ceiling.needs:
+        return ""
+    who = f"only {', '.join(may)} may" if may else "nobody may"
+    many = "1 approval" if ceiling.needs == 1 else f"approvals of {ceiling.needs} people"
+    return f"it needs {many}, and {who} approve it for {person} until it ends"
 
 
 def objections(roster: Roster, person: str, wish: Wish, at: datetime) -> list[str]:

@@ -129,3 +129,10 @@ def spoken(length: timedelta) -> str:
         if count:
             words.append(f"{count} {name}{'' if count == 1 else 's'}")
     return " ".join(words) or "no time"
+
+
+def clock(at: datetime, zone: tzinfo, today: datetime) -> str:
+    """A moment in short, with its zone; with its day where that is another than today's."""
+    local = at.astimezone(zone)
+    is_today = local.date() == today.astimezone(zone).date()
+    return f"{local:%H:%M}" + ("" if is_today else f" {local:%a %d %b}") + f" {local.tzname()}"

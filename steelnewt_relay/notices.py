@@ -97,11 +97,11 @@ class Notices:
         )
         return found.fetchone() is not None
 
-    def record(self, events: list[Event], state: str = "due") -> None:
-        """Keeps events that are new; all of them, or none."""
+    def record(self, events: list[Event]) -> None:
+        """Keeps events that are new; all of them, or none. One without data is told to nobody."""
         with self.outbox.writing():
             for event in events:
-                id = secrets.token_hex(16)
+                id, state = secrets.token_hex(16), "due" if event.data else "needless"
                 self.base.execute(
                     "INSERT INTO notices (id, message, kind, body, state, began)"
                     " VALUES (?, ?, ?, ?, ?, ?) ON CONFLICT DO NOTHING",
@@ -138,11 +138,14 @@ class Notices:
 def find(notices: Notices, finder: Finder) -> Iterator[Event]:
     """What happened and is not recorded yet. `Silent` where the desk does not answer."""
     untold, knowledge = notices.untold(), finder.knowledge
-    about = [finder.request_of(it) for it in untold] + notices.past(stamp(knowledge.now))
+    late = finder.late()
+    about = [finder.request_of(it) for it in untold] + notices.past(stamp(knowledge.now)) + late
     with suppress(Silent):
         knowledge.ask([it for it in about if it], is_live=True)
     for kept in untold:
         yield from finder.of_message(kept)
+    for kept in late:
+        yield finder.of_late(kept)
     for grant in knowledge.live():
         request = knowledge.asked_here(grant)
         if request and notices.is_new(request) and not notices.has(request, "granted"):
@@ -154,11 +157,7 @@ def find(notices: Notices, finder: Finder) -> Iterator[Event]:
 def settle(notices: Notices, finder: Finder) -> None:
     """Records what became of requests whose window is over."""
     for kept in notices.past(stamp(finder.knowledge.now)):
-        event = finder.of_past(kept)
-        if event:
-            notices.record([event])
-        else:
-            notices.record([Event("void", kept.id, {})], "needless")
+        notices.record([finder.of_past(kept) or Event("void", kept.id, {})])
 
 
 def look(notices: Notices, make: Callable[[], Finder]) -> str:

@@ -17,6 +17,7 @@ from functools import lru_cache
 from steelnewt_client.messages import BadWord, Request, Verdict, Wish, measured, read
 from steelnewt_client.moments import of_stamp, stamp
 from steelnewt_client.signed import Signed, reason_digest
+from steelnewt_relay.own import Own
 from steelnewt_relay.reasons import NONE, Reason, Reasons
 
 SCHEMA = """
@@ -46,6 +47,14 @@ CREATE TABLE IF NOT EXISTS prepared (
 ) STRICT;
 CREATE TABLE IF NOT EXISTS signatures (
     id INTEGER PRIMARY KEY, signature TEXT NOT NULL, about TEXT NOT NULL, why TEXT NOT NULL
+) STRICT;
+CREATE TABLE IF NOT EXISTS people (
+    person TEXT PRIMARY KEY, zone TEXT NOT NULL DEFAULT '',
+    away_from TEXT NOT NULL DEFAULT '', away_until TEXT NOT NULL DEFAULT ''
+) STRICT;
+CREATE TABLE IF NOT EXISTS templates (
+    person TEXT NOT NULL, name TEXT NOT NULL, message INTEGER NOT NULL,
+    PRIMARY KEY (person, name)
 ) STRICT;
 """
 MADE = set(re.findall(r"IF NOT EXISTS (\w+)", SCHEMA))
@@ -127,12 +136,19 @@ class Outbox:
         self.base = sqlite3.connect(path, timeout=20, isolation_level=None)
         self.base.execute("PRAGMA journal_mode = wal")
         self.base.execute("PRAGMA synchronous = full")
-        self.reasons = Reasons(self.base)
+        self.reasons, self.own = Reasons(self.base), Own(self.base)
         # (whoever only looks at what is kept waits for nobody who writes)
         if not self.is_made():
             with self.writing():
                 for statement in SCHEMA.split(";"):
                     self.base.execute(statement)
+
+    def template(self, person: str, name: str) -> Kept | None:
+        """The request that a person saved under a name of their own."""
+        found = self.find(
+            "id = (SELECT message FROM templates WHERE person = ? AND name = ?)", person, name
+        )
+        return found[0] if found else None
 
     def is_made(self) -> bool:
         """Whether the file has all that the schema names."""
@@ -199,7 +215,7 @@ class Outbox:
                 raise BadWord(f"{UNASKED}: there is nothing to approve")
             kept = self.insert(verdict, verdict.kind, verdict.of, verdict.no, once)
             self.reasons.keep_verdict(kept.id, why)
-            return self.entry(kept.id) if why else kept
+            return replace(self.entry(kept.id), is_new=kept.is_new)
 
     def prepare_request(self, by: str, wish: Wish, at: str, reason: Reason = NONE) -> Request:
         """Gives a wish the person's next number, for its author to sign. It is sent once it comes

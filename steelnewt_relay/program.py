@@ -17,7 +17,7 @@ from steelnewt_relay import ssh
 from steelnewt_relay.caller import Caller, Keyed, certified
 from steelnewt_relay.calls import open_calls
 from steelnewt_relay.config import BadConfig, Config, read_config
-from steelnewt_relay.events import Finder
+from steelnewt_relay.events import Finder, Manner
 from steelnewt_relay.keys import BadKey
 from steelnewt_relay.notices import Notices, keep_telling, locked
 from steelnewt_relay.outbox import Kept
@@ -113,13 +113,13 @@ def notify(config: Config, every: float) -> int:
     if (told := config.notify) is None:
         print("desk-relay: nobody is told anything: the settings have no [notify]", file=sys.stderr)
         return 0
-    link, ended = told.link, ended_by_signal()
+    ended, manner = ended_by_signal(), Manner.of(config)
     outbox, desk = config.open_outbox(), config.open_desk()
     lock = locked(f"{config.outbox}.notify")
 
     def finder() -> Finder:
         knowledge = Knowledge(outbox, desk, config.read_roster(), now())
-        return Finder(knowledge, config.zone, link)
+        return Finder(knowledge, manner)
 
     keep_telling(Notices(outbox), finder, (told.program, told.seconds), every, ended)
     os.close(lock)

@@ -96,8 +96,14 @@ class Demand:
     def reason(self, ceiling: str, why: str | None, ticket: str | None) -> Reason:
         """The reason of a request under a ceiling. Raises where it needs another."""
         found = Reason.of(why, ticket)
+        found = Reason(found.why, self.spelled(found.ticket))
         self.check(ceiling, found)
         return found
+
+    def spelled(self, ticket: str) -> str:
+        """A ticket in capitals, where the site's tickets have them: ops-7 is OPS-7."""
+        is_other = not self.form.fullmatch(ticket) and self.form.fullmatch(ticket.upper())
+        return ticket.upper() if is_other else ticket
 
     def check(self, ceiling: str, reason: Reason) -> None:
         self.check_why(ceiling, reason)

@@ -85,7 +85,7 @@ def test_a_grants_life_in_two_browsers(
     see(bob, "Approve ann 1?", "/usr/bin/id")
     shoot(bob, "4-approve-confirm")
     press(bob, "#yes")
-    see(bob, "ann 1: The desk acknowledged that you approved it.", "Nothing that came through")
+    see(bob, "ann 1: The desk has your approval.", "Nothing that came through")
     ann.get(front.url("ann"))
     see(ann, "It is in force from")
     assert ann.find_elements(By.CSS_SELECTOR, "svg rect.bar")
@@ -97,7 +97,7 @@ def test_a_grants_life_in_two_browsers(
     press(ann, "#mine-1 button.revoke")
     see(ann, "Revoke ann 1?")
     press(ann, "#yes")
-    see(ann, "ann 1: The desk acknowledged that you revoked it.")
+    see(ann, "ann 1: The desk has your revocation.")
     see(ann, "It was in force from", "Nothing is in force.")
     shoot(ann, "6-revoked")
     rows = [("ann", "db1", "root", stamp(now()), ["/usr/bin/id"])]

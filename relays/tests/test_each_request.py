@@ -184,7 +184,7 @@ FAULTS = [
     ("ann", {"commands": "/usr/sbin/reboot"}, "commands", "/usr/sbin/reboot is outside db-care"),
     ("ann", {"length": "3h"}, "length", "db-care gives at most 2 hours"),
     ("carol", {"ceiling": "db-emergency", "commands": "ALL", "length": "15m"}, "ceiling",
-     "db-emergency needs the approval of 2 people, and only bob may approve it for you"),
+     "it needs approvals of 2 people, and only bob may approve it for carol until it ends"),
 ]  # fmt: skip
 
 

@@ -103,6 +103,8 @@ def test_again(quiet_site: Site) -> None:
 def test_it_is_checked_before_a_yes(quiet_site: Site) -> None:
     line = "ask db-care --on web1 --as www --for 3h /usr/sbin/reboot"
     status, told = said(quiet_site, "ann", line)
+    assert status == 2 and "Send it?" not in told
+    status, told = said(quiet_site, "ann", line.replace("--for", "--anyway --for"))
     assert status == 1 and told.index("The desk will refuse this: web1 is") < told.index("Send it?")
     for piece in ("www is outside", "/usr/sbin/reboot is outside", "at most 2 hours"):
         assert piece in told

@@ -50,7 +50,7 @@ def exported(site: Site) -> list[dict[str, object]]:
 def test_by_ssh_it_is_shown_before_a_yes(site: Site) -> None:
     ran = site.run("ann", f"{LINE} {WORDS} /usr/bin/id")
     assert ran.returncode == 0 and "why       | the disk of db1 is full\n" in ran.stdout, ran
-    for line in ("waiting", "approve ann 1"):
+    for line in ("waiting -l", "approve ann 1"):
         _, told = answered(site, "bob", line)
         assert "  why       | the disk of db1 is full\n  ticket    | OPS-7\n" in told, told
         assert "?" not in told or told.index("why") < told.index("[y/N]")
@@ -135,7 +135,7 @@ def test_what_somebody_else_wrote_there(quiet_site: Site) -> None:
     for person, line in (("bob", "waiting"), ("bob", "approve ann 1"), ("ann", "mine --json")):
         _, printed = answered(quiet_site, person, line)
         assert "alert(1)" in printed and not set("\x1b\x07\u202e") & set(printed), printed
-    assert "\\x1b" in answered(quiet_site, "bob", "waiting")[1]
+    assert "\\x1b" in answered(quiet_site, "bob", "waiting -l")[1]
     told = client(quiet_site).get("/", headers=headers("bob")).get_data(as_text=True)
     assert "&lt;script&gt;" in told and not set("\x1b\u202e") & set(told) and "<script" not in told
     assert exported(quiet_site)[0]["why"] == HOSTILE

@@ -113,9 +113,10 @@ def test_what_cannot_be_prepared(quiet_site: Site) -> None:
         ("prepare prepare ask", "prepare a request or verdicts"),
         (ASK.replace("--for", "--json --for"), "leave --once"),
         (ASK.replace("--for", "--once k --for"), "leave --once"),
+        ("prepare approve", "WHO NUMBER"),
         ("prepare approve ann", "WHO NUMBER"),
         ("prepare approve ann 1 ann 1", "there twice"),
-        ("prepare approve ann 1 --yes", "WHO NUMBER"),
+        ("prepare approve ann 1 --yes", "leave --once"),
     ):
         ran = quiet_site.run("ann", words)
         assert ran.returncode == 2 and why in ran.stderr, (words, ran)

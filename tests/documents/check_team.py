@@ -313,7 +313,7 @@ def key_lost(_: Page, room: Room) -> None:
     done = room.run("yes | desk-signer add ann /home/ann/ann.line")
     room.holds("a new one", (made.returncode, done.returncode) == (0, 0), (made, done))
     said = as_person(room, "ann", "mydesk --key new refuse ann 1 --yes")
-    room.holds("signs", "acknowledged that you refused it" in said.stdout, said)
+    room.holds("signs", "The desk has your refusal" in said.stdout, said)
 
 
 def signers_unread(_: Page, room: Room) -> None:
@@ -341,12 +341,12 @@ def signers_unread(_: Page, room: Room) -> None:
     room.says(heading, "or move it away: then the one before it holds")
     room.run(f"mv {newest} /root/away")
     said = as_person(room, "ben", "mydesk refuse ann 1 --yes")
-    room.holds("the one before holds", "acknowledged that you refused it" in said.stdout, said)
+    room.holds("the one before holds", "The desk has your refusal" in said.stdout, said)
     room.says(heading, "Bring that folder back from the backup")
     room.run("mv /root/kept /etc/desk/signers/$(cat /root/name)")
     done = room.run(check)
     said = as_person(room, "ann", "mydesk --key new refuse ann 1 --yes")
-    is_taken = "acknowledged that you refused it" in said.stdout
+    is_taken = "The desk has your refusal" in said.stdout
     room.holds("and then the newest", is_taken, (said, done))
     room.holds("nothing is wrong", done.stdout.startswith("nothing is wrong"), done)
 

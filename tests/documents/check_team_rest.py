@@ -187,7 +187,7 @@ def on_the_page(room: Room) -> None:
     done = in_a_browser(room, "ben")
     is_shown = "/usr/local/sbin/deploy" in done.stdout and "deploy at noon" in done.stdout
     room.holds("what ben approves", is_shown, done)
-    room.holds("and he does", "acknowledged that you approved it." in done.stdout, done)
+    room.holds("and he does", "The desk has your approval." in done.stdout, done)
     mailed = until(room, "grep -rqs 'Subject: .*ann 2 is granted' /tmp/mails/new")
     room.holds("a mail to ann", mailed, room.run("grep -h Subject /tmp/mails/new/*"))
     told_there = room.text("/v1/requests/ann/2")

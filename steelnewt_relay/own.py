@@ -1,0 +1,59 @@
+"""What each person set for themselves: their zone, days of absence, and names of requests that they
+ask again and again. None of it gives or takes a right."""
+
+import sqlite3
+from datetime import datetime, tzinfo
+
+from steelnewt_relay.moments import zone_of
+
+
+class Own:
+    """The people's own settings, in the database of an outbox."""
+
+    def __init__(self, base: sqlite3.Connection) -> None:
+        self.base = base
+
+    def zone(self, person: str, other: tzinfo) -> tzinfo:
+        """The zone in which a person reads times; `other` where they chose none."""
+        found = self.base.execute("SELECT zone FROM people WHERE person = ?", (person,)).fetchone()
+        return zone_of(found[0]) if found and found[0] else other
+
+    def set_zone(self, person: str, zone: str) -> None:
+        if zone:
+            zone_of(zone)
+        self.base.execute(
+            "INSERT INTO people (person, zone) VALUES (?, ?)"
+            " ON CONFLICT (person) DO UPDATE SET zone = excluded.zone",
+            (person, zone),
+        )
+
+    def set_away(self, person: str, first: str, last: str) -> None:
+        """The first and the last day of an absence, as yyyymmdd; both empty: there is none."""
+        self.base.execute(
+            "INSERT INTO people (person, away_from, away_until) VALUES (?, ?, ?) ON CONFLICT"
+            " (person) DO UPDATE SET away_from = excluded.away_from,"
+            " away_until = excluded.away_until",
+            (person, first, last),
+        )
+
+    def away(self, person: str) -> tuple[str, str]:
+        found = self.base.execute(
+            "SELECT away_from, away_until FROM people WHERE person = ?", (person,)
+        ).fetchone()
+        return (str(found[0]), str(found[1])) if found else ("", "")
+
+    def is_away(self, person: str, at: datetime, other: tzinfo) -> bool:
+        """Whether a person is absent on the day that this moment has where they are."""
+        first, last = self.away(person)
+        day = at.astimezone(self.zone(person, other)).strftime("%Y%m%d")
+        return bool(first) and first <= day <= last
+
+    def save(self, person: str, name: str, message: int) -> None:
+        row = (person, name, message)
+        self.base.execute("INSERT OR REPLACE INTO templates VALUES (?, ?, ?)", row)
+
+    def names(self, person: str) -> list[str]:
+        rows = self.base.execute(
+            "SELECT name FROM templates WHERE person = ? ORDER BY name", (person,)
+        )
+        return [name for (name,) in rows]
