@@ -14,11 +14,13 @@ from steelnewt_relay import heads, telling
 from steelnewt_relay.admission import faults
 from steelnewt_relay.asking import wish_token
 from steelnewt_relay.moments import as_asked
+from steelnewt_relay.notices import Notices
 from steelnewt_relay.outbox import Kept
 from steelnewt_relay.posting import post_one
 from steelnewt_relay.reasons import Reason
 from steelnewt_relay.signing import SIGN
 from steelnewt_relay.standing import Knowledge, Standing, State
+from steelnewt_relay.verdicts import full_event
 from steelnewt_relay.visit import MOST_CARDS, Visit
 from steelnewt_relay.words import window_of
 
@@ -62,9 +64,10 @@ def show_request(by: str, no: int) -> str | tuple[str, int]:
         visit=visit,
         person=visit.person,
         notices=notices(visit, knowledge),
+        is_told="told" in flask.request.args,
         standing=standing,
         moments=heads.moments(standing),
-        left=heads.time_left(kept.request.wish, visit.now) if is_open(standing) else "",
+        left=heads.time_left(standing, visit.now),
         ceiling=visit.roster.ceilings.get(kept.request.wish.ceiling),
         kinds=kinds_for(visit, standing),
         is_signed=visit.config.is_signed,
@@ -75,10 +78,15 @@ def show_request(by: str, no: int) -> str | tuple[str, int]:
 
 def unknown(visit: Visit, by: str, no: int) -> str:
     """What to say of a request that is none: most of the time a number that was mistyped."""
+    left = ", ".join(str(it) for it in open_of(visit, by))
+    text = f"there is no {by} {no} here"
+    return f"{text}: {by}'s open requests are {left}" if left else text
+
+
+def open_of(visit: Visit, by: str) -> list[int]:
+    """The numbers of a person's last requests that are open."""
     left = [it.request for it in visit.knowledge().open() if it.request.by == by]
-    listed = ", ".join(str(it.no) for it in left[-MOST_CARDS:])
-    text = f"there is no request {by} {no} here"
-    return f"{text}: {by}'s open requests are {listed}" if left else text
+    return [it.no for it in left[-MOST_CARDS:]]
 
 
 def is_open(standing: Standing) -> bool:
@@ -101,13 +109,18 @@ def kinds_for(visit: Visit, standing: Standing) -> tuple[str, ...]:
     request = standing.request
     about = visit.person, request.by, request.wish.ceiling, visit.now
     if request.by == visit.person:
-        kinds: tuple[str, ...] = own_kinds(standing)
-    elif may_approve(visit, standing):
-        kinds = ("refuse", "full") if heads.is_short(standing, visit.now) else ("refuse",)
-    else:
-        is_granted = standing.state in (State.IN_FORCE, State.COMING)
-        kinds = ("revoke",) if is_granted and visit.roster.may_revoke(*about) else ()
-    return kinds
+        return own_kinds(standing)
+    if may_approve(visit, standing):
+        return kinds_waiting(visit, standing)[1:]
+    is_granted = standing.state in (State.IN_FORCE, State.COMING)
+    return ("revoke",) if is_granted and visit.roster.may_revoke(*about) else ()
+
+
+def kinds_waiting(visit: Visit, standing: Standing) -> tuple[str, ...]:
+    """The buttons of a request for whoever may approve it. Where much of its time went by, they may
+    have its asker told that they would approve all of it."""
+    is_let = heads.is_short(standing, visit.now) and visit.config.notify is not None
+    return ("approve", "refuse", "let") if is_let else ("approve", "refuse")
 
 
 def own_kinds(standing: Standing) -> tuple[str, ...]:
@@ -131,9 +144,10 @@ def verdict_token(visit: Visit, kind: str, names: list[Name], is_back: bool = Fa
 
 def again_token(visit: Visit, standing: Standing) -> str:
     """What whoever asked sends from the request's own page to ask for the same from now on, where
-    that can be granted and nothing of the old one is left."""
+    that can be granted and little or nothing of the old one is left."""
     request, left = standing.request, (*heads.OPEN, State.IN_FORCE, State.COMING)
-    if request.by != visit.person or standing.state in left:
+    is_whole = standing.state in left and not heads.is_short(standing, visit.now)
+    if request.by != visit.person or is_whole:
         return ""
     length = f"{int(as_asked(request.wish.length()).total_seconds())}s"
     window = window_of("now", length, None, visit.zone, visit.now)
@@ -171,7 +185,6 @@ def show_verdict() -> str:
         shown=shown,
         left_out=left_out,
         notes=unseen,
-        why=full_hour(shown[0], visit) if shown and flask.request.args.get("full") else "",
         is_signed=visit.config.is_signed,
         token=verdict_token(visit, kind, sent, bool(flask.request.args.get("back"))),
     )
@@ -193,7 +206,7 @@ def asked_of(
     """A request that a verdict is about. Nobody approves what is not shown here."""
     kept = visit.outbox.request(*name)
     if kept is None:
-        unseen.append(telling.unseen(kind, *name))
+        unseen.append(telling.unseen(kind, *name, open_of(visit, name[0])))
         return None
     if kind == "approve":
         telling.approvable(kept)
@@ -210,23 +223,51 @@ def is_withdrawal(visit: Visit, kind: str, shown: list[Asked]) -> bool:
     )
 
 
-def full_hour(asked: Asked, visit: Visit) -> str:
-    """What an approver says to whoever may ask for the whole of it again."""
-    wish = asked.standing.request.wish
-    left = heads.time_left(wish, visit.now)
-    return f"ask again for the full {heads.full(wish)}: {left}" if left else ""
+def show_let() -> str:
+    """Shows a request before its asker is told that this person would approve all of it."""
+    visit: Visit = flask.g.visit
+    standing = visit.knowledge().standing(letable(visit, *next(names_asked())))
+    return flask.render_template(
+        "let.html",
+        visit=visit,
+        person=visit.person,
+        standing=standing,
+        token=visit.token("send-let", of=standing.request.by, no=standing.request.no),
+    )
+
+
+def letable(visit: Visit, of: str, no: int) -> Kept:
+    """A request that this person may approve, where people are told of anything."""
+    kept = visit.outbox.request(of, no)
+    if kept is None:
+        raise BadWord(unknown(visit, of, no))
+    if why := visit.roster.bar("approve", visit.person, of, kept.request.wish.ceiling, visit.now):
+        raise BadWord(telling.warning("approve", why).rstrip("."))
+    if visit.config.notify is None:
+        raise BadWord(f"nobody is told anything here: write to {of} yourself")
+    return kept
+
+
+def let(visit: Visit, said: dict[str, Any]) -> str:
+    """Has a request's asker told, and goes back to the request."""
+    kept, knowledge = letable(visit, said["of"], said["no"]), visit.knowledge()
+    event = full_event(visit.person, visit.config, knowledge, knowledge.standing(kept))
+    Notices(visit.outbox).record([event])
+    return flask.url_for("request_page", by=said["of"], no=said["no"], told="1")
 
 
 def send() -> Response:
     """Keeps what was confirmed, posts it, and goes back to where it was confirmed."""
     visit: Visit = flask.g.visit
-    is_verdict = flask.request.form.get("what", "") == "verdict"
-    said = visit.said("send-verdict" if is_verdict else "send-request")
+    what = flask.request.form.get("what", "")
+    if what == "let":
+        return flask.redirect(let(visit, visit.said("send-let")), 303)
+    said = visit.said("send-verdict" if what == "verdict" else "send-request")
     kept = keep(visit, said, flask.request.form.get("why", ""))
     for each in kept:
         post_one(visit.outbox, visit.desk, each)
     sent = ",".join(str(it.id) for it in kept)
-    if is_verdict and said.get("back"):
+    if what == "verdict" and said.get("back"):
         verdict = kept[0].verdict
         where = flask.url_for("request_page", by=verdict.of, no=verdict.no, sent=sent)
     else:
@@ -278,7 +319,8 @@ def told(visit: Visit, knowledge: Knowledge, kept: Kept) -> Notice:
         request = visit.outbox.request(verdict.of, verdict.no)
         standing = knowledge.standing(request) if request else None
         barred = standing.bar_of(verdict) if standing else ""
-        text = telling.verdict_fate(verdict.kind, kept.state, kept.answer, barred)
+        is_idle = bool(standing and not barred and knowledge.changes_nothing(standing, verdict))
+        text = telling.verdict_fate(verdict.kind, kept.state, kept.answer, barred, is_idle)
         # (what the desk has not got yet changes nothing of the request so far)
         after = f" {fate(visit, standing)}" if standing and kept.state == "acked" else ""
         return Notice((verdict.of, verdict.no), text + after)

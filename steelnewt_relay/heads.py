@@ -1,7 +1,7 @@
 """What stands first on a card: as whom, where, for how long, and how much of that is left. Below it
 who did what, and when."""
 
-from collections.abc import Iterable, Sequence
+from collections.abc import Iterable, Mapping, Sequence
 from dataclasses import dataclass
 from datetime import UTC, datetime, timedelta, tzinfo
 
@@ -11,10 +11,11 @@ from steelnewt_relay.letters import plain
 from steelnewt_relay.moments import as_asked, spoken
 from steelnewt_relay.outbox import Kept
 from steelnewt_relay.standing import Said, Standing, State
+from steelnewt_relay.summary import left_of_window
 from steelnewt_relay.telling import BARS, DONE
 
-# What has no more left than this is urgent; a length up to this is told in minutes alone.
-URGENT, IN_MINUTES = timedelta(minutes=15), timedelta(hours=3)
+# What has no more left than this is urgent.
+URGENT = timedelta(minutes=15)
 # How many of one's last requests are looked at for what is usual, and how many of those are shown.
 MOST_LOOKED, MOST_USUAL = 50, 5
 # What may still be granted.
@@ -44,19 +45,9 @@ def clock(at: datetime, zone: tzinfo) -> str:
     return text if local.utcoffset() == utc.utcoffset() else f"{text} ({utc:%H:%M} UTC)"
 
 
-def time_left(wish: Wish, at: datetime) -> str:
-    """How much is left of a window that runs while a request waits; empty where it is whole."""
-    begins, ends = of_stamp(wish.begins), of_stamp(wish.ends)
-    whole, left = as_asked(ends - begins), ends - at
-    size = timedelta(minutes=1) if whole > timedelta(minutes=5) else timedelta(seconds=1)
-    left = min(whole, -(-left // size) * size)
-    if not begins <= at < ends or left == whole:
-        return ""
-    count, name = left // size, "minutes" if size > timedelta(seconds=1) else "seconds"
-    verb = "is" if count == 1 else "are"
-    if whole > IN_MINUTES:
-        return f"{spoken(left)} of the {spoken(whole)} {verb} left"
-    return f"{count} of the {whole // size} {name} {verb} left"
+def time_left(standing: Standing, at: datetime) -> str:
+    """How much is left of a window that runs while its request waits."""
+    return left_of_window(standing.request.wish, at) if standing.state in OPEN else ""
 
 
 def is_short(standing: Standing, at: datetime) -> bool:
@@ -114,13 +105,13 @@ def said_at(said: Said) -> Moment:
     return Moment(of_stamp(verdict.at), text, plain(said.kept.reason.why))
 
 
-def usual(asked: Sequence[Kept]) -> list[Kept]:
-    """What somebody asks for again and again, the newest first: of their last requests, which are
-    in the order in which they were kept, a few that are not the same."""
-    found: dict[object, Kept] = {}
-    for kept in reversed(asked[-MOST_LOOKED:]):
+def usual(saved: Mapping[str, Kept], asked: Sequence[Kept]) -> list[tuple[str, Kept]]:
+    """What somebody asks for again and again: what they saved, by its name, and without a name the
+    newest first of their last requests, which are in the order in which they were kept."""
+    found: dict[object, tuple[str, Kept]] = {}
+    last = reversed([it for it in asked[-MOST_LOOKED:] if it.state != "refused"])
+    for name, kept in [*saved.items(), *(("", it) for it in last)]:
         wish = kept.request.wish
         key = wish.ceiling, wish.hosts, wish.runas, wish.commands, length(wish)
-        if kept.state != "refused":
-            found.setdefault(key, kept)
-    return list(found.values())[:MOST_USUAL]
+        found.setdefault(key, (name, kept))
+    return list(found.values())[: len(saved) + MOST_USUAL]

@@ -29,7 +29,8 @@ from steelnewt_client.told import Grant
 from steelnewt_relay import heads, telling
 from steelnewt_relay.asking import FIELDS, show_same, show_usual, show_wish
 from steelnewt_relay.config import BadConfig, Config
-from steelnewt_relay.deciding import notices, own_kinds, send, show_request, show_verdict
+from steelnewt_relay.deciding import kinds_waiting, notices, own_kinds, send, show_let
+from steelnewt_relay.deciding import show_request, show_verdict
 from steelnewt_relay.moments import BadTime, shown
 from steelnewt_relay.outbox import OutOfNumbers
 from steelnewt_relay.roster import BadRoster, Roster
@@ -38,7 +39,7 @@ from steelnewt_relay.standing import Board, Row, Standing, State
 from steelnewt_relay.summary import by_reach
 from steelnewt_relay.timeline import timeline
 from steelnewt_relay.visit import Cards, Seen, Server, Visit
-from steelnewt_relay.words import BadWords, checked_if
+from steelnewt_relay.words import BadWords, checked_if, unescaped
 
 log = logging.getLogger("desk-relay")
 PERSON_HEADER = "X-Desk-Person"
@@ -135,10 +136,12 @@ def create_app(config: Config) -> flask.Flask:
     app.add_url_rule("/history", "history", show_history)
     app.add_url_rule("/r/<by>/<int:no>", "request_page", show_request)
     app.add_url_rule("/verdict", "verdict", show_verdict)
+    app.add_url_rule("/let", "let", show_let)
     app.add_url_rule("/send", "send", send, methods=["POST"])
     app.jinja_env.globals.update(
         telling=telling, heads=heads, State=State, shown=shown, of_stamp=of_stamp,
-        by_reach=by_reach, fields=FIELDS, own_kinds=own_kinds,
+        by_reach=by_reach, unescaped=unescaped, fields=FIELDS, own_kinds=own_kinds,
+        kinds_waiting=kinds_waiting,
     )  # fmt: skip
     app.jinja_env.globals.update(made_parts(app))
     return app
@@ -156,9 +159,7 @@ def made_parts(app: flask.Flask) -> dict[str, Any]:
         """A request's card, with buttons (`again` is whose it is). Who may approve it depends on
         the day, what is left of it on the minute, and all else on what is given."""
         day = visit.now.replace(hour=0, minute=0, second=0)
-        is_left = standing.state in heads.OPEN
-        left = heads.time_left(standing.request.wish, visit.now) if is_left else ""
-        is_urgent = heads.is_urgent(standing, visit.now)
+        left, is_urgent = heads.time_left(standing, visit.now), heads.is_urgent(standing, visit.now)
         return made(standing, visit.roster, day, visit.zone, left, is_urgent, kinds)
 
     @lru_cache(maxsize=4096)
@@ -217,7 +218,7 @@ def home() -> str:
         ticked=flask.request.args.get("ticked", ""),
         board=board,
         ceilings=visit.roster.may_ask(visit.person, visit.now),
-        usual=heads.usual(asked),
+        usual=heads.usual(visit.own_requests(), asked),
         review=review,
         trouble=trouble,
         token=visit.token("ask"),

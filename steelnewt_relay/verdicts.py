@@ -6,6 +6,7 @@ from steelnewt_client.messages import BadWord, Verdict
 from steelnewt_client.moments import now, stamp
 from steelnewt_relay import telling
 from steelnewt_relay.call import DONE, NOT_SENT, REFUSED, Call
+from steelnewt_relay.config import Config
 from steelnewt_relay.events import Event, Finder, Manner
 from steelnewt_relay.moments import in_units
 from steelnewt_relay.notices import Notices
@@ -140,15 +141,14 @@ def let(call: Call) -> int:
         raise BadWord(telling.warning("approve", why).rstrip("."))
     if call.config.notify is None:
         raise BadWord(f"nobody is told anything here: write to {of} yourself")
-    Notices(call.outbox).record([full_event(call, knowledge.standing(kept))])
+    Notices(call.outbox).record([full_event(call.person, call.config, knowledge, knowledge.standing(kept))])
     call.say(f"{of} is told: {call.program} again {no} asks for {in_units(wish.length())} anew.")
     call.give_data({"told": of})
     return DONE
 
 
-def full_event(call: Call, standing: Standing) -> Event:
+def full_event(person: str, config: Config, knowledge: Knowledge, standing: Standing) -> Event:
     """The asker may have the whole length: one more word of theirs, and it is asked for anew."""
     length = in_units(standing.request.wish.length())
-    said = f"{call.person} would approve the whole {length} of {standing.name}, from now on."
-    finder = Finder(call.knowledge(), Manner.of(call.config))
-    return finder.event("full", standing.kept, standing, said, call.person)
+    said = f"{person} would approve the whole {length} of {standing.name}, from now on."
+    return Finder(knowledge, Manner.of(config)).event("full", standing.kept, standing, said, person)

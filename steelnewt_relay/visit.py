@@ -63,7 +63,7 @@ class Visit:
         self.person, self.now, self.desk = person, now(), server.desk
         self.outbox: Outbox = self.config.open_outbox()
         self.roster = self.config.read_roster()
-        self.zone = self.config.zone
+        self.zone = self.outbox.own.zone(person, self.config.zone)
 
     def knowledge(self) -> Knowledge:
         return Knowledge(self.outbox, self.desk, self.roster, self.now)
@@ -100,6 +100,11 @@ class Visit:
         if found["by"] != self.person or found["what"] != what:
             flask.abort(400, "The form was made for somebody else, or for something else.")
         return dict(found)
+
+    def own_requests(self) -> dict[str, Kept]:
+        """The requests that this person saved, by their names."""
+        found = {it: self.outbox.template(self.person, it) for it in self.outbox.own.names(self.person)}
+        return {name: kept for name, kept in found.items() if kept}
 
     def is_auditor(self) -> bool:
         return self.roster.holds(self.person, self.config.auditors, self.now)

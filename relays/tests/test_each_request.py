@@ -1,8 +1,11 @@
 """A request on the page, from its card and its own address to the yes: what stands first, who may
 press what, why somebody refused, and what is left of the time."""
 
+import json
 import re
+import sqlite3
 from collections.abc import Callable, Iterator
+from contextlib import closing
 from datetime import timedelta
 from html import unescape
 
@@ -68,6 +71,8 @@ def card(page: str, id: str) -> str:
 def people(tmp_path_factory: pytest.TempPathFactory) -> Iterator[People]:
     site = Site(tmp_path_factory.mktemp("each"))
     try:
+        with open(site.config, "a", encoding="ascii") as file:
+            file.write('[notify]\nprogram = ["/bin/true"]\n')
         site.start_desk()
         yield People(site)
     finally:
@@ -125,7 +130,7 @@ def test_a_number_that_is_none(people: People, asked: Callable[..., int]) -> Non
     no = asked()
     page = people.get("bob", "/r/ann/4711")
     assert page.status_code == 404
-    assert "There is no request ann 4711 here: ann's open requests are " in read(page.text)
+    assert "There is no ann 4711 here: ann's open requests are " in read(page.text)
     assert re.search(rf"\b{no}\b", read(page.text))
 
 
@@ -145,24 +150,29 @@ def test_what_is_left_of_the_time(people: People, asked: Callable[..., int]) -> 
     """Whoever wakes late may let the asker ask for the whole of it, by one press of hers."""
     no = asked(40)
     told = read(card(people.get("bob").text, f"waits-ann-{no}"))
-    assert re.search("(20|19) of the 60 minutes are left", told), told
-    assert "Let ann ask for all of it again" in told
-    page = people.get("bob", f"/verdict?kind=refuse&of=ann&no={no}&full=1").text
-    found = re.search('name="why"[^>]* value="([^"]*)"', page)
-    assert found and found[1].startswith("ask again for the full hour: ")
-    people.say("bob", page, why=found[1])
+    assert re.search("(1[5-9]|20) of the 60 minutes are left", told), told
+    assert "Let ann ask for the full hour" in told
+    page = people.get("bob", f"/let?of=ann&no={no}").text
+    assert "Let ann ask for the full hour?" in page
+    assert people.say("bob", page) == f"/r/ann/{no}?told=1"
+    with closing(sqlite3.connect(people.site.folder / "outbox.db")) as base:
+        rows = base.execute("SELECT body FROM notices WHERE kind = 'full'").fetchall()
+    [event] = [json.loads(it) for (it,) in rows]
+    assert (event["by"], event["to"], event["no"]) == ("bob", ["ann"], no)
     own = people.get("ann", f"/r/ann/{no}").text
-    assert "ask again for the full hour" in own and 'id="yes"' in own
     people.say("ann", own)
     kept = read_config(str(people.site.config)).open_outbox().requests_of("ann")[-1].request
     assert kept.no > no and kept.wish.length() > 59 * MINUTE
     assert of_stamp(kept.wish.begins) > now() - 5 * MINUTE
+    # (whoever may not approve it lets nobody)
+    assert people.get("eve", f"/let?of=ann&no={no}").status_code == 400
 
 
 def test_what_is_whole_is_not_counted(people: People, asked: Callable[..., int]) -> None:
-    no = asked()
+    no = asked(-30)
     told = read(card(people.get("bob").text, f"waits-ann-{no}"))
-    assert "left" not in told and "Let ann" not in told and f"ann {no} · db-care · until " in told
+    assert f"ann {no} · db-care · until " in told and "left" not in told and "Let ann" not in told
+    assert 'id="yes"' not in people.get("ann", f"/r/ann/{no}").text
 
 
 def test_what_ends_soon_stands_on_top(people: People, asked: Callable[..., int]) -> None:
@@ -243,7 +253,7 @@ def test_several_are_decided_by_one_yes(people: People, asked: Callable[..., int
     assert len(people.site.kept()) == before + 2
     told = people.text("carol", where)
     for no in (first, second):
-        assert re.search(rf"ann {no} : [^:]*approved it\. It is in force", told), told
+        assert re.search(rf"ann {no} : The desk has your approval\. It is in force", told), told
         assert "all of the migration" in people.text("ann", f"/r/ann/{no}")
     assert "Yes, approve" not in people.get("carol", f"/r/ann/{first}").text
 
@@ -277,7 +287,7 @@ def test_what_became_of_it_is_said_at_once(people: People, asked: Callable[..., 
     no = asked()
     page = people.get("bob", f"/verdict?kind=approve&of=ann&no={no}").text
     told = people.text("bob", people.say("bob", page))
-    assert re.search(rf"ann {no} : [^:]*approved it\. It is in force from", told), told
+    assert re.search(rf"ann {no} : [^:]*\. It is in force from", told), told
 
 
 def test_nothing_is_said_of_what_nobody_sent(people: People, asked: Callable[..., int]) -> None:
