@@ -1,5 +1,5 @@
-"""What cannot be granted of a request, by the roster that this relay reads: said before a person says
-yes. The desk decides all the same, and its roster may be another by then."""
+"""What cannot be granted of a request, by the roster that this relay reads: said before a person
+says yes. The desk decides all the same, and its roster may be another by then."""
 
 from datetime import datetime, timedelta
 from typing import NamedTuple
@@ -8,7 +8,6 @@ from steelnewt_client.messages import Wish
 from steelnewt_client.moments import of_stamp
 from steelnewt_relay.moments import spoken
 from steelnewt_relay.roster import Ceiling, Roster
-
 
 # A window that ends later is not looked at: who holds which duty then is not settled yet.
 MOST_DAYS = 31
@@ -66,7 +65,7 @@ def refusals(roster: Roster, person: str, wish: Wish, at: datetime) -> list[Faul
     found += outside("hosts", wish.hosts, ceiling.hosts, ceiling)
     found += outside("runas", (wish.runas,), ceiling.runas, ceiling)
     far = [it for it in wish.commands if not any(lies_inside(it, to) for to in ceiling.commands)]
-    found += [fault for it in far for fault in outside("commands", (it,), ceiling.commands, ceiling)]
+    found += [each for it in far for each in outside("commands", (it,), ceiling.commands, ceiling)]
     if of_stamp(wish.ends) - of_stamp(wish.begins) > timedelta(seconds=ceiling.longest):
         longest = spoken(timedelta(seconds=ceiling.longest))
         found.append(Fault("length", f"{ceiling.label} gives at most {longest}"))

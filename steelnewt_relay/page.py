@@ -36,7 +36,7 @@ from steelnewt_relay.outbox import OutOfNumbers
 from steelnewt_relay.roster import BadRoster, Roster
 from steelnewt_relay.sharing import Shared
 from steelnewt_relay.standing import Board, Row, Standing, State
-from steelnewt_relay.summary import by_reach
+from steelnewt_relay.summary import by_reach, few
 from steelnewt_relay.timeline import timeline
 from steelnewt_relay.visit import Cards, Seen, Server, Visit
 from steelnewt_relay.words import BadWords, checked_if, unescaped
@@ -54,6 +54,7 @@ NOBODY = (
     "The front does not say who you are: it takes a person's certificate, or a sign-on by a name"
     " that a roster can have."
 )
+NOT_LISTED = "Nobody here is called {}: ask whoever keeps the list of people."
 EXPOSED = (
     "EVERY ACCOUNT OF THIS MACHINE REACHES THE PAGE HERE, and while it is stopped any of them can"
     " take its place, and is given the front's secret; listen at unix:/run/desk-relay/page.sock"
@@ -113,7 +114,7 @@ def create_app(config: Config) -> flask.Flask:
             flask.g.visit = visit = Visit(server, person)
             if person not in visit.roster.people:
                 # (whoever can sign on at the site sees nothing here for that alone)
-                flask.abort(403, f"Nobody here is called {person}: ask whoever keeps the list of people.")
+                flask.abort(403, NOT_LISTED.format(person))
         return None
 
     @app.teardown_request
@@ -140,7 +141,7 @@ def create_app(config: Config) -> flask.Flask:
     app.add_url_rule("/send", "send", send, methods=["POST"])
     app.jinja_env.globals.update(
         telling=telling, heads=heads, State=State, shown=shown, of_stamp=of_stamp,
-        by_reach=by_reach, unescaped=unescaped, fields=FIELDS, own_kinds=own_kinds,
+        by_reach=by_reach, unescaped=unescaped, few=few, fields=FIELDS, own_kinds=own_kinds,
         kinds_waiting=kinds_waiting,
     )  # fmt: skip
     app.jinja_env.globals.update(made_parts(app))

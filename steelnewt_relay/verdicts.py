@@ -141,7 +141,8 @@ def let(call: Call) -> int:
         raise BadWord(telling.warning("approve", why).rstrip("."))
     if call.config.notify is None:
         raise BadWord(f"nobody is told anything here: write to {of} yourself")
-    Notices(call.outbox).record([full_event(call.person, call.config, knowledge, knowledge.standing(kept))])
+    event = full_event(call.person, call.config, knowledge, knowledge.standing(kept))
+    Notices(call.outbox).record([event])
     call.say(f"{of} is told: {call.program} again {no} asks for {in_units(wish.length())} anew.")
     call.give_data({"told": of})
     return DONE

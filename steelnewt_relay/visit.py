@@ -103,7 +103,8 @@ class Visit:
 
     def own_requests(self) -> dict[str, Kept]:
         """The requests that this person saved, by their names."""
-        found = {it: self.outbox.template(self.person, it) for it in self.outbox.own.names(self.person)}
+        names = self.outbox.own.names(self.person)
+        found = {it: self.outbox.template(self.person, it) for it in names}
         return {name: kept for name, kept in found.items() if kept}
 
     def is_auditor(self) -> bool:

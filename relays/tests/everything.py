@@ -1,5 +1,5 @@
-"""A site with everything that a page can show, for the tests of sizes, colours and pictures: what is
-empty is never wide, and never dark."""
+"""A site with everything that a page can show, for the tests of sizes, colours and pictures: what
+is empty is never wide, and never dark."""
 
 import subprocess
 from datetime import datetime, timedelta

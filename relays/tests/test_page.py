@@ -115,7 +115,7 @@ def test_a_person_whom_the_roster_does_not_have(fronted: tuple[Site, Front], pat
     site, _ = fronted
     given = {"X-Desk-Person": "mallory", "X-Desk-Front": SECRET}
     status, text = site.ask_page(path, given)
-    assert status == 403 and "The roster has nobody whose name is mallory" in text
+    assert status == 403 and "Nobody here is called mallory" in text
     assert "/usr/bin/id" not in text and "db-care" not in text
 
 
