@@ -18,7 +18,7 @@ COMMANDS = tuple(
 )
 OPEN = 60
 LONG = (
-    "Payments API returns 502 since 02:41; on-call is with the vendor, and we need to drain, restart"
+    "Payments API returns 502 since 02:41; on-call is with the vendor, and we drain, restart"
     " and rotate the keys on every node of the fleet (runbook PAY-12). "
 )
 WHY = (LONG * 4)[:500]

@@ -119,7 +119,7 @@ def test_no_person_of_the_realm(fronted: Fronted, principal: str) -> None:
 def test_a_person_whom_the_roster_does_not_have(fronted: Fronted) -> None:
     for path in ("/", "/history", "/verdict?kind=approve&of=ann&no=1"):
         status, text = fronted.get("mallory", path)
-        assert status == 403 and "The roster has nobody whose name is mallory" in text
+        assert status == 403 and "Nobody here is called mallory" in text
         assert "/usr/bin/id" not in text
 
 

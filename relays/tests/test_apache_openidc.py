@@ -161,7 +161,7 @@ def test_no_name_of_a_person(place: Place, person: str) -> None:
 
 def test_a_person_whom_the_roster_does_not_have(place: Place) -> None:
     browser, reply = place.signed_on("mallory")
-    assert reply.status_code == 403 and "The roster has nobody" in reply.text
+    assert reply.status_code == 403 and "Nobody here is called" in reply.text
     reply = browser.get(f"{place.url}verdict?kind=approve&of=ann&no=1", timeout=60)
     assert reply.status_code == 403 and "/usr/bin/id" not in reply.text
 
