@@ -8,6 +8,7 @@ import re
 import select
 import subprocess
 import time
+from collections.abc import Iterator
 from datetime import timedelta
 
 import pytest
@@ -21,6 +22,21 @@ from steelnewt_relay.config import read_config
 
 ASK = "ask db-care --on db1 --as root --for 1h --yes --again"
 NIGHT = "ask db-emergency --on db1 --as root --for 15m"
+
+
+@pytest.fixture(scope="module")
+def served(tmp_path_factory: pytest.TempPathFactory) -> Iterator[Site]:
+    """A site whose desk serves all of these tests."""
+    found = Site(tmp_path_factory.mktemp("night"))
+    found.start_desk()
+    yield found
+    found.close()
+
+
+@pytest.fixture
+def site(served: Site) -> Site:
+    served.begin_anew()
+    return served
 
 
 def said(site: Site, person: str, line: str, given: str = "") -> tuple[int, str]:
@@ -46,7 +62,7 @@ def lines(told: str) -> list[str]:
 DOUBTS = [
     (f"{NIGHT} --why disk of /var full ALL", "part of the reason?"),
     (f"{NIGHT} --why disk of /var full", "part of the reason?"),
-    ("ask db-care --on db1 --as root --for 1h --why look at /var/log /usr/bin/id", "of the reason?"),
+    ("ask db-care --on db1 --for 1h --why look at /var/log /usr/bin/id", "part of the reason?"),
     ("ask db-care --on db1 --as root --for 1h /usr/bin/id --why down", "--why an option of yours"),
     ("ask db-care --on db1 --as root --for 1h /usr/bin/id --on db2", "--on an option of yours"),
     (f"{NIGHT} --why can't connect ALL", "ssh takes one layer of quotes away"),
@@ -133,12 +149,12 @@ def test_at_a_terminal_it_is_asked(quiet_site: Site) -> None:
 def test_a_verdict_has_a_reason(site: Site) -> None:
     """It is shown to whoever asked, and kept with the verdict."""
     asks(site)
-    assert said(site, "bob", "refuse ann 1 --yes --why not now, see OPS-9")[0] == 0
-    told = said(site, "ann", "show ann 1")[1]
+    assert said(site, "bob", f"refuse ann {site.no()} --yes --why not now, see OPS-9")[0] == 0
+    told = said(site, "ann", f"show ann {site.no()}")[1]
     assert "bob refused it" in told and "why       | not now, see OPS-9" in told, told
     [found] = site.data("ann", "mine")  # type: ignore[misc]
     assert found["verdicts"][0]["why"] == "not now, see OPS-9"
-    status, told = said(site, "bob", f"refuse ann 1 --yes --again --why {'x' * 501}")
+    status, told = said(site, "bob", f"refuse ann {site.no()} --yes --again --why {'x' * 501}")
     assert status == 2 and "at most 500" in told
 
 
@@ -147,9 +163,9 @@ def test_a_window_is_told_as_it_was_asked(site: Site) -> None:
     at = now()
     brought(site, wish(at, timedelta(minutes=59, seconds=58)))
     brought(site, wish(at - timedelta(minutes=35)))
-    _, told = said(site, "bob", "approve ann 1", "n\n")
+    _, told = said(site, "bob", f"approve ann {site.no()}", "n\n")
     assert "how long  1 hour\n" in told and "for 1 hour" in told, told
-    _, told = said(site, "bob", "approve ann 2", "n\n")
+    _, told = said(site, "bob", f"approve ann {site.no(2)}", "n\n")
     left = re.search(r"(\d+) of the 60 minutes are left", told)
     assert left and 18 <= int(left[1]) <= 25, told
 
@@ -192,19 +208,19 @@ def test_what_is_surely_refused_is_not_sent(quiet_site: Site, words: str, piece:
 def test_a_verdict_that_will_not_count(site: Site, person: str) -> None:
     """It is not sent; who sends it anyway reads the same, and status 1."""
     asks(site)
-    status, told = said(site, person, "approve ann 1 --yes")
+    status, told = said(site, person, f"approve ann {site.no()} --yes")
     assert status == 2 and "will not count" in told and len(site.kept()) == 1, told
-    status, told = said(site, person, "approve ann 1 --yes --anyway")
+    status, told = said(site, person, f"approve ann {site.no()} --yes --anyway")
     assert status == 1 and "it does not count" in told, told
 
 
 def test_what_is_said_before_is_what_comes(site: Site) -> None:
     """An approval behind enough others: it changes nothing, before and after."""
     asks(site)
-    assert said(site, "bob", "approve ann 1 --yes")[0] == 0
-    status, told = said(site, "carol", "approve ann 1 --yes")
+    assert said(site, "bob", f"approve ann {site.no()} --yes")[0] == 0
+    status, told = said(site, "carol", f"approve ann {site.no()} --yes")
     assert status == 2 and "Your approval would change nothing: enough people" in told, told
-    status, told = said(site, "carol", "approve ann 1 --yes --anyway")
+    status, told = said(site, "carol", f"approve ann {site.no()} --yes --anyway")
     assert status == 1 and "But it changes nothing: enough people" in told, told
 
 
@@ -218,20 +234,22 @@ def test_lists_have_one_line_for_each(site: Site) -> None:
                     (stamp(at), stamp(at + timedelta(minutes=11))))  # fmt: skip
     brought(site, hosts, by="carol")
     told = lines(said(site, "ann", "mine")[1])
-    assert len(told) == 31 and told[0].startswith("ann 1 ") and told[-1].startswith("ann 31 ")
+    first, last = f"ann {site.no()} ", f"ann {site.no(31)} "
+    assert len(told) == 31 and told[0].startswith(first) and told[-1].startswith(last)
     assert "refused" in told[-1] and all(len(it) <= 80 for it in told), told
     told = lines(said(site, "bob", "waiting")[1])
-    assert told[0].startswith("carol 1 ") and "root@2 hosts" in told[0] and "min left" in told[0]
+    assert told[0].startswith(f"carol {site.no()} "), told
+    assert "root@2 hosts" in told[0] and "min left" in told[0], told
     assert len([it for it in told if re.match("(ann|carol) [0-9]", it)]) == 31
-    assert not any(it.startswith("ann 31 ") for it in told)
+    assert not any(it.startswith(last) for it in told)
     assert len(lines(said(site, "ann", "mine -l")[1])) > 200
 
 
 def test_data_are_alone_at_a_terminal(site: Site) -> None:
     """`ssh -t desk mine --json | jq`: a terminal mixes both streams, so there is one."""
     asks(site)
-    for line in ("mine --json", "show ann 1 --json", f"{ASK} --json /usr/bin/id",
-                 "approve ann 1 --yes --json"):  # fmt: skip
+    for line in ("mine --json", f"show ann {site.no()} --json", f"{ASK} --json /usr/bin/id",
+                 f"approve ann {site.no()} --yes --json"):  # fmt: skip
         person = "bob" if line.startswith("approve") else "ann"
         ran = site.run(person, line)
         assert ran.returncode == 0 and not ran.stderr, ran
@@ -243,13 +261,14 @@ def test_several_with_one_yes(site: Site) -> None:
     for more in ("--why first", "--why second", "--why third"):
         asks(site, "ann", more)
     asks(site, "carol", "--why fourth")
-    status, told = said(site, "bob", "approve ann 1-2 carol 1", "y\n")
+    line = f"approve ann {site.no()}-{site.no(2)} carol {site.no()}"
+    status, told = said(site, "bob", line, "y\n")
     assert status == 0 and told.count("[y/N]") == 1 and "bob: approve these 3?" in told, told
     before = told.partition("[y/N]")[0]
     assert all(f"why       | {it}" in before for it in ("first", "second", "fourth"))
     assert "third" not in told and told.count("It is in force") == 3
     status, told = said(site, "bob", "approve", "y\n")
-    assert status == 0 and "bob: approve ann 3?" in told, told
+    assert status == 0 and f"bob: approve ann {site.no(3)}?" in told, told
     assert "which one?" in said(site, "bob", "approve")[1]
 
 
@@ -310,7 +329,7 @@ def test_a_ticket_is_spelled_as_the_sites(quiet_site: Site) -> None:
 
 def test_who_asks_withdraws(site: Site) -> None:
     asks(site)
-    assert said(site, "ann", "withdraw 1 --yes --why found it")[0] == 0
+    assert said(site, "ann", f"withdraw {site.no()} --yes --why found it")[0] == 0
     [found] = site.data("ann", "mine")  # type: ignore[misc]
     assert found["state"] == "objected" and found["verdicts"][0]["why"] == "found it"
 
@@ -333,22 +352,23 @@ def test_alone_at_a_terminal(site: Site) -> None:
     """What waits, what is in force, and the words that fit."""
     asks(site)
     told = at_terminal(site, "bob", "", "", "help\n")
-    assert "bob: 1 waits for you" in told and "ssh desk approve ann 1" in told, told
-    assert said(site, "bob", "approve ann 1 --yes")[0] == 0
+    assert "bob: 1 waits for you" in told and f"ssh desk approve ann {site.no()}" in told, told
+    assert said(site, "bob", f"approve ann {site.no()} --yes")[0] == 0
     told = at_terminal(site, "ann", "", "", "help\n")
-    assert "ann 1 in force on db1 for" in told and "ssh desk extend 1" in told, told
+    assert f"ann {site.no()} in force on db1 for" in told, told
+    assert f"ssh desk extend {site.no()}" in told, told
 
 
 def test_ask_stays_until_it_is_decided(site: Site) -> None:
     """The last line is the one to type on the host."""
     line = "ask db-care --on db1 --as postgres --for 1h /usr/bin/id"
     terminal = Terminal(site, "ann", line, "y\n")
-    assert "Kept as ann 1." in terminal.until("Ctrl-C"), terminal.shown
-    assert said(site, "bob", "approve ann 1 --yes")[0] == 0
+    assert f"Kept as ann {site.no()}." in terminal.until("Ctrl-C"), terminal.shown
+    assert said(site, "bob", f"approve ann {site.no()} --yes")[0] == 0
     told = terminal.until("sudo -u postgres /usr/bin/id")
     assert "it goes on without you" in told and "bob approved it" in told, told
     assert terminal.close() == 0 and told.rstrip().endswith("sudo -u postgres /usr/bin/id")
-    status, told = said(site, "ann", "wait 1")
+    status, told = said(site, "ann", f"wait {site.no()}")
     assert status == 0 and told.rstrip().endswith("sudo -u postgres /usr/bin/id"), told
 
 

@@ -3,6 +3,7 @@ a notice says what it is about and leads there. The relay's own `notify` runs a 
 each event."""
 
 import json
+from collections.abc import Iterator
 from datetime import datetime, timedelta
 
 import pytest
@@ -31,6 +32,23 @@ def heard(site: Site, person: str) -> list[str]:
     return [str(it["event"]) for it in events(site) if person in it["to"]]  # type: ignore[operator]
 
 
+@pytest.fixture(scope="module")
+def served(tmp_path_factory: pytest.TempPathFactory) -> Iterator[Site]:
+    """A site whose desk serves all of these tests."""
+    found = Site(tmp_path_factory.mktemp("told"))
+    on_call(found, "carol")
+    found.start_desk()
+    yield found
+    found.close()
+
+
+@pytest.fixture
+def site(served: Site) -> Site:
+    served.begin_anew()
+    (served.folder / "events").unlink(missing_ok=True)
+    return served
+
+
 @pytest.fixture
 def telling(site: Site) -> Site:
     """A site that tells people, by a program which keeps what it is given."""
@@ -47,9 +65,9 @@ def begun(site: Site, **other: object) -> None:
 
 # Who says what of ann's request, and what carol hears, who was woken and did nothing.
 ENDS = [
-    ("bob", "approve ann 1 --yes", ["asked", "granted"]),
-    ("bob", "refuse ann 1 --yes", ["asked", "refused"]),
-    ("ann", "revoke ann 1 --yes", ["asked", "revoked"]),
+    ("bob", "approve ann {} --yes", ["asked", "granted"]),
+    ("bob", "refuse ann {} --yes", ["asked", "refused"]),
+    ("ann", "revoke ann {} --yes", ["asked", "revoked"]),
 ]
 
 
@@ -59,7 +77,7 @@ def test_who_was_woken_hears_that_it_is_over(
 ) -> None:
     told(telling, "ann", ASK)
     wait_for(lambda: heard(telling, "carol") == ["asked"])
-    told(telling, person, line)
+    told(telling, person, line.format(telling.no()))
     wait_for(lambda: len(events(telling)) >= 2)
     wait_for(lambda: heard(telling, "carol") == wanted, 20)
     last = events(telling)[-1]
@@ -75,7 +93,7 @@ def test_what_lapses_is_told_to_who_was_woken(site: Site) -> None:
     kept = brought(site, wish(ends - timedelta(hours=1)))
     wait_for(lambda: heard(site, "carol") == ["asked", "void"], 120)
     assert heard(site, "bob") == ["asked", "void"] and heard(site, "ann") == ["void"]
-    assert kept.request.no == 1
+    assert kept.request.no == site.no()
 
 
 def test_a_notice_says_what_it_is_about_and_leads_there(telling: Site) -> None:
@@ -83,14 +101,15 @@ def test_a_notice_says_what_it_is_about_and_leads_there(telling: Site) -> None:
     wait_for(lambda: heard(telling, "bob") == ["asked"])
     event = events(telling)[0]
     assert event["subject"] == "ann: root on db1, 1 hour: disk full (OPS-7)"
-    assert event["link"] == "https://desk/r/ann/1" and event["thread"] == "ann-1"
+    name, link = f"ann {telling.no()}", f"https://desk/r/ann/{telling.no()}"
+    assert event["link"] == link and event["thread"] == name.replace(" ", "-")
     rows = str(event["text"]).splitlines()
-    assert rows[-2:] == ["To approve it: ssh desk approve ann 1", "https://desk/r/ann/1"]
-    told(telling, "bob", "refuse ann 1 --yes --why not now")
+    assert rows[-2:] == [f"To approve it: ssh desk approve {name}", link]
+    told(telling, "bob", f"refuse ann {telling.no()} --yes --why not now")
     wait_for(lambda: len(events(telling)) == 2)
     event = events(telling)[1]
     assert str(event["text"]).startswith('bob refused ann 1: "not now".')
-    assert event["verdict_why"] == "not now" and event["thread"] == "ann-1"
+    assert event["verdict_why"] == "not now" and event["thread"] == f"ann-{telling.no()}"
 
 
 def on_call(site: Site, person: str) -> None:
@@ -101,20 +120,17 @@ def on_call(site: Site, person: str) -> None:
     path.write_text(text.replace(f'{person} = ["approve-db"', f'{person} = [{duty}, "approve-db"'))
 
 
-def test_who_is_on_call_is_told_first(quiet_site: Site) -> None:
+def test_who_is_on_call_is_told_first(site: Site) -> None:
     """The next after a while, once; the asker reads who was told."""
-    site = quiet_site
-    on_call(site, "carol")
-    site.start_desk()
     begun(site, first="on-call", minutes=1)
     told(site, "ann", ASK)
     wait_for(lambda: bool(events(site)))
     assert (heard(site, "carol"), heard(site, "bob")) == (["asked"], [])
-    assert "carol was told at " in said(site, "ann", "show ann 1")[1]
+    assert "carol was told at " in said(site, "ann", f"show ann {site.no()}")[1]
     wait_for(lambda: heard(site, "bob") == ["asked-next"], 150)
     assert heard(site, "carol") == ["asked"]
-    assert "bob was told at " in said(site, "ann", "show ann 1")[1]
-    told(site, "bob", "approve ann 1 --yes")
+    assert "bob was told at " in said(site, "ann", f"show ann {site.no()}")[1]
+    told(site, "bob", f"approve ann {site.no()} --yes")
     wait_for(lambda: heard(site, "carol") == ["asked", "granted"])
     assert heard(site, "ann") == ["granted"]
 
@@ -126,7 +142,7 @@ def test_an_absence_is_of_what_is_told_alone(telling: Site) -> None:
     told(telling, "ann", ASK)
     wait_for(lambda: bool(events(telling)))
     assert (heard(telling, "bob"), heard(telling, "carol")) == (["asked"], [])
-    told(telling, "carol", "approve ann 1 --yes")
+    told(telling, "carol", f"approve ann {telling.no()} --yes")
     told(telling, "bob", f"away {tomorrow}")
     told(telling, "ann", ASK)
     wait_for(lambda: heard(telling, "carol") == ["asked"])
@@ -137,13 +153,14 @@ def test_an_absence_is_of_what_is_told_alone(telling: Site) -> None:
 def test_the_whole_length_is_one_word_away(telling: Site) -> None:
     """An approver who comes late lets the asker ask for all of it; the asker's word is needed."""
     brought(telling, wish(now() - timedelta(minutes=35)))
-    told(telling, "bob", "let ann 1")
+    told(telling, "bob", f"let ann {telling.no()}")
     wait_for(lambda: heard(telling, "ann") == ["full"])
     event = next(it for it in events(telling) if it["event"] == "full")
-    assert "bob would approve the whole 1h of ann 1, from now on." in str(event["text"])
-    assert "To ask for it: ssh desk again 1" in str(event["text"])
+    said_of_it = f"bob would approve the whole 1h of ann {telling.no()}, from now on."
+    assert said_of_it in str(event["text"])
+    assert f"To ask for it: ssh desk again {telling.no()}" in str(event["text"])
     assert len(telling.kept()) == 1
-    status, text = said(telling, "dave", "let ann 1")
+    status, text = said(telling, "dave", f"let ann {telling.no()}")
     assert status == 2 and "do not hold the duty" in text
 
 
@@ -154,4 +171,4 @@ def test_an_end_leads_to_the_next(site: Site) -> None:
     brought(site, wish(begins), ("bob", "approve", begins + timedelta(minutes=1)))
     wait_for(lambda: "ends-soon" in heard(site, "ann"))
     event = next(it for it in events(site) if it["event"] == "ends-soon")
-    assert "To go on without a gap: ssh desk again 1 --from end" in str(event["text"])
+    assert f"To go on without a gap: ssh desk again {site.no()} --from end" in str(event["text"])
