@@ -274,7 +274,7 @@ def test_what_is_usual_is_asked_by_two_presses(people: People, asked: Callable[.
     for _ in range(2):
         asked(length=45 * MINUTE)
     home = people.get("ann").text
-    usual = re.findall(r'<a href="(/usual\?no=\d+)">root on db1, 45 minutes</a>', home)
+    usual = re.findall(r'<a href="(/usual\?no=\d+)">root on db1, 45 minutes\s*<', home)
     assert len(usual) == 1 and home.index(usual[0]) < home.index('id="hosts"')
     page = people.get("ann", usual[0])
     assert page.status_code == 200 and "Ask for this?" in page.text
