@@ -330,4 +330,3 @@ def told(visit: Visit, knowledge: Knowledge, kept: Kept) -> Notice:
 
 def fate(visit: Visit, standing: Standing) -> str:
     return telling.fate(standing, visit.zone, visit.roster, visit.now)
-

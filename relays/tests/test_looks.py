@@ -39,7 +39,7 @@ PAGES = {
 # Whatever can be pressed or filled in, as far as it is shown.
 SHOWN = """
 const shown = e => { const r = e.getBoundingClientRect(); return r.width > 1 && r.height > 1
-  && getComputedStyle(e).visibility == 'visible'; };
+  && e.checkVisibility({visibilityProperty: true}); };
 const all = [...document.querySelectorAll('a[href], button, input, select, textarea, summary')]
   .filter(e => e.type != 'hidden' && !e.classList.contains('skip') && shown(e));
 """
