@@ -15,7 +15,6 @@ from relays.tests.chromium import browser
 from relays.tests.everything import Everything
 from relays.tests.front import Front
 from relays.tests.site import ROOT
-from relays.tests.test_browser import CONTRAST
 
 SHOTS = ROOT / "build" / "relays-screenshots"
 SIZES = ((360, 740), (768, 1024), (1440, 900))
@@ -36,6 +35,19 @@ PAGES = {
     "wrong": ("ann", "/usual?no=REFUSED"),
     "history": ("dave", "/history"),
 }
+# The contrast of each text with what is behind it, by WCAG 2: 4.5, and 3 for large texts.
+CONTRAST = """
+const part = v => (v /= 255) <= .03928 ? v / 12.92 : ((v + .055) / 1.055) ** 2.4;
+const light = c => .2126 * part(c[0]) + .7152 * part(c[1]) + .0722 * part(c[2]);
+const rgb = text => text.match(/[0-9.]+/g).map(Number);
+const behind = e => { for (; e; e = e.parentElement) {
+  const c = rgb(getComputedStyle(e).backgroundColor); if (c.length == 3 || c[3] == 1) return c; }
+  return [255, 255, 255]; };
+return [...document.querySelectorAll('body *')].filter(e => !e.closest('svg') && e.offsetWidth > 1
+  && [...e.childNodes].some(n => n.nodeType == 3 && n.data.trim())).map(e => {
+  const a = light(rgb(getComputedStyle(e).color)), b = light(behind(e));
+  return [(Math.max(a, b) + .05) / (Math.min(a, b) + .05), e.tagName + e.textContent.trim()]; });
+"""
 # Whatever can be pressed or filled in, as far as it is shown.
 SHOWN = """
 const shown = e => { const r = e.getBoundingClientRect(); return r.width > 1 && r.height > 1
@@ -161,6 +173,7 @@ def test_each_page_at_each_size(
     for width, height in ((320, 640), *SIZES):
         looking.screen(width, height)
         found = looking.ask(PLACES)
+        print(name, width, found)
         assert found["wide"] <= width, (width, found)
         if found["yes"] and not is_large:
             assert found["yes"] <= height, (width, found)
@@ -171,6 +184,8 @@ def test_each_page_at_each_size(
             looking.screen(width, height, scheme)
             seen(looking, (name, width, scheme))
             looking.shoot(f"{name}-{width}-{scheme}{'-large' if is_large else ''}")
+    faults = [it for it in looking.driver.get_log("browser") if "favicon" not in it["message"]]
+    assert not faults
 
 
 def near(found: dict[str, int], wanted: Place, what: tuple[str, int]) -> None:

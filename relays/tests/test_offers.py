@@ -176,7 +176,7 @@ def test_the_page_offers_the_same(quiet_site: Site) -> None:
               "length": "1h", "token": token(home)}  # fmt: skip
     own = {"X-Desk-Front": SECRET, "X-Desk-Person": "ann"}
     shown = page.post("/ask", data=fields, headers=own).get_data(as_text=True)
-    assert "The desk will refuse this: web1 is outside db-care" in shown and "Yes, ask" in shown
+    assert "On which hosts</a>: web1 is outside db-care" in shown and "Yes, ask" not in shown
 
 
 def test_the_same_at_another_time_and_for_another_ticket(site: Site) -> None:
