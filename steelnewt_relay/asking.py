@@ -13,6 +13,7 @@ from steelnewt_relay.admission import faults
 from steelnewt_relay.moments import BadTime, in_units, length_of, moment_of
 from steelnewt_relay.outbox import Kept
 from steelnewt_relay.reasons import Reason
+from steelnewt_relay.standing import State
 from steelnewt_relay.visit import Visit
 from steelnewt_relay.words import BadWords, split, unescaped, window_of
 
@@ -156,9 +157,14 @@ def show_form(visit: Visit, words: Words, form: Form | None) -> str:
 
 
 def show_same() -> str:
-    """The form with the words of an older request of this person's."""
+    """The form with the words of an older request of this person's: from its end on, while it is in
+    force."""
     visit: Visit = flask.g.visit
-    return show_form(visit, words_of(asked_before(visit)), None)
+    kept = asked_before(visit)
+    words, standing = words_of(kept), visit.knowledge().standing(kept)
+    if standing.state is State.IN_FORCE and standing.grant:
+        words["begins"] = f"{standing.grant.ends.astimezone(visit.zone):%Y-%m-%d %H:%M:%S}"
+    return show_form(visit, words, None)
 
 
 def show_usual() -> Page:

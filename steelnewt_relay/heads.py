@@ -1,12 +1,12 @@
 """What stands first on a card: as whom, where, for how long, and how much of that is left. Below it
 who did what, and when."""
 
-from collections.abc import Iterable, Mapping, Sequence
+from collections.abc import Mapping, Sequence
 from dataclasses import dataclass
 from datetime import UTC, datetime, timedelta, tzinfo
 
 from steelnewt_client.messages import Wish
-from steelnewt_client.moments import of_stamp
+from steelnewt_client.moments import of_stamp, stamp
 from steelnewt_relay.letters import plain
 from steelnewt_relay.moments import as_asked, spoken
 from steelnewt_relay.outbox import Kept
@@ -61,14 +61,14 @@ def is_urgent(standing: Standing, at: datetime) -> bool:
     return standing.state in OPEN and of_stamp(standing.request.wish.ends) - at <= URGENT
 
 
-def urgent_first(found: Iterable[Standing], at: datetime) -> list[Standing]:
+def urgent_first(found: Sequence[Standing], at: datetime) -> list[Standing]:
     """Requests that wait: what ends soon, by its end; behind it all else as it came."""
-
-    def key(standing: Standing) -> tuple[bool, str]:
-        is_now = is_urgent(standing, at)
-        return not is_now, standing.request.wish.ends if is_now else ""
-
-    return sorted(found, key=key)
+    limit = stamp(at + URGENT)
+    soon = [it for it in found if it.request.wish.ends <= limit]
+    return [
+        *sorted(soon, key=lambda it: it.request.wish.ends),
+        *(it for it in found if it.request.wish.ends > limit),
+    ]
 
 
 @dataclass(frozen=True)

@@ -8,6 +8,7 @@ from collections.abc import Callable, Iterator
 from contextlib import closing
 from datetime import timedelta
 from html import unescape
+from zoneinfo import ZoneInfo
 
 import pytest
 from flask.testing import FlaskClient
@@ -306,6 +307,33 @@ def test_an_own_request_is_withdrawn(people: People, asked: Callable[..., int]) 
     people.say("ann", page, why="done by hand")
     assert f'id="waits-ann-{no}"' not in people.get("bob").text
     assert "done by hand" in people.text("bob", f"/r/ann/{no}")
+
+
+def test_what_is_in_force_goes_on_from_its_end(
+    people: People, asked: Callable[..., int]
+) -> None:
+    no = asked()
+    page = people.get("bob", f"/r/ann/{no}")
+    assert page.status_code == 200 and "Change it first" not in page.text
+    people.say("bob", page.text)
+    assert "Ask again" in people.get("ann", f"/r/ann/{no}").text
+    kept = read_config(str(people.site.config)).open_outbox().request("ann", no)
+    assert kept
+    ends = of_stamp(kept.request.wish.ends).astimezone(ZoneInfo("Europe/Berlin"))
+    begins = f'id="begins" name="begins" value="{ends:%Y-%m-%d %H:%M:%S}"'
+    assert begins in people.get("ann", f"/again?no={no}").text
+
+
+def test_where_people_sign_the_page_says_what_to_write(quiet_site: Site) -> None:
+    text = quiet_site.config.read_text()
+    signed = '[signing]\nsite = "desk.example"\nrequired = true\n[page]'
+    quiet_site.config.write_text(text.replace("[page]", signed, 1))
+    config = read_config(str(quiet_site.config))
+    kept = config.open_outbox().keep_request("ann", wish(now()), stamp(now()))
+    people = People(quiet_site)
+    for path in (f"/r/ann/{kept.request.no}", f"/verdict?kind=approve&of=ann&no={kept.request.no}"):
+        page = people.get("bob", path).text
+        assert "mydesk approve ann 1" in read(page) and 'id="yes"' not in page
 
 
 def test_an_approval_that_will_not_count_is_no_easy_yes(
