@@ -93,7 +93,18 @@ class Place(NamedTuple):
 
 
 # By page and width. (With 34 own requests and 58 that waited, a phone's home was 69,007 high.)
-NUMBERS: dict[tuple[str, int], Place] = {}
+NUMBERS: dict[tuple[str, int], Place] = {
+    ("home", 360): Place(23_684, 735, 675),
+    ("home", 768): Place(18_429, None, None),
+    ("home", 1440): Place(18_314, None, None),
+    ("mine", 360): Place(14_126, 739, None),
+    ("mine", 1440): Place(10_637, None, None),
+    ("request", 360): Place(2_888, 2_429, None),
+    ("request", 1440): Place(1_502, None, None),
+    ("several", 360): Place(3_833, 2_408, None),
+    ("refuse", 360): Place(918, 760, None),
+    ("history", 1440): Place(12_463, None, None),
+}
 
 
 class Looking:
@@ -104,8 +115,9 @@ class Looking:
 
     def open(self, name: str) -> None:
         person, path = PAGES[name]
-        for word, no in sorted(self.everything.numbers.items(), reverse=True):
-            path = path.replace(word.upper(), str(no))
+        # (one word is the end of another)
+        for word in sorted(self.everything.numbers, key=len, reverse=True):
+            path = path.replace(word.upper(), str(self.everything.numbers[word]))
         self.driver.get(self.front.url(person) + path)
 
     def screen(self, width: int, height: int, scheme: str = "light") -> None:
@@ -172,6 +184,7 @@ def test_each_page_at_each_size(
     looking.open(name)
     for width, height in ((320, 640), *SIZES):
         looking.screen(width, height)
+        looking.ask("scrollTo(0, 0)")
         found = looking.ask(PLACES)
         print(name, width, found)
         assert found["wide"] <= width, (width, found)
