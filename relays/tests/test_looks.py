@@ -75,6 +75,14 @@ const at = all.filter(e => !e.closest('.bar')).map(e => [e.getBoundingClientRect
 return at.slice(1).map(([r, e], n) => [at[n][0].top - r.bottom, e.outerHTML.slice(0, 120)])
   .filter(([far]) => far > 0);
 """
+# The names of buttons that stand for more than one thing.
+AMBIGUOUS = """
+const by = {};
+for (const b of document.querySelectorAll('button')) {
+  const fields = [...new FormData(b.form)].filter(([name]) => name != 'token').join('&');
+  (by[b.textContent.trim().replace(/\\s+/g, ' ')] ||= new Set()).add(b.form.action + fields); }
+return Object.entries(by).filter(([, found]) => found.size > 1).map(([name]) => name);
+"""
 # What has a place on the first screen, and how high the page is.
 PLACES = """
 const top = q => { const e = document.querySelector(q);
@@ -233,14 +241,13 @@ def test_what_a_screen_reader_has(looking: Looking, name: str) -> None:
     by_role: dict[str, list[dict[str, Any]]] = {}
     for node in nodes:
         by_role.setdefault(value(node, "role"), []).append(node)
-    # names, and each button's is its own
+    # names, and buttons of one name do the same
     widgets = ("button", "link", "textbox", "combobox", "checkbox", "article", "region", "heading")
     for role in (*widgets, "DisclosureTriangle", "image", "figure"):
         for node in by_role.get(role, []):
             is_named = value(node, "name") or role == "figure"
             assert is_named, (role, node)
-    buttons = [value(it, "name") for it in by_role.get("button", [])]
-    assert len(set(buttons)) == len(buttons), sorted(buttons)
+    assert not looking.ask(AMBIGUOUS)
     # roles: one of each landmark, and nothing that takes the focus has none
     for role in ("banner", "main", "RootWebArea"):
         assert len(by_role[role]) == 1, role
