@@ -3,7 +3,9 @@
 from __future__ import annotations
 
 
-FAULT, UNFIT = 1, 3  # statuses; 2 is argparse's, for wrong words
+# statuses; 2 is argparse's, for wrong words, and 4 says that a file was taken, and that what another
+# desk says needs somebody who looks
+FAULT, UNFIT, REFUSED = 1, 3, 4
 
 
 class Fault(Exception):

@@ -28,8 +28,8 @@ import time
 from collections.abc import Callable
 
 from tests.common import desk
-from tests.hosts import beside, checked, crowd, faulty, fetch, kept, plugged, prompt, sessions
-from tests.hosts import sudo, whole
+from tests.hosts import beside, checked, crowd, faulty, fetch, kept, newer, plugged, prompt
+from tests.hosts import sessions, sudo, whole
 from tests.hosts.root import HAS_PLUGIN, PLUGIN, TREE, Host, own_program
 from tests.packages.package_test import furnish
 
@@ -41,6 +41,7 @@ OWN = "this machine"
 PACKAGES = "sudo,python3,faketime,procps,tmux"
 PARTS = (
     *fetch.PARTS,
+    *newer.PARTS,
     *sudo.PARTS,
     *prompt.PARTS,
     *sessions.PARTS,
