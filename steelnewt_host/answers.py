@@ -18,6 +18,7 @@ from steelnewt_host.telling import say
 MOST_HISTORY = 1024 * 1024  # the bytes that a history may have
 FIRST = "19700101000000Z"  # no line ends before it
 COUNT = re.compile(rb"(0|[1-9][0-9]{0,18}) ([0-9a-f]{64}) ([0-9a-f]{64})\n")
+IS_AS_NEW = {Order.SAME, Order.NEWER}
 STATE = re.compile("([0-9]{14}Z) ([0-9a-f]{64}) ([0-9a-f]{64})")
 
 
@@ -53,11 +54,9 @@ class Answer(NamedTuple):
         return self.base + self.grants
 
     def is_as_new(self, past: Past, messages: int) -> bool:
-        """Whether nothing of it is behind, or unknown to what is compared."""
-        roster, base = orders(self.past, past)
-        if {roster, base} - {Order.SAME, Order.NEWER}:
-            return False
-        return roster == Order.NEWER or self.messages >= messages
+        """Whether nothing of it is behind, or unknown to what is compared. (A desk keeps its
+        messages over all rosters: one with a newer roster and fewer messages lags, too.)"""
+        return set(orders(self.past, past)) <= IS_AS_NEW and self.messages >= messages
 
     def is_after(self, other: Answer) -> bool:
         """Whether it is newer for sure."""
@@ -110,7 +109,7 @@ def counted(reply: Reply, desk: str, host: str) -> Answer:
     if reply.status in (403, 404) and not reply.text.startswith(b"P2 "):
         why = "the desk is too old for /v1/hosts/HOST/at/MOMENT"
         if reply.status == 403:
-            why = f"its front lets no host ask for that, or refuses this certificate ({needed(host)})"
+            why = f"its front lets no host ask, or refuses this certificate ({needed(host)})"
         raise Fault(f"it does not say what its file is made of: {why}")
     if reply.status != 200:
         raise refusal(reply, host)

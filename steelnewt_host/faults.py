@@ -3,8 +3,8 @@
 from __future__ import annotations
 
 
-# statuses; 2 is argparse's, for wrong words, and 4 says that a file was taken, and that what another
-# desk says needs somebody who looks
+# statuses; 2 is argparse's, for wrong words; with 4 a file was taken, and somebody has to look at
+# what another desk says
 FAULT, UNFIT, REFUSED = 1, 3, 4
 
 

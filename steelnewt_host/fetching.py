@@ -99,7 +99,9 @@ def choice(run: Fetch, answers: list[Answer]) -> Optional[Answer]:
     for it in answers:
         if not any(other.is_after(it) for other in answers):
             state = f"{it.messages} messages, roster {it.state[0]}, base {it.state[1]}"
-            run.refused.append(f"{it.desk}: another desk contradicts it: {state}")
+            told = f"{it.desk}: another desk contradicts it: {state}"
+            is_odd = any(Order.UNKNOWN in orders(it.past, other.past) for other in answers)
+            run.refused.append(told) if is_odd else say(told)  # (else the next fetch may mend it)
     held, last = run.place.read(), run.record.last
     if held is None or last is None:
         return None

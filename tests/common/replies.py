@@ -1,5 +1,6 @@
 """A server on loopback that is no desk: it gives each target the bytes that a test says."""
 
+import contextlib
 import hashlib
 import re
 import socket
@@ -90,11 +91,16 @@ class Replies:
                 peer = self.listener.accept()[0]
             except OSError:
                 return
-            with self.tls.wrap_socket(peer, server_side=True) if self.tls else peer as stream:
-                words = stream.recv(65536).split(b" ")
-                if len(words) > 1:
-                    self.asked.append(words[1].decode())
-                    stream.sendall(self.answer(self.asked[-1]))
+            with contextlib.suppress(ConnectionError):  # (of whoever reads no more)
+                self.give(peer)
+
+    def give(self, peer: socket.socket) -> None:
+        """One answer."""
+        with self.tls.wrap_socket(peer, server_side=True) if self.tls else peer as stream:
+            words = stream.recv(65536).split(b" ")
+            if len(words) > 1:
+                self.asked.append(words[1].decode())
+                stream.sendall(self.answer(self.asked[-1]))
 
     def __enter__(self) -> Self:
         return self

@@ -360,8 +360,8 @@ def uncounted(host: Host) -> None:
     if not host.is_fit:
         return
     keeps(host, "a desk without the route", lambda target: NO_ROUTE, "the desk is too old")
-    refused = reply(b"P2 NoHost\n", "404 Not Found")
-    keeps(host, "a roster without the host", of_a_host(refused), "the desk's roster has no host db1")
+    refused = of_a_host(reply(b"P2 NoHost\n", "404 Not Found"))
+    keeps(host, "a roster without the host", refused, "the desk's roster has no host db1")
     other = counted(MORE).replace(digest(b"").encode(), digest(GOOD + GOOD).encode())
     keeps(host, "another's count", of_a_host(reply(other)), "does not begin with the base that it")
 

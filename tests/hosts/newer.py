@@ -113,18 +113,19 @@ def newer(host: Host) -> None:
             ("another base", "a", (b"", OTHER), 9, 0, "the base is another"),
             ("a base that was left", "a", (b"",), 99, 1, "a base that this host has left"),
             ("another base, that lags", "a", (b"", OTHER, BASE), 8, 1, "it holds 8 messages"),
-            ("another roster", "ac", (b"", OTHER), 2, 0, "the roster is another"),
-            ("that roster, behind", "ac", (b"", OTHER), 1, 1, "it holds 1 messages"),
-            ("a roster that was left", "a", (b"", OTHER), 99, 1, "a roster that this host has le"),
-            ("back on purpose", "aca", (b"", OTHER), 1, 0, "the roster is another"),
-            ("a desk that does not know it", "ac", (b"", OTHER), 99, 1, "a roster that this host h"),
-            ("and one that goes on", "cad", (OTHER,), 1, 0, "the roster is another"),
-            ("the same once more", "cad", (OTHER,), 1, 0, ""),
+            ("another roster, that lags", "ac", (b"", OTHER), 8, 1, "it holds 8 messages"),
+            ("another roster", "ac", (b"", OTHER), 10, 0, "the roster is another"),
+            ("that roster, behind", "ac", (b"", OTHER), 9, 1, "it holds 9 messages"),
+            ("a roster that was left", "a", (b"", OTHER), 99, 1, "a roster that this"),
+            ("back on purpose", "aca", (b"", OTHER), 10, 0, "the roster is another"),
+            ("a desk that does not know it", "ac", (b"", OTHER), 99, 1, "a roster that this"),
+            ("and one that goes on", "cad", (OTHER,), 11, 0, "the roster is another"),
+            ("the same once more", "cad", (OTHER,), 11, 0, ""),
         ):
             desk.answer = desk_of(GOOD, count, rosters, bases)
             expect(host, what, status, host.held() if status else bases[-1] + GOOD, says)
         kept = json.loads(host.read(RECORD))["installed"]
-        host.check("the record has its last", kept[-1] == [1, "d" * 64, digest(OTHER)], str(kept))
+        host.check("the record has its last", kept[-1] == [11, "d" * 64, digest(OTHER)], str(kept))
         mode = os.stat(host.path(RECORD)).st_mode & 0o7777
         host.check("the record's mode", mode == 0o600, oct(mode))
 
@@ -134,7 +135,7 @@ def first_contact(host: Host) -> None:
     they stand; and where one says nothing, it keeps what it has."""
     if not host.is_fit:
         return
-    new, old, oldest = desk_of(GOOD, 1, "123"), desk_of(MORE, 50, "12"), desk_of(MORE, 99, "1")
+    new, old, oldest = (desk_of(it, 9, to) for it, to in ((GOOD, "123"), (MORE, "12"), (MORE, "1")))
     for answers in ((old, new, oldest), (oldest, old, new)):
         begin(host)
         with desks(host, *answers):
@@ -187,22 +188,25 @@ def same_count(host: Host) -> None:
         begin(host)
         with desks(host, *(desk_of(it, 5, "a", (BASE,)) for it in texts)):
             expect(host, "the one that gives less", 0, less)
-    for what, held, one, two in (
-        ("neither gives less", less, (GRANT, 6, "a", (BASE,)), (SECOND, 6, "a", (BASE,))),
-        ("other bases", more, (GRANT, 6, "a", (BASE, OTHER)), (GRANT, 6, "a", (BASE, b""))),
-        ("each has a part newer", more, (GRANT, 6, "ab", (BASE,)), (GRANT, 6, "a", (BASE, OTHER))),
+    both = (GRANT + SECOND, 5, "a", (BASE,))
+    newer_base, third_base = (GRANT, 6, "a", (BASE, OTHER)), (GRANT, 6, "a", (BASE, b""))
+    for what, status, held, one, two in (
+        ("neither gives less", 0, less, (GRANT, 6, "a", (BASE,)), (SECOND, 6, "a", (BASE,))),
+        ("other bases", REFUSED, more, newer_base, third_base),
+        ("each has a part newer", 0, more, (GRANT, 6, "ab", (BASE,)), newer_base),
     ):
         begin(host)
-        with desks(host, *(desk_of(*it) for it in ((GRANT + SECOND, 5, "a", (BASE,)), one, two))) as made:
+        with desks(host, *(desk_of(*it) for it in (both, one, two))) as made:
             host.conf(made[0].url)
             expect(host, "a first file", 0, more)
             host.conf(*(it.url for it in made))
-            said = expect(host, f"{what}: nothing is given", REFUSED, held, "contradicts")
+            said = expect(host, f"{what}: nothing is given", status, held, "contradicts")
             told = [line.split(" ")[1] for line in said.splitlines() if "contradicts" in line]
             is_told = told == [f"{it.url}:" for it in made[1:]]
             host.check(f"{what}: both are named, once", is_told, said)
             found = host.run("desk-host", "check").stdout
-            host.check("check says so", found.count("contradicts") >= 2, found)
+            told = found.count("another desk contradicts it")
+            host.check("check says so", told == (2 if status else 0), found)
 
 
 def hanging(host: Host) -> None:
@@ -226,11 +230,11 @@ def hanging(host: Host) -> None:
 
 
 HISTORIES = {
-    "that was cut": (history("ab")[:-9], "line has no end"),
+    "that was cut": (history("ab")[:-9], "the last line of its /v1/history has no end"),
     "that is half": (history("ab")[:-90] + b"\n", "line 2 of its /v1/history is none that a"),
     "of another": (history("ac"), "does not end with what its file is made of"),
     "that lags": (history("a"), "does not end with what its file is made of"),
-    "that is empty": (b"", "line has no end"),
+    "that is empty": (b"", "the last line of its /v1/history has no end"),
     "that goes back": (b"".join(reversed(history("ba").splitlines(True))), "line 2 of its /v1/his"),
     "of a month that is none": (history("ab").replace(b"202601", b"202613"), "line 1 of its /v1/"),
     "of 10 MB": (history("ab") * 34_000, "is longer than 1048576 bytes"),
