@@ -122,7 +122,8 @@ class Life:
         elif what < 6:
             desk.seen = self.rng.randint(desk.seen, len(self.site.messages))
         elif what == 6:
-            self.site.states.append((self.rng.choice("abcd"), self.rng.randrange(3)))
+            roster, base = self.rng.choice("abcd"), self.rng.randrange(3)
+            self.site.states += [(roster, base)] if self.site.states[-1] != (roster, base) else []
         elif what == 7:
             desk.state = self.rng.randint(desk.state, len(self.site.states) - 1)
         elif what == 8:
@@ -156,18 +157,24 @@ class Life:
         for line in host.ended:
             if line in (held or b"").splitlines():
                 self.wrong.append(f"{line!r} is back")
-        if held != before or any(it.is_up for it in self.desks) and told:
-            self.note(host, told)
+        if held != before or not is_killed:
+            self.note(host, told, held != before)
 
-    def note(self, host: Host, told: list[Desk]) -> None:
+    def note(self, host: Host, told: list[Desk], is_another: bool) -> None:
         """What the file of this host has ended: it may not come back."""
-        newest = max(((it.state, it.seen) for it in told), default=host.newest)
-        if newest[0] < host.newest[0] or newest[1] < host.newest[1]:
+        newest = max((self.reached(it, host) for it in told), default=host.newest)
+        if is_another and (newest[0] < host.newest[0] or newest[1] < host.newest[1]):
             self.wrong.append(f"it went back from {host.newest} to {newest}")
         host.newest = (max(newest[0], host.newest[0]), max(newest[1], host.newest[1]))
         given = {it for kind, it in self.site.messages[: host.newest[1]] if kind == "give"}
         gone = given - set(self.site.grants(host.newest[1]))
         host.ended = {f"ann db1 = (root) /usr/bin/g{it}".encode() for it in gone}
+
+    def reached(self, desk: Desk, host: Host) -> tuple[int, int]:
+        """How far a desk is. (A state that the site went back to is the same as it was before.)"""
+        states, last = self.site.states, host.newest[0]
+        is_same = last >= 0 and states[desk.state] == states[last]
+        return last if is_same else desk.state, desk.seen
 
     def run(self, host: Host) -> None:
         said = io.StringIO()
