@@ -90,6 +90,10 @@ def is_past_limit(run: Fetch) -> bool:
     return limit is not None and (age is None or age > limit)
 
 
+def messages_of(it: Answer) -> int:
+    return it.messages
+
+
 def choice(run: Fetch, answers: list[Answer]) -> Optional[Answer]:
     """The newest answer; where none is that for sure, one that only takes away from what this host
     has."""
@@ -107,7 +111,7 @@ def choice(run: Fetch, answers: list[Answer]) -> Optional[Answer]:
         return None
     own = [it for it in answers if it.state == last.state and held.text.startswith(it.base)]
     less = [it for it in own if it.is_within(it.base, held.text[len(it.base) :])]
-    return max(less, key=lambda it: it.messages, default=None)
+    return max(less, key=messages_of) if less else None
 
 
 def take(run: Fetch, it: Answer, is_kept: bool) -> None:

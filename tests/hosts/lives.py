@@ -1,6 +1,6 @@
 #!/usr/bin/env python3
-"""Random lives of sites: three desks, which lag, answer nothing, come back from a backup, or keep no
-history, and five hosts, which fetch, and are killed at any moment. A site's roster and base change,
+"""Random lives of sites: three desks, which lag, answer nothing, come back from a backup, or keep
+no history, and five hosts, which fetch, and are killed at any moment. A site's roster and base change,
 also back to what they were. After each fetch a host's file is none that a newer sound answer had
 ended, and once all desks answer and are level, each host has the newest file.
 
@@ -34,7 +34,7 @@ STEPS = 60
 
 @dataclasses.dataclass
 class Site:
-    """What a site was, and is: its rosters and bases, and its messages, which give and take away."""
+    """What a site was and is: its rosters and bases, and its messages, which give and take."""
 
     states: list[tuple[str, int]]
     messages: list[tuple[str, int]] = dataclasses.field(default_factory=list)
@@ -161,11 +161,13 @@ class Life:
             self.note(host, told, held != before)
 
     def note(self, host: Host, told: list[Desk], is_another: bool) -> None:
-        """What the file of this host has ended: it may not come back."""
-        newest = max((self.reached(it, host) for it in told), default=host.newest)
-        if is_another and (newest[0] < host.newest[0] or newest[1] < host.newest[1]):
-            self.wrong.append(f"it went back from {host.newest} to {newest}")
-        host.newest = (max(newest[0], host.newest[0]), max(newest[1], host.newest[1]))
+        """What the file of this host has ended: it may not come back. (Where several desks give the
+        same file, it counts as that of the one that is behind, and it went back only if each is.)"""
+        reached = [self.reached(it, host) for it in told] or [host.newest]
+        if is_another and all(it[0] < host.newest[0] or it[1] < host.newest[1] for it in reached):
+            self.wrong.append(f"it went back from {host.newest} to {max(reached)}")
+        low = min(reached)
+        host.newest = (max(low[0], host.newest[0]), max(low[1], host.newest[1]))
         given = {it for kind, it in self.site.messages[: host.newest[1]] if kind == "give"}
         gone = given - set(self.site.grants(host.newest[1]))
         host.ended = {f"ann db1 = (root) /usr/bin/g{it}".encode() for it in gone}

@@ -10,9 +10,8 @@ import subprocess
 import time
 from collections.abc import Callable, Iterator
 
-from tests.common.replies import NO_ROUTE, Replies, counted, desk_of, digest, history, of_a_host
-from tests.common.replies import reply
-from tests.hosts.fetch import BOB, CLOCK, GOOD, MORE, begin, killing, serving
+from tests.common.replies import Replies, counted, desk_of, digest, history, of_a_host, reply
+from tests.hosts.fetch import CLOCK, GOOD, MORE, begin, killing, serving
 from tests.hosts.root import FILE, STATE, Host
 
 HEARD = "/run/desk-host/heard"
