@@ -939,13 +939,57 @@ def long_history() -> Counts:
     return 4, wrong
 
 
+def between_desks() -> Counts:
+    """A host that is told of two desks, of which one lacks a revocation, and then of one with
+    another roster: it never goes back, and says how that roster is accepted."""
+    with contextlib.ExitStack() as stack:
+        folder = stack.enter_context(tempfile.TemporaryDirectory())
+        other = desk.write(folder, "other.toml", desk.read(desk.ROSTER) + "# another\n")
+        rosters = (desk.ROSTER, desk.ROSTER, other)
+        desks = [stack.enter_context(serving(it, desk.BASE)) for it in rosters]
+        asked = desk.request(OLD, **window_until(desk.stamp(time.time() + HOUR)))
+        approved = desk.approval(OLD, at=stamp(-2).decode())
+        revoked = desk.approval(OLD, kind="revoke", at=desk.stamp(time.time() - HOUR * 2))
+        for address in desks:
+            for body in (asked, approved) + ((revoked,) if address == desks[0] else ()):
+                by_bytes(address, desk.posted(b"chat", body.encode()))
+        wrong = sum(not it for it in steps_between(folder, [f"http://{it}" for it in desks]))
+    return 5, wrong
+
+
+def steps_between(folder: str, desks: Sequence[str]) -> Iterator[bool]:
+    """Whether each fetch between these desks ends as it should."""
+    file, state = (os.path.join(folder, it) for it in ("desk", "state"))
+    right, lags, other = desks
+    for what, asked, status, has_line, says in (
+        ("the one that lags", [lags], 0, True, ""),
+        ("both", [lags, right], 0, False, ""),
+        ("then the one that lags", [lags], 1, False, "and this host's file is made of 3"),
+        ("another roster", [other], 1, False, "desk-host accept db1 "),
+        ("that roster, accepted", [other], 0, True, ""),
+    ):
+        if what == "that roster, accepted":
+            conf = desk.write(folder, "fetch.conf", f"STATE={state}\n")
+            program = os.path.join(desk.ROOT, "packaging", "desk-host")
+            words = re.findall("desk-host (accept) (db1) ([0-9a-f]{64}) ([0-9a-f]{64})", said)
+            ran = subprocess.run([program, *words[0], "--conf", conf], check=False)
+            status = status or ran.returncode
+        ended, said = fetch([*asked, "db1"], file, state)
+        with open(file, "rb") as found:
+            has = b" /usr/bin/id\n" in found.read().rpartition(b"ann db1 ")[2]
+        is_right = ended == status and has == has_line and says in said
+        if not is_right:
+            print(f"between desks, {what}: {ended}, {has}: {said}")
+        yield is_right
+
+
 def window_until(last: str) -> dict[str, str]:
     """The moments of a request that is in force now, until that one."""
     return {"at": stamp(-3).decode(), "from": stamp(-1).decode(), "until": last}
 
 
 def main() -> None:
-    counts = [ask_exactly(), ask_reports(), long_history()]
+    counts = [ask_exactly(), ask_reports(), long_history(), between_desks()]
     with serving(desk.ROSTER, desk.BASE) as address:
         for part in (
             ask_all,
