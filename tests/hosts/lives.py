@@ -219,6 +219,32 @@ def killed_at(at: int, work: Callable[[], None]) -> bool:
     return os.WIFSIGNALED(os.waitpid(child, 0)[1])
 
 
+def killed_everywhere() -> tuple[int, int]:
+    """One fetch, killed at each of its calls: while one desk has a revocation or another state, and
+    one lags, which then is the only one that answers. How often it was killed, and how often the
+    host went back."""
+    kills, back = 0, 0
+    for states in ([("a", 0)], [("a", 0), ("b", 0)], [("a", 0), ("a", 1)], [("a", 0), ("b", 1)]):
+        for at in range(1, 99):
+            with tempfile.TemporaryDirectory() as folder:
+                life = Life(random.Random(0), folder)
+                right, lags, other = life.desks
+                host, life.site.states[:] = life.hosts[0], states
+                life.site.messages += [("give", 1), ("give", 2), ("take", 1)]
+                right.is_up = other.is_up = False
+                right.has_history = lags.has_history = True
+                right.seen, right.state, lags.seen = 3, len(states) - 1, 2
+                with mock.patch.object(answers, "ask", life.ask):
+                    life.run(host)
+                    right.is_up = True
+                    if not killed_at(at, lambda: life.run(host)):
+                        break
+                    kills, stood, right.is_up = kills + 1, host.held(), False
+                    life.run(host)
+                    back += stood == right.file() != host.held()
+    return kills, back
+
+
 def main() -> int:
     count, wrong, kills = int(sys.argv[1]), 0, 0
     os.umask(0o077)
@@ -228,6 +254,9 @@ def main() -> int:
             (place, "visudo", lambda *_: []),
         ):
             stack.enter_context(mock.patch.object(what, name, answer))
+        points, back = killed_everywhere()
+        print(f"one fetch, killed at {points} calls: went back {back} times", flush=True)
+        wrong += back + (points < 60)
         for number in range(count):
             with tempfile.TemporaryDirectory() as folder:
                 life = Life(random.Random(number), folder)
