@@ -1,8 +1,8 @@
 #!/usr/bin/env python3
 """Random lives of sites: three desks, which lag, answer nothing, come back from a backup, or keep
-no history, and five hosts, which fetch, and are killed at any moment. A site's roster and base change,
-also back to what they were. After each fetch a host's file is none that a newer sound answer had
-ended, and once all desks answer and are level, each host has the newest file.
+no history, and five hosts, which fetch, and are killed at any moment. A site's roster and base
+change, also back to what they were. After each fetch a host's file is none that a newer sound
+answer had ended, and once all desks answer and are level, each host has the newest file.
 
 As root: `python3 -m tests.hosts.lives 300`. The fetch is the host's own, but for the questions and
 visudo, which stand here; where a fetch is killed, it is a process of its own that ends there."""
@@ -161,8 +161,8 @@ class Life:
             self.note(host, told, held != before)
 
     def note(self, host: Host, told: list[Desk], is_another: bool) -> None:
-        """What the file of this host has ended: it may not come back. (Where several desks give the
-        same file, it counts as that of the one that is behind, and it went back only if each is.)"""
+        """What the file of this host has ended: it may not come back. (Where several desks give
+        the same file, it counts as that of the last of them.)"""
         reached = [self.reached(it, host) for it in told] or [host.newest]
         if is_another and all(it[0] < host.newest[0] or it[1] < host.newest[1] for it in reached):
             self.wrong.append(f"it went back from {host.newest} to {max(reached)}")
