@@ -162,7 +162,6 @@ def other_replies(host: Host) -> None:
         ("a carriage return", BOB.replace(b"\n", b"\r\n")),
         ("a zero byte", BOB + b"\0"),
         ("no last newline", BOB[:-1]),
-        ("an alias that nobody defines", b"OPS ALL = (root) ALL\n"),
     ):
         answers[what] = desk_of(text)
     digests = b"a" * 64 + b" " + digest(b"").encode()
@@ -173,6 +172,8 @@ def other_replies(host: Host) -> None:
     none_of(host, answers, "")
     lines = {f"a line {line}": desk_of(GOOD + line.encode() + b"\n") for line in LINES}
     none_of(host, lines, "its file is none of a desk's: line 2 ")
+    no_alias = desk_of(b"OPS ALL = (root) ALL\n")
+    keeps(host, "an alias that nobody defines", no_alias, "visudo refuses it: ")
 
 
 def none_of(host: Host, answers: dict[str, Callable[[str], bytes]], says: str) -> None:
