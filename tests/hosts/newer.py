@@ -203,8 +203,8 @@ def same_count(host: Host) -> None:
             is_told = told == [f"{it.url}:" for it in made[1:]]
             host.check(f"{what}: both are named, once", is_told, said)
             found = host.run("desk-host", "check").stdout
-            told = found.count("another desk contradicts it")
-            host.check("check says so", told == (2 if status else 0), found)
+            named = found.count("another desk contradicts it")
+            host.check("check says so", named == (2 if status else 0), found)
 
 
 def hanging(host: Host) -> None:
