@@ -961,6 +961,7 @@ def steps_between(folder: str, desks: Sequence[str]) -> Iterator[bool]:
     """Whether each fetch between these desks ends as it should."""
     file, state = (os.path.join(folder, it) for it in ("desk", "state"))
     right, lags, other = desks
+    said = ""
     for what, asked, status, has_line, says in (
         ("the one that lags", [lags], 0, True, ""),
         ("both", [lags, right], 0, False, ""),
