@@ -128,8 +128,8 @@ def counted(reply: Reply, desk: str, host: str) -> Answer:
 
 def answer_of(settings: Settings, desk: str, host: str, record: Record, moment: str) -> Answer:
     """The host's file, as it is without the lines that ended over an hour ago, so that it stays
-    small however long the desk has been in use, with what it is made of. Of another state than the
-    last the desk is asked what its site was before."""
+    small however long the desk has been in use, with what it is made of. Where that is another
+    state than the last, the desk is asked for its history too."""
     route = f"/v1/hosts/{host}/at/{moment}"
     it = counted(ask(settings, desk, route), desk, host)
     if record.last is not None and it.state == record.last.state:

@@ -57,7 +57,7 @@ def unknown(record: Record, it: Answer) -> Optional[str]:
 
 
 def admitted(run: Fetch, answers: list[Answer]) -> list[Answer]:
-    """Those of which this host knows that they are not behind. The others are told of."""
+    """The answers that this host knows not to be behind. It tells of the others."""
     taken = []
     for it in answers:
         why = behind(run.record, it)

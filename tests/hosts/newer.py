@@ -178,7 +178,7 @@ def furthest(host: Host) -> None:
 
 def same_count(host: Host) -> None:
     """Two desks with the same count and other files: the one is taken that gives nothing which the
-    other does not give. Of a base's lines that is not said: a line that is missing may deny."""
+    other does not give. Bases are not compared so: a line that is missing may be a denial."""
     if not host.is_fit:
         return
     less, more = BASE + GRANT, BASE + GRANT + SECOND
