@@ -24,7 +24,7 @@ from steelnewt_backup.manifest import NAME, Entry, Manifest, Piece, backups_in, 
 from steelnewt_backup.manifest import read_manifest
 from steelnewt_backup.pieces import Pieces, pieces_of, sync_folder, write_new
 from steelnewt_backup.settings import Settings
-from steelnewt_client.copies import TICK, is_settled, mark
+from steelnewt_client.stores import TICK, is_settled, mark
 from steelnewt_client.moments import stamp_of
 
 BEGUN = ".new-"  # how the folder of an unfinished backup is called

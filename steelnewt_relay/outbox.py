@@ -165,9 +165,9 @@ class Outbox:
                     self.base.execute(statement)
 
     def open_to_read(self) -> None:
-        """On a full disk SQLite cannot make the file that those share who have the outbox open. Then
-        nobody has: it is copied into memory without that file, under a lock that no other has
-        beside it, and is read there."""
+        """On a full disk SQLite cannot make the file that those share who have the outbox open.
+        Then nobody has: it is copied into memory without that file, under a lock that no other
+        has beside it, and is read there."""
         self.base.close()
         self.base = sqlite3.connect(":memory:", isolation_level=None)
         self.is_reading = True

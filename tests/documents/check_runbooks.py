@@ -46,6 +46,7 @@ STAND_INS = {
     # the service, started as its unit starts it; INSTANCE, STORE and ADDR make a second one
     "systemctl": """#!/bin/bash
 pid=/run/${INSTANCE:-desk}.pid log=/run/${INSTANCE:-desk}.log
+door=/etc/systemd/system/desk.service.d/door.conf
 state() { sed -n 's/^State:\\s*//p' "/proc/$1/status" 2> /dev/null | cut -c 1; }
 runs() { case $(state "$1") in '' | Z) return 1 ;; esac; }
 stop() {
@@ -57,8 +58,11 @@ stop() {
 start() {
     : > "$log"
     [ -d /run/desk ] || install -d -o desk -g desk-front -m 0750 /run/desk
+    [ -n "$ADDR" ] || [ ! -e /etc/desk/serve.conf ] || . /etc/desk/serve.conf
+    [ ! -e "$door" ] || $(sed -n 's/^ExecStartPre=+//p' "$door")
     setsid setpriv --reuid desk --regid desk-front --groups desk env "PATH=$PATH" \\
-        "STORE=$STORE" "ADDR=$ADDR" /usr/local/bin/desk-serve > "$log" 2>&1 < /dev/null &
+        "STORE=$STORE" "ADDR=$ADDR" "QUESTIONS=$QUESTIONS" \\
+        /usr/local/bin/desk-serve > "$log" 2>&1 < /dev/null &
     echo $! > "$pid"
     for _ in $(seq 1200); do
         grep -q 'listening at' "$log" && return 0
@@ -67,6 +71,10 @@ start() {
     done
     cat "$log" >&2
     return 1
+}
+reload() {
+    setpriv --reuid desk --regid desk-front --groups desk /usr/local/bin/desk-serve --base &&
+        kill -HUP "$(cat "$pid")"
 }
 halt() {
     # (`nginx -t` leaves an empty one)
@@ -87,6 +95,7 @@ case $* in
     'stop desk') stop ;;
     'start desk') start ;;
     'restart desk') stop; start ;;
+    'reload desk') reload ;;
     'stop nginx') halt ;;
     'start nginx') nginx ;;
     'restart nginx') halt; nginx ;;
@@ -245,32 +254,30 @@ SAYS_YES = 'desk-change-roster() { echo y | command desk-change-roster "$@"; }\n
 
 
 def change(room: Room, roster: str) -> desk.Run:
-    """The runbook of a changed roster, and a person who says yes."""
+    """The runbook's one command, and a person who says yes."""
     room.write(f"{BOOK}/new.toml", roster)
     return room.follow("A roster is changed", 0, SAYS_YES)
 
 
 def by_one_command(room: Room) -> None:
-    """The runbook's one command, and a person who says yes."""
-    heading = "A roster is changed"
     asked, approved = granted_now()
     room.begin(asked, approved)
-    before, new = room.text(f"/v1/grants/{near(0)}"), with_lines("bob = []")
-    room.says(heading, "it shows which grants change, asks, rebuilds, starts the desk")
+    old, new = room.read(FILES[0]), with_lines("bob = []")
+    before = room.text(f"/v1/grants/{near(0)}")
+    room.says("A roster is changed", "it shows which grants", "If it ends with status 3")
     done = change(room, new)
     room.holds("it is changed", done.returncode == 0, done)
     shown = re.search(r"ENDS\nann 7 .*\n(?s:.*) bob counts no more \(duty\)\n", done.stdout)
     room.holds("what ends", shown is not None, done)
     room.holds("it is there", room.read(FILES[0]) == new)
     room.holds("it is not granted", room.text(f"/v1/grants/{near(0)}") == "")
-    compared = "cat /etc/desk/rosters/*Z.toml | cmp - /etc/desk/roster.toml"
-    kept = room.run(f"ls -l /var/lib/desk; {compared}")
-    others = [line for line in kept.stdout.splitlines()[1:] if " desk desk" not in line]
-    room.holds("the desk's own store", not others, kept)
-    room.holds("a copy by its moment", kept.returncode == 0, kept)
-    room.says(heading, "To go back, give it the earlier one of `/etc/desk/rosters`")
-    done = change(room, desk.read("examples", "roster.toml"))
-    room.holds("it goes back", done.returncode == 0 and "BEGINS\nann 7 " in done.stdout, done)
+    kept = room.run("ls -lR /var/lib/desk; cat /var/lib/desk/history/*/roster.toml")
+    lines = [it for it in kept.stdout.splitlines() if re.match(r"[-d][rwx-]{9}", it)]
+    room.holds("the desk's own store", all(" desk desk" in it for it in lines), kept)
+    room.holds("both are in the history", old + new in kept.stdout, kept)
+    room.says("A roster is changed", "give it the earlier one of `/var/lib/desk/history`")
+    done = change(room, old + "# again\n")
+    room.holds("and back", done.returncode == 0, done)
     room.holds("as before", room.text(f"/v1/grants/{near(0)}") == before != "", before)
     room.run("rm -r /etc/desk/rosters")
 
@@ -575,7 +582,7 @@ def second_front(room: Room, place: str) -> None:
     for first, second in (
         ("listen 443 ", "listen 8443 "),
         ("/server.", "/server-desk2.example."),
-        (f"http://unix:{SOCKET};", f"http://unix:{place};"),
+        ("http://$desk_at;", f"http://unix:{place};"),
     ):
         room.holds(f"the front has {first}", first in server)
         server = server.replace(first, second)
@@ -749,7 +756,7 @@ def prepare_tools(room: Room) -> None:
     folder, name = os.path.split(PROGRAM)
     audit = os.path.join(folder, name.replace("desk", "desk-audit", 1))
     shutil.copy(audit, room.path("/usr/local/bin/desk-audit"))
-    for source in ("steelnewt_client", "steelnewt_relay", "relays", "tools"):
+    for source in ("steelnewt_client", "steelnewt_relay", "relays", "tools", "packaging"):
         place = f"/usr/local/share/desk/{source}"
         shutil.copytree(os.path.join(desk.ROOT, source), room.path(place), dirs_exist_ok=True)
         programs = ("desk-relay", "desk-relay-person", "desk-change-roster", "desk-lint")
@@ -771,6 +778,7 @@ def prepare(room: Room) -> None:
     for source, name in (
         (PROGRAM, "desk"),
         (os.path.join(desk.ROOT, "packaging", "desk-serve"), "desk-serve"),
+        (os.path.join(desk.ROOT, "packaging", "desk-history"), "desk-history"),
         (os.path.join(desk.EXAMPLES, "front-ca.sh"), "front-ca.sh"),
     ):
         shutil.copy(source, room.path(f"/usr/local/bin/{name}"))

@@ -89,8 +89,6 @@ def desks(team: Team) -> None:
     team.next("toml")
     done = team.next("sh")
     team.holds("the roster", done.returncode == 0, done)
-    kept = team.desk.out("stat -c %a /etc/desk/rosters/*")
-    team.holds("the kept roster's mode", kept == "644", kept)
     done = team.next("sh")
     team.holds("the desk and its door", done.returncode == 0, done)
     for unit in ("desk.service", "desk-door.service"):

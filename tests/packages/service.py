@@ -145,7 +145,7 @@ def start(
     places = [
         *more,
         *(f"/var/lib/{each}" for each in settings.get("StateDirectory", [])),
-        *settings.get("ReadWritePaths", []),
+        *(it.removeprefix("-") for it in settings.get("ReadWritePaths", [])),
     ]
     mounts = "".join(map(writable, places))
     mounts += "".join(read_only(each) for each in settings.get("ReadOnlyPaths", []))
