@@ -161,15 +161,16 @@ class Taking:
 
 def taken(settings: Settings, making: Taking) -> Iterator[Entry]:
     parts = [*the_list()[0], *([site_part(list(settings.also))] if settings.also else [])]
-    known = set()
+    known = set[str]()
     for part in parts:
         for item in items_of(part, making.root):
+            if item.path in known:
+                continue
             # (what goes while it is looked at is not there)
             with contextlib.suppress(FileNotFoundError):
-                for entry in making.take(item):
-                    if entry.path not in known:
-                        known.add(entry.path)
-                        yield entry
+                made = making.take(item)
+                known.update(it.path for it in made)
+                yield from made
 
 
 def make(settings: Settings, root: str, new: str, at: str) -> tuple[Manifest, int]:

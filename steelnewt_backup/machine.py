@@ -24,7 +24,10 @@ UNITS = (
     "desk.service", "desk-door.service", "desk-relay-post.service", "desk-relay-notify.service",
     "desk-relay-page.service",
 )  # fmt: skip
-TIMERS = ("desk-backup.timer", "desk-drill.timer", "desk-follow.service", "desk-watch.timer")
+TIMERS = (
+    "desk-backup.timer", "desk-drill.timer", "desk-follow.service", "desk-watch.timer",
+    "desk-check.timer", "desk-sessions.timer", "desk-starts.path",
+)  # fmt: skip
 # (sshd reads the keys that came back as it starts)
 FRONTS = ("nginx.service", "haproxy.service", "apache2.service", "ssh.service", "cron.service")
 LOCKS = ("/var/lib/dpkg/lock-frontend", "/var/lib/dpkg/lock")

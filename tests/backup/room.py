@@ -3,6 +3,7 @@ relay with an outbox, a door's journal, an authority; and the two programs over 
 
 from __future__ import annotations
 
+import hashlib
 import json
 import os
 import shutil
@@ -22,6 +23,7 @@ PROGRAM = os.path.abspath(os.environ.get("DESK", desk.PROGRAM[0]))
 TOOLS = os.path.join(desk.ROOT, "tools")
 STORE = "/var/lib/desk/desk.db"
 OUTBOX = "/var/lib/desk-relay/outbox.db"
+HISTORY = "/var/lib/desk/history"
 JOURNAL = "/var/lib/desk-door/journal-000000000001.jsonl"
 ROSTER, BASE = "/etc/desk/roster.toml", "/etc/desk/base.sudo"
 SECRETS = ("/etc/desk/front/ca.key", "/etc/desk/page.secret")
@@ -63,7 +65,7 @@ class Room:
         for name in (ROSTER, BASE):
             example = {ROSTER: "roster.toml", BASE: "site.sudo"}[name]
             self.write(name, desk.read("examples", example))
-        self.write("/etc/desk/rosters/20260101000000Z.toml", self.read(ROSTER))
+        self.serve_since("20260101000000Z", "a beginning")
         self.write("/etc/desk/serve.conf", "SYNC=once\n")
         settings = desk.read("relays", "relay.example.toml").partition("[page]")[0]
         self.write("/etc/desk/relay.toml", settings)
@@ -74,6 +76,19 @@ class Room:
         self.write("/etc/systemd/system/desk.service.d/door.conf", "[Service]\n")
         os.makedirs(self.path("/var/lib/desk"), 0o700, exist_ok=True)
         self.ask(range(1, count + 1))
+
+    def serve_since(self, moment: str, why: str) -> None:
+        """The history says that roster and base are served since then: the folder first."""
+        for name, source in (("roster.toml", ROSTER), ("base.sudo", BASE)):
+            self.write(f"{HISTORY}/{moment}/{name}", self.read(source), 0o600)
+        self.write(f"{HISTORY}/{moment}/change", f"by=root\nwhy {why}\n", 0o600)
+        digests = (hashlib.sha256(self.read(it)).hexdigest() for it in (ROSTER, BASE))
+        with open(self.path(f"{HISTORY}/moments"), "a", encoding="ascii") as file:
+            file.write(f"{moment} {' '.join(digests)}\n")
+
+    def moments_served(self) -> list[str]:
+        """Each moment that the history lists."""
+        return [it.split(" ")[0] for it in self.read(f"{HISTORY}/moments").decode().splitlines()]
 
     def ask(self, numbers: Iterable[int], posts: bool = True, keeps: bool = True) -> list[str]:
         """Requests of ann's that bob approves, by the outbox and at the desk: the messages."""

@@ -95,7 +95,7 @@ def told(request: int) -> list[str]:
 
 
 def store(page: Page) -> None:
-    from_log, first, inside, backup, joined, rebuilt, older = page.blocks()
+    from_log, first, inside, backup, tried, joined, rebuilt, older = page.blocks()
     said = page.out(first)
     is_right = said.startswith("ack\nack\n") and "build/db1.sudo: parsed OK\nREVIEW " in said
     page.holds("a first desk", is_right, said)
@@ -106,6 +106,7 @@ def store(page: Page) -> None:
     page.holds("its file", "NOTAFTER=20260105110000Z /usr/bin/id\n" in host_file, host_file)
     look_inside(page, inside)
     page.run(backup)
+    page.holds("the file of a backup", page.out(tried) == host_file, page.run(tried))
     page.holds("stores joined", page.out(joined) == "ack\nack\n", page.run(joined))
     said = page.out(rebuilt)
     page.holds("rebuilt", said == "ok\ndba ALL = (postgres) ALL\n", said)

@@ -279,7 +279,6 @@ def by_one_command(room: Room) -> None:
     done = change(room, old + "# again\n")
     room.holds("and back", done.returncode == 0, done)
     room.holds("as before", room.text(f"/v1/grants/{near(0)}") == before != "", before)
-    room.run("rm -r /etc/desk/rosters")
 
 
 def leaver(room: Room) -> None:
@@ -507,6 +506,8 @@ def restore(room: Room) -> None:
     room.holds("what is there", room.text("/v1/messages") == listed(messages), done)
     lost = [name for name in os.listdir(room.path(HERE)) if name.startswith("lost-")]
     room.holds("the old file is kept", len(lost) == 1, os.listdir(room.path(HERE)))
+    for kind in ("with its log", "without a log", "as 'A backup' says"):
+        restore_file(room, kind)
 
 
 def after_incident(room: Room) -> None:
@@ -527,10 +528,36 @@ def after_incident(room: Room) -> None:
     compare = next(it for it in blocks(section(heading), "sh") if differ in it).splitlines()[-1]
     shown = room.run(f"{PREAMBLE}{compare}").stdout
     room.holds("and the hosts' file shows it", "\n> ann db1 = " in f"\n{shown}", shown)
-    done = room.follow(heading, 1)
+    done = room.follow(heading, 2)
     room.holds("what was revoked is posted again", done.stdout.startswith("ack\n"), done)
     room.holds("and the grant is over", "ann 7 " not in room.text(f"/v1/grants/{near(0)}"), done)
     room.holds("nothing is there that no host has", "\n>" not in done.stdout, done)
+
+
+def restore_file(room: Room, what: str) -> None:
+    """From a copy of the file, with its log or in one file, beside a log of what came later."""
+    room.run(f"rm -rf {HERE}/lost-* /root/desk.backup*")
+    before = room.text("/v1/messages")
+    if what == "with its log":
+        room.run(f"for end in '' -wal; do cp {HERE}/desk.db$end /root/desk.backup$end; done")
+    else:
+        copy_stopped(room, what)
+    room.post(*map(desk.approval, range(60, 70)))
+    done = room.follow("A restore", 1)
+    after = room.text("/v1/messages")
+    room.holds(f"the copy {what}", after == before != "", f"{done} {after}")
+
+
+def copy_stopped(room: Room, what: str) -> None:
+    """A copy of the file of a desk that is stopped meanwhile."""
+    room.run("systemctl stop desk")
+    if what == "without a log":
+        merge = f"desk print {' '.join(FILES)} {HERE}/desk.db db1 > /dev/null"
+        room.run(f"runuser -u desk -- {merge}; cp {HERE}/desk.db /root/desk.backup")
+    else:
+        made = room.follow("A backup", 0)
+        room.holds("a copy of the file", made.returncode == 0, made)
+    room.run("systemctl start desk")
 
 
 def second_desk(room: Room) -> None:

@@ -125,12 +125,16 @@ def goes_back(books: Books) -> None:
 
 
 def a_roster_is_changed(books: Books) -> None:
-    """By one command, and back."""
+    """By one command, by hand, and back."""
     before = books.desk.read(ROSTER)
     changed = before.replace('["db1", "db2", "web1"]', '["db1", "db2"]', 1)
     change(books, changed)
     books.holds("the host fetches", books.host.holds("systemctl start desk-fetch@db1"))
-    change(books, before)
+    books.desk.write("/root/edited", before)
+    done = books.follow("A roster is changed", 1)
+    books.holds("what changes is shown", done.returncode in (0, 1) and not done.stderr, done)
+    done = books.follow("A roster is changed", 2)
+    books.holds("rebuilt by hand", re.search("^ok", done.stdout, re.MULTILINE) is not None, done)
     books.holds("and served", books.desk.wait(f"{ASK}/v1/count", 60))
     books.holds("it is the old one again", books.desk.read(ROSTER) == before)
     goes_back(books)
@@ -421,16 +425,29 @@ def an_upgrade(books: Books) -> None:
     books.desk.wait(f"{ASK}/v1/count", 60)
 
 
+def a_backup(books: Books) -> None:
+    """Of the messages, while the desk serves, and of the file."""
+    on = books.desk
+    done = on.run(f"{PREAMBLE}backup")
+    held = on.out(f"{ASK}/v1/messages")
+    books.holds("a copy of the messages", on.out("cat /root/messages.txt") == held != "", done)
+    on.run("systemctl stop desk")
+    done = books.follow("A backup", 0)
+    books.holds("a copy of the file", done.returncode == 0, done)
+    on.run("systemctl start desk")
+
+
 def a_restore(books: Books) -> None:
-    """From a copy of the messages. (tests/backup has that of the whole machine.)"""
+    """From the copies that were made: of the messages, and of the file."""
     on = books.desk
     books.desk.wait(f"{ASK}/v1/count", 60)
     before = on.out(f"{ASK}/v1/messages")
-    on.run(f"{PREAMBLE}backup")
     done = books.follow("A restore", 0)
     count = str(len(before.splitlines()))
     books.holds("each is acknowledged", done.stdout.split() == [count, "ack"], done)
     books.holds("the same messages", on.out(f"{ASK}/v1/messages") == before)
+    done = books.follow("A restore", 1)
+    books.holds("the same from the file", on.out(f"{ASK}/v1/messages") == before != "", done)
     said = books.does("each relay posts again",
                       "runuser -u desk-relay -- desk-relay post-again", "messages are posted again")
     books.holds("some", not said.startswith("0 "), said)
@@ -447,6 +464,7 @@ BOOKS: tuple[Callable[[Books], None], ...] = (
     a_key_is_lost,
     the_disk_is_full,
     an_upgrade,
+    a_backup,
     a_restore,
 )
 # (team.py runs what is behind a door, and tests/backup/life.py the lost machine)
