@@ -18,29 +18,12 @@ import tempfile
 import time
 from collections.abc import Callable, Iterator
 
-from steelnewt_backup.backup import Taking, expired
-from steelnewt_backup.backup import taken as entries_of
-from steelnewt_backup.pieces import Pieces, read_entry
-from steelnewt_backup.seal import Seal
-from steelnewt_backup.settings import Settings
+from steelnewt_backup.backup import expired
 from steelnewt_relay.outbox import Outbox
-from tests.backup.room import BASE, DAY, HISTORY, OUTBOX, PATIENCE, PROGRAM, ROSTER, SECRETS, STORE, Room
-from tests.backup.room import tried, wish
+from tests.backup import history
+from tests.backup.room import BASE, DAY, OUTBOX, PATIENCE, PROGRAM, ROSTER, SECRETS, STORE, Room
+from tests.backup.room import Row, made, said, tried, wish
 from tests.common import desk
-
-Row = tuple[str, bool, object]
-
-
-def made(folder: str, name: str, count: int = 6) -> Room:
-    room = Room(os.path.join(folder, name))
-    room.furnish(count)
-    return room
-
-
-def said(ran: desk.Run, status: int, *says: str) -> tuple[bool, object]:
-    text = ran.stdout + ran.stderr
-    return ran.returncode == status and all(re.search(it, text) for it in says), ran
-
 
 def round_trip(folder: str) -> Iterator[Row]:
     """What comes back is what was there, byte for byte, with its modes."""
@@ -86,62 +69,6 @@ def grows(folder: str) -> Iterator[Row]:
     yield "and the new one is whole", *said(room.restore("--look"), 0, "is whole")
     yield "the other is not", *said(room.restore("--look", "--at", moments[1]), 2, "cut or altered")
     yield "what the first one said", first.returncode == 0, first
-
-
-def changes_meanwhile(folder: str) -> Iterator[Row]:
-    """At whatever file of the backup a roster is changed: of each moment that the copy lists, it has
-    what was served; and what was begun is left out."""
-    room = made(folder, "changes", 2)
-    room.write(f"{HISTORY}/.new/roster.toml", "half")
-    room.write(f"{HISTORY}/moments.new", "half")
-    room.backup()
-    number, lacking, count = 0, list[str](), len(backed_up(room, -1)[1])
-    while number < count:
-        at = f"202603{number // 24 + 1:02}{number % 24:02}0000Z"
-        listed, taken = backed_up(room, number, at)
-        lacking += [f"{number}: {it}" for it in listed if f"{HISTORY}/{it}/roster.toml" not in taken]
-        number += 1
-    yield "each that is listed is there", count > 15 and not lacking, (count, lacking)
-    begun = [it for it in backed_up(room, -1)[1] if ".new" in it]
-    yield "nothing that was begun", not begun, begun
-    yield "a backup", *said(room.backup("--list"), 0, f"plain +{HISTORY}/moments")
-    room.backup()
-    before = room.moments_served()
-    room.lose()
-    room.restore()
-    yield "the history", room.moments_served() == before and len(before) > 15, before
-
-
-def backed_up(room: Room, changed_at: int, moment: str = "") -> tuple[list[str], set[str]]:
-    """The moments that a copy of the history lists, and the files that it has, where another roster
-    is served from one of its files on."""
-    new = tempfile.mkdtemp(dir=room.folder)
-    pieces = Pieces(new, Seal(), None)
-    taken, listed = set[str](), list[str]()
-    for number, entry in enumerate(entries_of(Settings(), Taking(room.root, pieces))):
-        taken.add(entry.path)
-        if entry.path == f"{HISTORY}/moments":
-            data = b"".join(read_entry(new, "", entry, ""))
-            listed = [it.split(" ")[0] for it in data.decode().splitlines()]
-        if number == changed_at:
-            room.write(ROSTER, room.read(ROSTER) + f"# {moment}\n".encode())
-            room.serve_since(moment, "a change")
-    return listed, taken
-
-
-def long_history(folder: str) -> Iterator[Row]:
-    """The history's most: it is taken in bounded time, and the next backup writes none of it."""
-    room = made(folder, "long", 2)
-    for number in range(4_095):
-        day = f"2025{number // 500 + 1:02}{number % 500 // 20 + 1:02}{number % 20:02}0000Z"
-        room.write(ROSTER, room.read(ROSTER)[:4_000] + f"# {number}\n".encode())
-        room.serve_since(day, "a change")
-    begun = time.monotonic()
-    yield "it is taken", *said(room.backup(), 0, " files, ")
-    took = time.monotonic() - begun
-    yield "in time", took < 300, took
-    yield "no second time", *said(room.backup(), 0, " 0 bytes new")
-    yield "4,096 moments", len(room.moments_served()) == 4_096, ""
 
 
 def unmounted(folder: str) -> Iterator[Row]:
@@ -525,8 +452,9 @@ def checked(folder: str) -> Iterator[Row]:
 
 
 PARTS: tuple[Callable[[str], Iterator[Row]], ...] = (
-    round_trip, grows, changes_meanwhile, long_history, unmounted, lambda _: bounded(), sealed, filled, followed, not_admitted,
-    heard, bad_backups, bad_machines, upgraded, drills, checked,
+    round_trip, grows, history.changes_meanwhile, history.at_its_most, unmounted,
+    lambda _: bounded(), sealed, filled, followed, not_admitted, heard, bad_backups, bad_machines,
+    upgraded, drills, checked,
 )  # fmt: skip
 
 

@@ -20,6 +20,7 @@ DAYS, EACH = 3, 10
 DAY = 86_400
 PATIENCE = 240
 FILES = ("/etc/desk/roster.toml", "/etc/desk/base.sudo")
+MOMENTS = "/var/lib/desk/history/moments"
 PEOPLE = ("desk", "desk-relay")
 UNITS = ("desk", "desk-relay-post", "nginx")
 # How each life ends: what others have of what came after the last backup.
@@ -111,7 +112,6 @@ class Life:
         self.known["began"] = int(time.time()) - (self.lives * DAYS + 1) * DAY
         write(FILES[0], ROSTER)
         write(FILES[1], "dba ALL = (root) /usr/bin/id\n")
-        write("/etc/desk/rosters/20260101000000Z.toml", ROSTER)
         ca = "sh /usr/share/doc/steelnewt/examples/front-ca.sh /etc/desk/front"
         made = " && ".join(f"{ca} host {it}" for it in NAMES)
         self.does("the authority", f"{ca} init && {ca} server desk.example && {made}")
@@ -166,6 +166,10 @@ class Life:
         for unit in UNITS:
             self.check(f"{unit} runs", self.is_active(unit), said)
         self.named(how, said)
+        came = read(MOMENTS)
+        self.check("the history is there", came == self.known["served"], came)
+        ours = f"{ROSTER}# of life {self.number - 1}\n"
+        self.check("and what was served", self.is_served() and read(FILES[0]) == ours, came)
         guards = sh("find /etc/systemd -name zz-restoring.conf").stdout
         self.check("every unit may start", not guards, guards)
         again = sh("desk-restore /srv/desk-backup --identity /root/backup.key")
@@ -266,7 +270,9 @@ class Life:
             self.feed()
         if how == "at once":
             self.day(first + 3)
+        self.change_roster()
         self.does("the backup", "systemctl start desk-backup.service")
+        self.known["served"] = read(MOMENTS)
         if how != "at once":
             self.day(first + 3)
         if how == "outbox":
@@ -283,6 +289,19 @@ class Life:
         words = f"--desk unix:/run/desk/desk.sock --backup {BACKUPS}"
         checked = sh(f"/usr/lib/nagios/plugins/check_desk {words}")
         self.check("check_desk", checked.returncode == 0, checked)
+
+    def change_roster(self) -> None:
+        """Another roster is served, as RUNBOOKS has it; no grant changes."""
+        write("/root/new.toml", f"{ROSTER}# of life {self.number}\n")
+        words = f"desk-change-roster /root/new.toml --yes --why 'life {self.number}'"
+        said = self.does("a roster is changed", words)
+        self.check("it is served", "serves the new roster" in said, said)
+        self.check("and is in the history", self.is_served(), read(MOMENTS))
+
+    def is_served(self) -> bool:
+        """Whether the history's last moment has the roster that is in its place."""
+        last = read(MOMENTS).splitlines()[-1].split(" ")[0]
+        return read(f"/var/lib/desk/history/{last}/roster.toml") == read(FILES[0])
 
     def wait_for_said(self) -> None:
         until, last = time.monotonic() + PATIENCE, self.known["acked"][-1]

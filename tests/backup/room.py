@@ -6,6 +6,7 @@ from __future__ import annotations
 import hashlib
 import json
 import os
+import re
 import shutil
 import subprocess
 import sys
@@ -29,6 +30,8 @@ ROSTER, BASE = "/etc/desk/roster.toml", "/etc/desk/base.sudo"
 SECRETS = ("/etc/desk/front/ca.key", "/etc/desk/page.secret")
 DAY = 86_400
 PATIENCE = 600
+
+Row = tuple[str, bool, object]
 
 
 def wish(no: int, begins: float) -> Wish:
@@ -178,3 +181,14 @@ class Room:
 
 def tried(words: list[str]) -> subprocess.CompletedProcess[str]:
     return subprocess.run(words, capture_output=True, text=True, check=False, timeout=PATIENCE)
+
+
+def made(folder: str, name: str, count: int = 6) -> Room:
+    room = Room(os.path.join(folder, name))
+    room.furnish(count)
+    return room
+
+
+def said(ran: desk.Run, status: int, *says: str) -> tuple[bool, object]:
+    text = ran.stdout + ran.stderr
+    return ran.returncode == status and all(re.search(it, text) for it in says), ran

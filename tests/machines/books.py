@@ -426,7 +426,7 @@ def an_upgrade(books: Books) -> None:
 
 
 def a_backup(books: Books) -> None:
-    """Of the messages, while the desk serves, and of the file."""
+    """It copies the messages while the desk serves, and the file of a stopped desk."""
     on = books.desk
     done = on.run(f"{PREAMBLE}backup")
     held = on.out(f"{ASK}/v1/messages")
