@@ -38,8 +38,8 @@ def approval(at: int) -> str:
     return desk.approval(at=desk.stamp(at))
 
 
-def request(command: str) -> str:
-    first, last = desk.stamp(NOW - HOUR), desk.stamp(NOW + HOUR // 2)
+def request(command: str, at: int = NOW - HOUR) -> str:
+    first, last = desk.stamp(at), desk.stamp(at + HOUR + HOUR // 2)
     return desk.request(cmnds=[command], at=first, until=last, **{"from": first})
 
 
@@ -107,6 +107,22 @@ def desk_rows() -> list[tuple[str, str, str, list[str], int, str]]:
             [approval(NOW - HOUR)],
             0,
             "desk_parked=1 desk_parked_old=0",
+        ),
+        (
+            "a number that was given twice today",
+            calm,
+            base,
+            [*granted, request("/usr/local/sbin/")],
+            1,
+            "DESK WARNING - asked twice under one number: ann 7 |",
+        ),
+        (
+            "one that was given twice two days ago",
+            calm,
+            base,
+            [request("/usr/bin/id", NOW - 2 * DAY), request("/usr/local/sbin/", NOW - 2 * DAY)],
+            0,
+            "desk_messages=2",
         ),
         (
             "a needless grant",
