@@ -71,8 +71,8 @@ def lost(doored: Doored, older: Path, backups: Path) -> Path:
 
 
 def test_a_site_behind_its_door_comes_back(fresh: Doored) -> None:
-    """What the door acknowledged after the store was copied is in its journal, and is filled in. Who
-    signs is as it was, and nothing came past the door."""
+    """What the door acknowledged after the store was copied is in its journal, and is filled in.
+    Who signs is as it was, and nothing came past the door."""
     older = fresh.folder / "older"
     older.mkdir()
     granted(fresh, 1)

@@ -25,6 +25,7 @@ from tests.backup.room import BASE, DAY, OUTBOX, PATIENCE, PROGRAM, ROSTER, SECR
 from tests.backup.room import Row, made, said, tried, wish
 from tests.common import desk
 
+
 def round_trip(folder: str) -> Iterator[Row]:
     """What comes back is what was there, byte for byte, with its modes."""
     room = made(folder, "round")
