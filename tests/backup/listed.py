@@ -51,7 +51,7 @@ def faults() -> Iterator[str]:
         if path not in ("/etc/sudoers.d",) and not is_named(path):
             yield f"{where} names {path}: it is neither taken nor named as left out"
     parts = the_list()[0]
-    stores = {os.path.join(part.paths[0], it) for part in parts for it in part.stores}
+    stores = {os.path.join(part.paths[-1], it) for part in parts for it in part.stores}
     if stores != {"/var/lib/desk/desk.db", "/var/lib/desk-relay/outbox.db"}:
         yield f"other stores than those that are written while they are read: {stores}"
 
