@@ -123,7 +123,7 @@ for conf in serve.conf fetch.conf; do
     [ -e "$root/etc/desk/$conf" ] || put 0644 "packaging/$conf" "/etc/desk/$conf"
 done
 for text in README.md CHANGELOG.md \
-    docs/{OPERATING,RUNBOOKS,HTTP,RELAYS,AUDITING,ROSTER,SUDOERS,MESSAGES,STORE}.md \
+    docs/{OPERATING,RUNBOOKS,RESTORING,HTTP,RELAYS,AUDITING,ROSTER,SUDOERS,MESSAGES,STORE}.md \
     docs/{CODES,proof/PROOFS,LINT,IMPORT,SECURITY,HOSTS,USED,EVIDENCE,CONTROLS,CHANGING}.md \
     docs/{PEOPLE,TEAM,SEVERAL,SIGNING,CONCEPTS,PROGRAMS}.md; do
     python3 scripts/installed.py "$text" > "$room/filled"

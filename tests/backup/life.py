@@ -152,14 +152,14 @@ class Life:
     esac
 }
 """
-        begun = block("RUNBOOKS.md", "The machine is lost", 0).replace("in db1;", "in db1 web1;")
+        begun = block("RESTORING.md", "The machine is lost", 0).replace("in db1;", "in db1 web1;")
         ran = sh(f"set -e\n{stand_in}{begun}")
         said = ran.stdout
         self.check("the restore", ran.returncode in (0, 1), ran)
         if "OPEN: " in said:
             early = [it for it in UNITS if self.is_active(it)]
             self.check("nothing starts while a revocation is open", not early, early)
-            settled = block("RUNBOOKS.md", "The machine is lost", 1)
+            settled = block("RESTORING.md", "The machine is lost", 1)
             ran = sh(settled)
             said += ran.stdout
             self.check("settled", ran.returncode in (0, 1) and "OPEN: " not in ran.stdout, ran)

@@ -1,8 +1,8 @@
 #!/usr/bin/env bash
 # A machine that is lost, on machines that boot: a desk, a relay and a front in a root of this
 # machine's, below an overlay that is thrown away, under its own systemd and in namespaces. It lives
-# for three faked days, is lost, and is made again in an empty root by RUNBOOKS 'The machine is
-# lost', ten times over (life.py):
+# for three faked days, is lost, and is made again in an empty root by the commands of RESTORING,
+# ten times over (life.py):
 #
 #     bash tests/backup/machines.sh [LIVES]
 #
@@ -36,7 +36,7 @@ cp -a "$tree/." "$room/brought"
 cp -a "$room/brought/lib/." "$room/brought/usr/lib"
 rm -r "$room/brought/lib"
 cp -r --parents tests/__init__.py tests/backup tests/common scripts examples packaging/debian \
-    docs/RUNBOOKS.md docs/OPERATING.md "$room/out"
+    docs/RESTORING.md docs/OPERATING.md "$room/out"
 
 boot() {
     local root=$room/root unit

@@ -55,7 +55,8 @@ class Books:
         on.write("/usr/sbin/sendmail", sites.SENDMAIL, 0o755)
         on.write("/usr/local/bin/editor", sites.EDITOR, 0o755)
         on.run(f"cd {EXAMPLES} && cp roster.toml /etc/desk/ && cp site.sudo /etc/desk/base.sudo")
-        on.run("sed -i '/^.page/,$d' /etc/desk/relay.toml")
+        # (ann 7 of the page comes past the relay, whose own numbers begin behind it)
+        on.run("sed -i '/^.page/,$d; s/^numbers = .1,/numbers = [21,/' /etc/desk/relay.toml")
         on.run(f"cp {EXAMPLES}/nginx/desk.conf /etc/nginx/conf.d/")
         made = f"{CA} init && {CA} server desk.example && {CA} host db1 && {CA} auditor carol"
         made += f" && {CA} relay chat"
@@ -82,9 +83,11 @@ class Books:
     def holds(self, what: str, is_right: bool, found: object = "") -> None:
         self.life.holds(what, is_right, found)
 
-    def follow(self, heading: str, at: int, before: str = "", given: str = "") -> desk.Run:
-        """Runs a block of the page behind its first lines."""
-        block = blocks_of(section(heading), "sh")[at]
+    def follow(
+        self, heading: str, at: int, before: str = "", given: str = "", number: str = "1"
+    ) -> desk.Run:
+        """Runs a block of the page behind its first lines, with the number that ann was given."""
+        block = blocks_of(section(heading), "sh")[at].replace(" ann 1 ", f" ann {number} ")
         return self.desk.run(f"{PREAMBLE}{before}\n{block}", given=given)
 
     def post(self, *messages: str) -> None:
@@ -106,38 +109,28 @@ class Books:
 
 
 ROSTER = "/etc/desk/roster.toml"
+HISTORY = "/var/lib/desk/history"
 
 
 def change(books: Books, text: str) -> None:
-    """The runbook's one command, and whoever edits the file and says yes."""
+    """The runbook's one command, and whoever edits the file and says yes: the desk serves on."""
+    before = books.life.pid("desk.service")
     books.desk.write("/root/edited", text)
     done = books.follow("A roster is changed", 0, given="y\n")
     books.holds("it is changed", "serves the new roster" in done.stdout, done)
-    books.life.is_state("a changed roster", "desk.service", "active, enabled")
-
-
-def goes_back(books: Books) -> None:
-    """A host takes no file of a roster that it has left, until a person says so."""
-    late = books.host.run("systemctl start desk-fetch@db1")
-    books.holds("the host does not go back by itself", late.returncode != 0, late)
-    done = books.host.run("rm /var/lib/desk-host/db1.json; systemctl start desk-fetch@db1")
-    books.holds("and then it does", done.returncode == 0, done)
+    books.holds("the desk serves on", books.life.pid("desk.service") == before != "0", before)
 
 
 def a_roster_is_changed(books: Books) -> None:
-    """By one command, by hand, and back."""
+    """And back, by the earlier roster and one line more: the host takes a file of each."""
     before = books.desk.read(ROSTER)
-    changed = before.replace('["db1", "db2", "web1"]', '["db1", "db2"]', 1)
-    change(books, changed)
+    change(books, before.replace('["db1", "db2", "web1"]', '["db1", "db2"]', 1))
     books.holds("the host fetches", books.host.holds("systemctl start desk-fetch@db1"))
-    books.desk.write("/root/edited", before)
-    done = books.follow("A roster is changed", 1)
-    books.holds("what changes is shown", done.returncode in (0, 1) and not done.stderr, done)
-    done = books.follow("A roster is changed", 2)
-    books.holds("rebuilt by hand", re.search("^ok", done.stdout, re.MULTILINE) is not None, done)
-    books.holds("and served", books.desk.wait(f"{ASK}/v1/count", 60))
-    books.holds("it is the old one again", books.desk.read(ROSTER) == before)
-    goes_back(books)
+    earlier = books.desk.out(f"cat $(ls -d {HISTORY}/*Z | tail -n 2 | head -n 1)/roster.toml")
+    books.holds("the history has the earlier one", earlier == before.rstrip("\n"), earlier)
+    change(books, f"{earlier}\n# as before\n")
+    done = books.host.run("systemctl start desk-fetch@db1")
+    books.holds("the host goes along", done.returncode == 0, done)
 
 
 def day(after: int) -> str:
@@ -245,15 +238,21 @@ def nobody_can_approve(books: Books) -> None:
     on.write("/root/types", f"#!/bin/sh\necho '{phrase[1] if phrase else ''}'\n", 0o755)
     typed = "export SSH_ASKPASS=/root/types SSH_ASKPASS_REQUIRE=force\n"
     agent = f"{typed}eval $(ssh-agent) > /dev/null; ssh-add -q /root/ann\n"
-    done = books.follow(heading, 2, agent)
+    box = "runuser -u desk-relay -- sqlite3 /var/lib/desk-relay/outbox.db"
+    number = on.out(f"{box} \"SELECT coalesce(max(last), 20) + 1 FROM numbers"
+                    " WHERE person = 'ann'\"")
+    done = books.follow(heading, 2, agent, number=number)
     books.holds("the key approves", "You are glass." in done.stdout, done)
     books.holds("what hosts know", "Each host has it with its next fetch" in done.stdout, done)
     books.holds("everything on the host", books.may("/usr/bin/env"), done)
     on.wait(f"grep -q 'BREAK-GLASS: ann .* is granted' {sites.MAILS}", 60)
     rung = on.out(f"cat {sites.MAILS}")
     books.holds("the bells", all(f"{it}@site" in rung for it in ("robert", "dave", "ann")), rung)
-    done = books.follow(heading, 3, agent)
+    done = books.follow(heading, 3, agent, number=number)
     books.holds("it ends", not books.may("/usr/bin/env"), done)
+    done = books.follow(heading, 4)
+    told = "glass counts" in done.stdout and "nobody answers" in done.stdout
+    books.holds("it is reviewed", done.returncode == 0 and told, done)
 
 
 def a_key_is_lost(books: Books) -> None:
@@ -426,7 +425,7 @@ def an_upgrade(books: Books) -> None:
 
 
 def a_backup(books: Books) -> None:
-    """It copies the messages while the desk serves, and the file of a stopped desk."""
+    """The messages are copied while the desk serves, and the file while it is stopped."""
     on = books.desk
     done = on.run(f"{PREAMBLE}backup")
     held = on.out(f"{ASK}/v1/messages")
@@ -451,6 +450,14 @@ def a_restore(books: Books) -> None:
     said = books.does("each relay posts again",
                       "runuser -u desk-relay -- desk-relay post-again", "messages are posted again")
     books.holds("some", not said.startswith("0 "), said)
+    on.run("touch /root/revoked.txt")
+    books.host.run("systemctl start desk-fetch@db1")
+    done = books.follow("A restore", 2)
+    posted = on.out("wc -l < /root/revoked.txt")
+    books.holds("what was revoked by hand", done.stdout.count("ack\n") == int(posted), done)
+    ends = re.findall(r"^< ann .*NOTAFTER=(\d{14}Z)", done.stdout, re.MULTILINE)
+    is_over = all(it <= near(0) for it in ends) and "\n> ann" not in done.stdout
+    books.holds("the host has what is over, and lacks nothing", is_over, done)
 
 
 BOOKS: tuple[Callable[[Books], None], ...] = (
@@ -467,8 +474,8 @@ BOOKS: tuple[Callable[[Books], None], ...] = (
     a_backup,
     a_restore,
 )
-# (team.py runs what is behind a door, and tests/backup/life.py the lost machine)
-ELSEWHERE = ("signers_cannot_be_read", "the_machine_is_lost")
+# behind a door: team.py
+ELSEWHERE = ("signers_cannot_be_read",)
 
 
 def unnamed() -> list[str]:

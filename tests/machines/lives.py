@@ -218,6 +218,7 @@ def alone(life: Life) -> None:
 def removed(life: Life) -> None:
     """Nothing of a package goes on that is removed."""
     machine = life.machine
+    machine.run(f"systemctl start {' '.join(SERVED)}")
     said = life.does("apt removes", "apt remove steelnewt-relay steelnewt steelnewt-host")
     for name, what in (("desk serve", "the desk"), ("desk-relay post", "the relay's posts")):
         left = machine.out(f"pgrep -af '{name}' | grep -v pgrep")

@@ -23,6 +23,9 @@ DPKG = "dpkg --force-unsafe-io --force-confold -i"
 DESK, HOST = ("steelnewt",), ("steelnewt-host",)
 RELAY = ("steelnewt-relay", "python3-steelnewt-client")
 ASKS = "ask db-care --on db1 --as root --for 1h --yes --again /usr/bin/id"
+# (by a clock of whole seconds: the old host starts nothing of a sudo that began with the file)
+FETCH = "systemctl start desk-fetch@db1 && sleep 2"
+SUDO = "sudo -n -l -U ann /usr/bin/id"
 KEYS = "/var/lib/desk-relay/.ssh/authorized_keys"
 
 
@@ -80,12 +83,15 @@ class Pair:
         holds(f"{what}: ann asks", found is not None, asked)
         done = self.says("bob", f"approve ann {number} --yes")
         holds(f"{what}: bob approves", "It is in force from" in done.stdout, done)
-        done = self.host.run("systemctl start desk-fetch@db1; sudo -n -l -U ann /usr/bin/id")
+        self.host.run(FETCH)
+        done = self.host.run(SUDO)
         holds(f"{what}: the host has it", done.returncode == 0, done)
         done = self.says("bob", f"revoke ann {number} --yes")
         holds(f"{what}: it is revoked", "acknowledged that you revoked it" in done.stdout, done)
-        done = self.host.run("systemctl start desk-fetch@db1 && ! sudo -n -l -U ann /usr/bin/id")
-        holds(f"{what}: the host has it no more", done.returncode == 0, done)
+        fetched, done = self.host.run(FETCH), self.host.run(SUDO)
+        # (what sudo says of a command that it would refuse; else it says why it says nothing)
+        is_over = (fetched.returncode, done.returncode, done.stdout + done.stderr) == (0, 1, "")
+        holds(f"{what}: the host has it no more", is_over, (fetched, done))
         done = self.says("ann", "mine --all")
         holds(f"{what}: ann sees it", f"ann {number}  [" in done.stdout, done)
 
