@@ -106,7 +106,7 @@ for life in $(seq 0 "$lives"); do
     : > "$room/out/printed"
     (
         echo "$BASHPID" > "$group/cgroup.procs"
-        exec timeout --signal=KILL "${PATIENCE:-900}" unshare --mount --pid --net --uts --ipc --cgroup --fork \
+        exec timeout -s KILL "${PATIENCE:-900}" unshare --mount --pid --net --uts --ipc --cgroup --fork \
             --kill-child --propagation private bash -euc boot
     ) > "$room/log" 2>&1 < /dev/null || true
     cat "$room/out/printed"
