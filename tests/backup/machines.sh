@@ -106,8 +106,9 @@ for life in $(seq 0 "$lives"); do
     : > "$room/out/printed"
     (
         echo "$BASHPID" > "$group/cgroup.procs"
-        exec timeout -s KILL "${PATIENCE:-900}" unshare --mount --pid --net --uts --ipc --cgroup --fork \
-            --kill-child --propagation private bash -euc boot
+        # (unshare takes no SIGTERM)
+        exec timeout -s KILL "${PATIENCE:-900}" unshare --mount --pid --net --uts --ipc --cgroup \
+            --fork --kill-child --propagation private bash -euc boot
     ) > "$room/log" 2>&1 < /dev/null || true
     cat "$room/out/printed"
     if ! grep -q "^life $life: [0-9]* checks, 0 wrong$" "$room/out/printed"; then
