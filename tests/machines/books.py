@@ -243,6 +243,8 @@ def nobody_can_approve(books: Books) -> None:
                     " WHERE person = 'ann'\"")
     done = books.follow(heading, 2, agent, number=number)
     books.holds("the key approves", "You are glass." in done.stdout, done)
+    other = on.run(f"{agent}ssh -i /root/glass desk approve ann {number} --yes")
+    books.holds("whom an agent makes of one is named", "You are ann." in other.stdout, other)
     books.holds("what hosts know", "Each host has it with its next fetch" in done.stdout, done)
     books.holds("everything on the host", books.may("/usr/bin/env"), done)
     on.wait(f"grep -q 'BREAK-GLASS: ann .* is granted' {sites.MAILS}", 60)
