@@ -107,7 +107,7 @@ for life in $(seq 0 "$lives"); do
     (
         echo "$BASHPID" > "$group/cgroup.procs"
         # (unshare takes no SIGTERM)
-        exec timeout -s KILL "${PATIENCE:-900}" unshare --mount --pid --net --uts --ipc --cgroup \
+        exec timeout -s KILL "${PATIENCE:-1800}" unshare --mount --pid --net --uts --ipc --cgroup \
             --fork --kill-child --propagation private bash -euc boot
     ) > "$room/log" 2>&1 < /dev/null || true
     cat "$room/out/printed"
