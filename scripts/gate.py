@@ -81,6 +81,7 @@ PARTS = (
     Part("soak/reads_and_writes", "python3 -m tests.soak.reads_and_writes", SOAK),
     Part("soak/healing", "python3 -m tests.soak.healing", SOAK, 3),
     Part("soak/kills", "env RUNS=20 HELD=600 SENT=100 python3 -m tests.soak.kills", SOAK, 1.5),
+    Part("soak/rosters", "python3 -m tests.soak.rosters", SOAK, 2),
     Part("soak/inputs", "/usr/bin/python3 -m tests.soak.soak --short", SOAK, cores=2),
     Part("types", "bash scripts/types.sh", APT),
     Part("relays/tests", "bash relays/test.sh rest", APT, 6, cores=2),

@@ -146,7 +146,7 @@ def signer_faults(settings: Settings) -> Iterator[str]:
 def questions_faults(settings: Settings) -> Iterator[str]:
     """Whether the desk takes messages where it answers questions: they would go past the door."""
     if settings.questions != settings.desk:
-        said = settings.asked().post("desk-door", b"").said
+        said = settings.asked_by_others().post("desk-door", b"").said
         if said != NO_ROUTE:
             yield f"{settings.questions} takes messages ({said}): past the door (serve --questions)"
 

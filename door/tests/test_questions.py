@@ -1,5 +1,5 @@
-"""A desk with a socket for questions beside the one that takes messages: the door brings messages
-to this one, and asks at that; so does everybody else."""
+"""A desk with two sockets, one of them for questions alone. The door brings messages to the other
+one and asks its own questions there; what others ask goes to the socket for questions."""
 
 from collections.abc import Iterator
 from pathlib import Path
@@ -17,7 +17,7 @@ def questions_of(folder: Path) -> str:
 
 @pytest.fixture
 def apart(tmp_path: Path) -> Iterator[Doored]:
-    """A door that asks at a socket of its own, and a desk that has it."""
+    """A door whose desk has a socket for questions."""
     found = Doored(tmp_path)
     try:
         found.configure(more=f'questions = "{questions_of(tmp_path)}"\n')
@@ -56,12 +56,16 @@ def test_a_question_by_the_door_and_beside_it(apart: Doored) -> None:
         assert asked.get(path) == apart.get(path), path
 
 
-def test_the_door_asks_at_the_socket_for_questions(apart: Doored, tmp_path: Path) -> None:
-    """Where that is gone the door answers no question, and messages go on."""
+def test_messages_need_no_socket_for_questions(apart: Doored, tmp_path: Path) -> None:
+    """Where the socket for questions is gone, the door answers no question. Messages go on, also
+    an approval, whose request the door asks for first."""
     (tmp_path / "questions.sock").unlink()
     said = apart.raw(b"GET /v1/count HTTP/1.1\r\nHost: x\r\n\r\n")
     assert said.endswith(b"K20 DeskAway\n")
-    assert apart.post(apart.sign("ann", apart.request())) == "ack"
+    request = apart.request()
+    assert apart.post(apart.sign("ann", request)) == "ack"
+    assert apart.post(apart.sign("bob", apart.verdict(), request)) == "ack"
+    assert len(apart.in_force()) == 1
 
 
 def test_a_check_of_the_socket_for_questions(apart: Doored) -> None:

@@ -9,7 +9,8 @@
 - **A message and the count after it** (`/v1/count`, which each host asks before its file) beside 40
   messages, and beside 4,000: the count is kept up to date, and not made anew.
 - **Another roster** that an open desk takes, beside 40 messages, and beside 4,000: it is one row of
-  the store. Beside a million, how long it takes.
+  the store. Beside a million, how long it takes; and beside 100,000 no question that comes
+  meanwhile waits longer than a second.
 - **What became of one request** (`/v1/requests/ASKER/NO`) beside 100,000 other messages, and the
   file of a host that has this request's grant alone, of the same desk.
 - **An opening and the first file**: of 100,000 messages the instructions, beside what it costs to
@@ -33,6 +34,7 @@ import re
 import subprocess
 import sys
 import tempfile
+import threading
 import time
 from collections.abc import Iterator, Sequence
 
@@ -40,6 +42,7 @@ from tests.bench.bench_store import judged
 from tests.common import desk, store_files
 
 LIVE, GRANTS, TOLD = 20, 100, 4_000
+TAKEN = 10  # how many rosters are taken while somebody asks
 BEFORE = 300  # questions before the one that is counted
 OTHERS, ENDED, OPENED, COUNTED = 1_000_000, 100_000, 1_000_000, 100_000
 HOSTS = ["db1", *(f"web{n}" for n in range(40))]
@@ -222,10 +225,10 @@ def counts(site: Site, count: int) -> bool:
     return judged(what, many / few, 1.5)
 
 
-def take_another(site: Site, server: desk.Server) -> None:
+def take_another(site: Site, server: desk.Server, number: int = 0) -> None:
     """An open desk takes another roster. (Its file has the first one again then.)"""
     first = desk.read(site.roster)
-    text = f"{first}# another\n".encode()
+    text = f"{first}# another, {number}\n".encode()
     desk.write(site.folder, "roster.toml", text)
     server.order(text)
     told = f", roster {hashlib.sha256(text).hexdigest()}\n".encode()
@@ -254,6 +257,29 @@ def takings(site: Site, count: int) -> bool:
     what = f"another roster, beside {count:,} messages"
     print(f"{what}: {few:,} instructions beside 40, {many:,} beside all")
     return judged(what, many / few, 1.5)
+
+
+def waiting(site: Site, count: int) -> bool:
+    """The longest that a question waits while an open desk takes one roster after the other."""
+    store, longest, ended = site.store("waiting", granted(0, count, "db1")), 0.0, threading.Event()
+
+    def ask(server: desk.Server) -> None:
+        nonlocal longest
+        while not ended.is_set():
+            begun = time.perf_counter()
+            answer(server, COUNT)
+            longest = max(longest, time.perf_counter() - begun)
+
+    with site.serving(store, stderr=subprocess.PIPE, takes_orders=True) as server:
+        answer(server, COUNT)
+        asker = threading.Thread(target=ask, args=[server])
+        asker.start()
+        for number in range(TAKEN):
+            take_another(site, server, number)
+        ended.set()
+        asker.join()
+    what = f"a question while one of {TAKEN} rosters is taken, beside {count:,} messages, seconds"
+    return judged(what, longest, 1.0)
 
 
 def opening_counted(site: Site, count: int) -> bool:
@@ -322,7 +348,7 @@ def main() -> int:
             wrong += opening_counted(site, given.counted)
         else:
             print("instructions: left out, for valgrind is not there")
-        wrong += opening(site, given.opened)
+        wrong += waiting(site, given.counted) + opening(site, given.opened)
     return 1 if wrong else 0
 
 

@@ -277,8 +277,10 @@ def audited(page: Page, room: Room) -> None:
     changed = "No grant changes" in done.stdout and "serves the new roster" in done.stdout
     room.holds("the change", done.returncode == 0 and changed, done)
     room.holds("eric", '\neric = ["operate"]\n' in room.read("/etc/desk/roster.toml"))
-    kept = room.run("ls /etc/desk/rosters")
-    room.holds("both rosters are kept", len(kept.stdout.split()) == 2, kept)
+    kept = room.run("wc -l < /var/lib/desk/history/moments")
+    room.holds("both rosters are kept", kept.stdout.strip() == "2", kept)
+    why = room.run("cat /var/lib/desk/history/*/change")
+    room.holds("and why", "why eric joins\n" in why.stdout, why)
     room.holds("no block is left", not page.blocks, page.blocks)
     size = len(TEXT.encode())
     room.holds(f"it has at most {MOST} bytes", size <= MOST, size)

@@ -31,7 +31,8 @@ NEEDED = "adduser,ca-certificates,curl,faketime,haproxy,nginx-light,openssl,pyth
 NEEDED += ",python3-jsonschema,sqlite3,openssh-client,tzdata,python3-flask,python3-waitress"
 NEEDED += ",python3-pika,strace,sudo,systemd"
 DOC = "/usr/share/doc/steelnewt"
-TOOLS = ("desk-lint", "desk-import", "desk-used", "desk-change-roster", "desk-roster")
+TOOLS = ("desk-lint", "desk-import", "desk-used", "desk-roster")
+TOOLS += ("desk-change-roster", "desk-change-base")
 NAMES = ("steelnewt", "steelnewt-host", "steelnewt-host-plugin", "steelnewt-tools")
 NAMES += ("python3-steelnewt-client",)
 RELAY, BROKER = "steelnewt-relay", "steelnewt-broker"
@@ -187,7 +188,8 @@ def tools(trial: Trial) -> None:
         status=1,
         says="    lost: /usr/bin/less: NOEXEC: ",
     )
-    trial.check("the base", base.endswith("\nann db1 = (root) /bin/ls\n"), base)
+    # (/bin is a link there)
+    trial.check("the base", base.endswith("\nann db1 = (root) /usr/bin/ls\n"), base)
     said = "\ndb1 eve as root  once"
     told = trial.does("desk-used", "sh", "-c", AUDITED, status=1, says=said)
     trial.check("a grant that was used", "  used twice\n" in told, told)
@@ -313,8 +315,12 @@ def traced(trial: Trial) -> None:
 
 def empty(trial: Trial) -> None:
     """Takes away what a part left in the desk's folder."""
-    for name in os.listdir(trial.path("/var/lib/desk")):
-        os.unlink(trial.path(f"/var/lib/desk/{name}"))
+    with os.scandir(trial.path("/var/lib/desk")) as held:
+        for it in held:
+            if it.is_dir(follow_symlinks=False):
+                shutil.rmtree(it.path)
+            else:
+                os.unlink(it.path)
 
 
 def bad_starts(trial: Trial) -> None:
@@ -742,8 +748,8 @@ def behind_a_door(trial: Trial) -> None:
     (makes,) = [it for it in starts if it.startswith("+/usr/bin/install ")]
     trial.does("the folder for messages", *makes.lstrip("+").split())
     running = Service(trial)
-    is_told = f"listening at {AT_POSTS}".encode() in running.wait_ready()
-    trial.check("the desk listens for messages", is_told, running.told)
+    told = running.wait_ready().decode()
+    trial.check("the desk listens for messages", f"listening at unix:{AT_POSTS}" in told, told)
     made = service.make_runtime(trial.root, "desk-door.service")
     (before,) = service.settings_of(trial.root, "desk-door.service")["ExecStartPre"]
     as_door = ["setpriv", "--reuid", "desk-door", "--regid", "desk-front", "--clear-groups"]

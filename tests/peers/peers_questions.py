@@ -27,12 +27,12 @@ from tests.common.http_oracle import asks
 METHODS = (b"GET", b"HEAD", b"POST", b"PUT", b"DELETE", b"get", b"post")
 AT = b"20260105093000Z"
 TARGETS = (
-    b"/v1/relays/web/messages",
+    b"/v1/relays/chat/messages",
     b"/v1/relays/nobody/messages",
-    b"/v1/relays/web/messages/",
+    b"/v1/relays/chat/messages/",
     b"/v1/relays//messages",
-    b"/v1/relays/web/messages?x",
-    b"/v1/relays/w%65b/messages",
+    b"/v1/relays/chat/messages?x",
+    b"/v1/relays/ch%61t/messages",
     b"/v1/messages",
     b"/v1/count",
     b"/v1/requests",
@@ -140,7 +140,7 @@ def what_it_answers(count: Count, two: Desk) -> None:
             wanted = two.at_first(given)
         count.holds((method, target, content), said == wanted, said)
     count.holds("nothing is stored", two.held() == before, two.held())
-    acked = two.at_first(desk.posted(b"web", desk.request(9).encode()))
+    acked = two.at_first(desk.posted(b"chat", desk.request(9).encode()))
     count.holds("the first socket takes it", acked.endswith(b"\r\n\r\nack\n"), acked)
     count.holds("both show it", two.held() == before + desk.request(9).encode() + b"\n", before)
 
@@ -149,7 +149,7 @@ def what_waits_for_nothing(count: Count, two: Desk) -> None:
     """The refusal of a message comes with its head: its content is not waited for."""
     begun = time.monotonic()
     with desk.connected(two.second, 60) as peer:
-        peer.sendall(desk.posted(b"web", b"", 16_384))
+        peer.sendall(desk.posted(b"chat", b"", 16_384))
         said = desk.received(peer)
     took = time.monotonic() - begun
     count.holds("a head alone", said == NO_ROUTE + b"T3 NoRoute\n" and took < SOON, (took, said))
@@ -163,7 +163,7 @@ def what_many_do(count: Count, two: Desk) -> None:
     def floods() -> None:
         while not ends.is_set():
             with contextlib.suppress(OSError):
-                two.at_second(desk.posted(b"web", desk.request(8).encode()))
+                two.at_second(desk.posted(b"chat", desk.request(8).encode()))
 
     workers = [threading.Thread(target=floods) for _ in range(4)]
     with contextlib.ExitStack() as stack:
@@ -174,7 +174,7 @@ def what_many_do(count: Count, two: Desk) -> None:
         try:
             for no in range(20, 30):
                 begun = time.monotonic()
-                said = two.at_first(desk.posted(b"web", desk.request(no).encode()))
+                said = two.at_first(desk.posted(b"chat", desk.request(no).encode()))
                 took = time.monotonic() - begun
                 is_so = said.endswith(b"\r\n\r\nack\n") and took < SOON
                 count.holds("a message beside many", is_so, (took, said))
@@ -227,7 +227,7 @@ def what_ports_say(count: Count) -> None:
     assert process.stdout is not None
     first = process.stdout.readline().split()[1]
     second = process.stdout.readline().split()[2]
-    given = desk.posted(b"web", desk.request().encode())
+    given = desk.posted(b"chat", desk.request().encode())
     said = exchange(first, given), exchange(second, given)
     is_so = said[0].endswith(b"ack\n") and said[1] == NO_ROUTE + b"T3 NoRoute\n"
     count.holds("a message at two ports", is_so, said)

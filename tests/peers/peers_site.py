@@ -527,6 +527,23 @@ def reloads(count: Count, words: list[str], folder: str) -> None:
         count.same("it ends as before", served.end(), 0)
 
 
+def reloads_early(count: Count, words: list[str], folder: str) -> None:
+    """SIGHUP before the desk is opened ends nothing: it is opened over what is there then, and its
+    history has that."""
+    with site_of(words, folder) as served:
+        served.start()
+        begun = comes(lambda: "starting over" in served.said(), PATIENCE) is not None
+        count.holds("it begins", begun, served.said())
+        for _ in range(5):
+            served.hang_up()
+            time.sleep(0.02)
+        count.holds("it serves", comes(served.file, PATIENCE) is not None, served.said())
+        lines = desk.read(os.path.dirname(served.store), "history", "moments").splitlines()
+        wanted = [digest_of(desk.read("examples", "roster.toml"))]
+        count.same("the history", [it.split(" ")[1] for it in lines], wanted)
+        count.same("it ends as before", served.end(), 0)
+
+
 ROSTERS = 40  # how many rosters a served desk is to take while it is asked
 PAIRS = 10  # how often one roster is to follow right behind another
 
@@ -815,6 +832,7 @@ PARTS = (
     longer_and_shorter,
     struck_out,
     reloads,
+    reloads_early,
     takes_rosters,
     takes_both,
     asks_meanwhile,

@@ -36,6 +36,7 @@ LISTED = desk.asked(b"GET", b"/v1/messages")
 ACK = b"\r\n\r\nack\n"
 MOST = 5.0 * max(1.0, PATIENCE / 60)  # seconds after a fault's end
 LASTS = 1.5  # seconds of a fault
+ORDERED = 6  # another roster is taken in fewer calls on the store's files
 KILLS = 40  # of a desk, each a millisecond later after an order to take a roster
 ORDER = "has the desk take the roster "  # what desk-serve says as it orders
 
@@ -271,7 +272,7 @@ def ordered(count: Count, words: list[str], step: int) -> None:
         roster = desk.write(room, "roster.toml", shown)
         with serving(words, roster) as service:
             acked = [begin(count, service)]
-            for number, place in enumerate(range(1, 25, step)):
+            for number, place in enumerate(range(1, 25 if step == 1 else ORDERED)):
                 text = f"{shown}# {number}\n"
                 desk.write(room, "roster.toml", text)
                 order(count, service, text, place)

@@ -68,7 +68,7 @@ const SERVE_OPTIONS: [(&str, &str, &str); 3] = [
     (
         "QUESTIONS",
         "questions",
-        "An address for questions alone: no message is taken there",
+        "An address for questions alone, without messages",
     ),
 ];
 
