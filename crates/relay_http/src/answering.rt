@@ -9,7 +9,7 @@ ghost use Rattle.desk.specs.Refusals.{IsWant};
 ghost use Rattle.desk.specs.Serving.{KeepsSettings, OnlyAsks};
 ghost use Rattle.relay_http.specs.Request.{all_messages, action_of, count, deliver, grants};
 ghost use Rattle.relay_http.specs.Request.{host_at, host_file, host_file_after, named_request};
-ghost use Rattle.relay_http.specs.Request.{parked, report, requests, requests_after, open_requests};
+ghost use Rattle.relay_http.specs.Request.{parked, report, requests, requests_after, open_requests, site_history};
 ghost use Rattle.relay_http.specs.Exchange.{IsAnswered};
 ghost use Rattle.relay_http.specs.Lasting.{Lasts};
 ghost use Rattle.relay_http.specs.Prepared.{IsCountText, IsJoined, response_of, to_question};
@@ -17,7 +17,8 @@ ghost use Rattle.relay_http.specs.Responses.{ResponseTells, count_line};
 
 use crate::action::Action;
 use crate::bodies::{count_text, lines_text, live_text};
-use crate::prepared::{PreparedResponse, to_delivery, to_fault, to_question};
+use crate::fault::RequestFault;
+use crate::prepared::{PreparedResponse, to_delivery, to_fault, to_question, to_refusal};
 use desk::{Desk, Keeper, Refusal};
 use findings::Pick;
 use std::alloc::Global;
@@ -25,7 +26,7 @@ use sudo_words::{HostName, Moment, NoMemory, WordFault};
 
 /// The answer to a delivery. Once the message is acknowledged no memory is taken.
 fn delivered<K: Keeper>(desk: &mut Desk<K>, relay: &str, body: &[u8]) -> PreparedResponse
-    ensures answered { IsAnswered desk.old.roster desk.old.base
+    ensures answered { IsAnswered desk.old.roster desk.old.base desk.old.history
         (K.is_up desk.new.keeper) (K.holds desk.old.keeper) (K.holds desk.new.keeper)
         (K.is_same desk.old.keeper desk.new.keeper) (Serves K.Keeper desk.old.keeper
         desk.new.keeper) (deliver relay.now body.now) (response_of result) }
@@ -39,7 +40,7 @@ fn delivered<K: Keeper>(desk: &mut Desk<K>, relay: &str, body: &[u8]) -> Prepare
 
 /// The lines of all messages.
 fn all_messages<K: Keeper>(alloc: Global, desk: &mut Desk<K>) -> Result<String, Refusal>
-    ensures answered { IsAnswered desk.old.roster desk.old.base
+    ensures answered { IsAnswered desk.old.roster desk.old.base desk.old.history
         (K.is_up desk.new.keeper) (K.holds desk.old.keeper) (K.holds desk.new.keeper)
         (K.is_same desk.old.keeper desk.new.keeper)
         (Serves K.Keeper desk.old.keeper desk.new.keeper) all_messages (to_question result) }
@@ -85,7 +86,7 @@ fn counted<K: Keeper>(alloc: Global, desk: &mut Desk<K>) -> Result<String, Refus
 
 /// The line of the count.
 fn count<K: Keeper>(alloc: Global, desk: &mut Desk<K>) -> Result<String, Refusal>
-    ensures answered { IsAnswered desk.old.roster desk.old.base
+    ensures answered { IsAnswered desk.old.roster desk.old.base desk.old.history
         (K.is_up desk.new.keeper) (K.holds desk.old.keeper) (K.holds desk.new.keeper)
         (K.is_same desk.old.keeper desk.new.keeper)
         (Serves K.Keeper desk.old.keeper desk.new.keeper) count (to_question result) }
@@ -98,7 +99,7 @@ fn count<K: Keeper>(alloc: Global, desk: &mut Desk<K>) -> Result<String, Refusal
 
 /// What became of every request.
 fn requests<K: Keeper>(desk: &mut Desk<K>) -> Result<String, Refusal>
-    ensures answered { IsAnswered desk.old.roster desk.old.base
+    ensures answered { IsAnswered desk.old.roster desk.old.base desk.old.history
         (K.is_up desk.new.keeper) (K.holds desk.old.keeper) (K.holds desk.new.keeper)
         (K.is_same desk.old.keeper desk.new.keeper)
         (Serves K.Keeper desk.old.keeper desk.new.keeper) requests (to_question result) }
@@ -111,7 +112,7 @@ fn requests<K: Keeper>(desk: &mut Desk<K>) -> Result<String, Refusal>
 
 /// What became of the requests after the moment.
 fn requests_after<K: Keeper>(desk: &mut Desk<K>, at: Moment) -> Result<String, Refusal>
-    ensures answered { IsAnswered desk.old.roster desk.old.base
+    ensures answered { IsAnswered desk.old.roster desk.old.base desk.old.history
         (K.is_up desk.new.keeper) (K.holds desk.old.keeper) (K.holds desk.new.keeper)
         (K.is_same desk.old.keeper desk.new.keeper)
         (Serves K.Keeper desk.old.keeper desk.new.keeper) (requests_after at) (to_question result) }
@@ -124,7 +125,7 @@ fn requests_after<K: Keeper>(desk: &mut Desk<K>, at: Moment) -> Result<String, R
 
 /// What became of the request that the asker made under the number.
 fn named_request<K: Keeper>(desk: &mut Desk<K>, asker: &str, no: u32) -> Result<String, Refusal>
-    ensures answered { IsAnswered desk.old.roster desk.old.base
+    ensures answered { IsAnswered desk.old.roster desk.old.base desk.old.history
         (K.is_up desk.new.keeper) (K.holds desk.old.keeper) (K.holds desk.new.keeper)
         (K.is_same desk.old.keeper desk.new.keeper) (Serves K.Keeper desk.old.keeper
         desk.new.keeper) (named_request asker.now no) (to_question result) }
@@ -137,7 +138,7 @@ fn named_request<K: Keeper>(desk: &mut Desk<K>, asker: &str, no: u32) -> Result<
 
 /// The lines of the grants in force.
 fn live<K: Keeper>(alloc: Global, desk: &mut Desk<K>, at: Moment) -> Result<String, Refusal>
-    ensures answered { IsAnswered desk.old.roster desk.old.base
+    ensures answered { IsAnswered desk.old.roster desk.old.base desk.old.history
         (K.is_up desk.new.keeper) (K.holds desk.old.keeper) (K.holds desk.new.keeper)
         (K.is_same desk.old.keeper desk.new.keeper)
         (Serves K.Keeper desk.old.keeper desk.new.keeper) (grants at) (to_question result) }
@@ -156,7 +157,7 @@ fn live<K: Keeper>(alloc: Global, desk: &mut Desk<K>, at: Moment) -> Result<Stri
 
 /// The lines of the parked verdicts.
 fn parked<K: Keeper>(alloc: Global, desk: &mut Desk<K>) -> Result<String, Refusal>
-    ensures answered { IsAnswered desk.old.roster desk.old.base
+    ensures answered { IsAnswered desk.old.roster desk.old.base desk.old.history
         (K.is_up desk.new.keeper) (K.holds desk.old.keeper) (K.holds desk.new.keeper)
         (K.is_same desk.old.keeper desk.new.keeper)
         (Serves K.Keeper desk.old.keeper desk.new.keeper) parked (to_question result) }
@@ -173,9 +174,30 @@ fn parked<K: Keeper>(alloc: Global, desk: &mut Desk<K>) -> Result<String, Refusa
     }
 }
 
+/// The history of the site. Where none is known, the response is that of a path without a route.
+fn site_history<K: Keeper>(alloc: Global, desk: &mut Desk<K>) -> PreparedResponse
+    ensures answered { IsAnswered desk.old.roster desk.old.base desk.old.history
+        (K.is_up desk.new.keeper) (K.holds desk.old.keeper) (K.holds desk.new.keeper)
+        (K.is_same desk.old.keeper desk.new.keeper) (Serves K.Keeper
+        desk.old.keeper desk.new.keeper) site_history (response_of result) }
+    ensures lasts { Lasts K.Keeper desk.old.roster.says desk.old.roster.text
+        desk.old.keeper desk.new.keeper site_history (response_of result) }
+    ensures told { ResponseTells result.refusal (response_of result) }
+    ensures settings { KeepsSettings desk.old desk.new }
+{
+    let history = desk.history();
+    if history.is_empty() {
+        return to_fault(RequestFault::NoRoute);
+    }
+    match String::from_str(alloc, history) {
+        Ok(text) => to_question(Ok(text)),
+        Err(_) => to_refusal(Refusal::NoMemory),
+    }
+}
+
 /// The host's file. A text that is not a host's name counts as a host that the roster lacks.
 fn host_file<K: Keeper>(alloc: Global, desk: &mut Desk<K>, host: &str) -> Result<String, Refusal>
-    ensures answered { IsAnswered desk.old.roster desk.old.base
+    ensures answered { IsAnswered desk.old.roster desk.old.base desk.old.history
         (K.is_up desk.new.keeper) (K.holds desk.old.keeper) (K.holds desk.new.keeper)
         (K.is_same desk.old.keeper desk.new.keeper) (Serves K.Keeper
         desk.old.keeper desk.new.keeper) (host_file host.now) (to_question result) }
@@ -197,7 +219,7 @@ fn host_file_after<K: Keeper>(
     host: &str,
     at: Moment,
 ) -> Result<String, Refusal>
-    ensures answered { IsAnswered desk.old.roster desk.old.base
+    ensures answered { IsAnswered desk.old.roster desk.old.base desk.old.history
         (K.is_up desk.new.keeper) (K.holds desk.old.keeper) (K.holds desk.new.keeper)
         (K.is_same desk.old.keeper desk.new.keeper) (Serves K.Keeper desk.old.keeper
         desk.new.keeper) (host_file_after host.now at) (to_question result) }
@@ -240,7 +262,7 @@ fn host_at<K: Keeper>(
     host: &str,
     at: Moment,
 ) -> Result<String, Refusal>
-    ensures answered { IsAnswered desk.old.roster desk.old.base
+    ensures answered { IsAnswered desk.old.roster desk.old.base desk.old.history
         (K.is_up desk.new.keeper) (K.holds desk.old.keeper) (K.holds desk.new.keeper)
         (K.is_same desk.old.keeper desk.new.keeper) (Serves K.Keeper desk.old.keeper
         desk.new.keeper) (host_at host.now at) (to_question result) }
@@ -256,7 +278,7 @@ fn host_at<K: Keeper>(
 
 /// The report of what the desk holds.
 fn report<K: Keeper>(desk: &mut Desk<K>, at: Moment) -> Result<String, Refusal>
-    ensures answered { IsAnswered desk.old.roster desk.old.base
+    ensures answered { IsAnswered desk.old.roster desk.old.base desk.old.history
         (K.is_up desk.new.keeper) (K.holds desk.old.keeper) (K.holds desk.new.keeper)
         (K.is_same desk.old.keeper desk.new.keeper)
         (Serves K.Keeper desk.old.keeper desk.new.keeper) (report at) (to_question result) }
@@ -269,7 +291,7 @@ fn report<K: Keeper>(desk: &mut Desk<K>, at: Moment) -> Result<String, Refusal>
 
 /// What became of the requests that are open at the moment, and who may approve then.
 fn open_requests<K: Keeper>(desk: &mut Desk<K>, at: Moment) -> Result<String, Refusal>
-    ensures answered { IsAnswered desk.old.roster desk.old.base
+    ensures answered { IsAnswered desk.old.roster desk.old.base desk.old.history
         (K.is_up desk.new.keeper) (K.holds desk.old.keeper) (K.holds desk.new.keeper)
         (K.is_same desk.old.keeper desk.new.keeper)
         (Serves K.Keeper desk.old.keeper desk.new.keeper) (open_requests at) (to_question result) }
@@ -286,7 +308,7 @@ pub fn answered<K: Keeper>(
     desk: &mut Desk<K>,
     action: Action<'_>,
 ) -> PreparedResponse
-    ensures answered { IsAnswered desk.old.roster desk.old.base
+    ensures answered { IsAnswered desk.old.roster desk.old.base desk.old.history
         (K.is_up desk.new.keeper) (K.holds desk.old.keeper) (K.holds desk.new.keeper)
         (K.is_same desk.old.keeper desk.new.keeper)
         (Serves K.Keeper desk.old.keeper desk.new.keeper)
@@ -305,6 +327,7 @@ pub fn answered<K: Keeper>(
         Action::NamedRequest { asker, no } => to_question(named_request(desk, asker, no)),
         Action::Grants(at) => to_question(live(alloc, desk, at)),
         Action::Parked => to_question(parked(alloc, desk)),
+        Action::SiteHistory => site_history(alloc, desk),
         Action::HostFile(host) => to_question(host_file(alloc, desk, host)),
         Action::HostFileAfter(host, at) => to_question(host_file_after(alloc, desk, host, at)),
         Action::HostAt(host, at) => to_question(host_at(alloc, desk, host, at)),
