@@ -74,7 +74,7 @@ impl<K: Keeper> Model for Desk<K> {
         × IsKnown d.roster.says (K.is_up d.keeper) (K.holds d.keeper) d.known
         × IsKnownOfUp (K.is_clean d.keeper) (K.is_up d.keeper) d.known
         × IfSome d.digests (λ text. string_bytes text ≡ digests_text d.roster.text d.base)
-            × IsHistory d.roster.text d.base (string_bytes d.history) };
+        × IsHistory d.roster.text d.base (string_bytes d.history) };
 }
 
 impl<K: Keeper> Desk<K> {

@@ -1,6 +1,6 @@
 //! Opening a desk over the bytes of its files and what a keeper keeps.
 
-ghost use Rattle.std.specs.Prelude.{◌≡◌, ◌⊎◌, IfErr, IfOk, MatchResult, OnErr, OnOk};
+ghost use Rattle.std.specs.Prelude.{◌≡◌, ◌⊎◌, [], IfErr, IfOk, MatchResult, OnErr, OnOk};
 ghost use Rattle.sudo_policy.specs.Spelling.{Spells};
 ghost use Rattle.desk_store.specs.Left.{AddsOnly, IsCommitted, IsDeskOf, LeavesOnly};
 ghost use Rattle.desk_store.specs.Serves.{Serves};
@@ -122,6 +122,8 @@ pub fn take_file<K: Keeper>(
     ensures recorded { OnOk result (desk.new.roster.text ≡ file.now) }
     ensures kept { OnErr result (desk.new.roster ≡ desk.old.roster) }
     ensures base { desk.new.base ≡ desk.old.base }
+    ensures history { OnOk result (desk.new.history ≡ []) }
+    ensures history_kept { OnErr result (desk.new.history ≡ desk.old.history) }
     ensures held { K.is_up desk.new.keeper
         → OnOk result (SameSet (K.holds desk.old.keeper) (K.holds desk.new.keeper)) }
     ensures unchanged { K.is_up desk.new.keeper

@@ -129,11 +129,8 @@ fn parameter(route: Route) -> &'static str
     match route {
         Route::Messages => "relay",
         Route::Grants | Route::Report | Route::RequestsAfter | Route::OpenRequests => "at",
-        Route::AllMessages
-        | Route::Count
-        | Route::Requests
-        | Route::Parked
-        | Route::SiteHistory => "",
+        Route::AllMessages | Route::Count | Route::Requests | Route::Parked | Route::SiteHistory =>
+            "",
         Route::NamedRequest => "asker",
         Route::HostFile | Route::HostFileAfter | Route::HostAt => "host",
     }

@@ -169,7 +169,7 @@ add-requires-14 c =
     ∙ ap (with_route (codes "/v1/hosts/{host}/sudoers") HostFile) (c.in_ok-add-3.ensures
     ∙ ap (with_route (codes "/v1/parked") Parked) (c.in_ok-add-2.ensures
     ∙ ap (with_route (codes "/v1/grants/{at}") Grants) (c.in_ok-add.ensures
-    ∙ ap (with_route (codes "/v1/relays/{relay}/messages") Messages) c.new-router.ensures))))))))))))) free_site_history
+    ∙ ap (with_route (codes "/v1/relays/{relay}/messages") Messages) c.new-router.ensures)))))))))))))) free_site_history
 
 pub returns : goal.returns
 unfolding routes
