@@ -48,7 +48,8 @@ module _ (r : Reading) (base : List Entry) (history : List ℕ) (set : List Mess
   joined_right host at line (Ok file) (Ok text) is (inr failed) joins = not_failed (string_bytes file) _ failed
   joined_right host at line (Ok file) (Err e) is right joins = inr (server_failure e (inl joins))
   joined_right host at line (Err e) x is right joins =
-      subst (λ (y : Result (String Global) Refusal). IsResponse r base history set (host_at host at) (to_question y) ⊎ IsServerFailure (to_question y)) (sym joins)
+      subst (λ (y : Result (String Global) Refusal).
+      IsResponse r base history set (host_at host at) (to_question y) ⊎ IsServerFailure (to_question y)) (sym joins)
       (elim right as (λ _. IsResponse r base history set (host_at host at) (refusal e) ⊎ IsServerFailure (refusal e)) [
         | inl is_file ↦ inl (inr (e, is_file, refl))
         | inr failed ↦ inr failed

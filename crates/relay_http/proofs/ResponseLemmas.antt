@@ -19,7 +19,8 @@ use Rattle.findings.specs.Picks.{after, all}
 use Rattle.desk_audit.proofs.OneText.{one_audit_text, one_name_text, one_open_text}
 use Rattle.relay_http.specs.Request.{Action, deliver, all_messages, count, grants, parked, host_file, host_file_after, report, refused}
 use Rattle.relay_http.specs.Request.{requests, requests_after, named_request, host_at, open_requests, site_history}
-use Rattle.relay_http.specs.Responses.{IsCountedFileResponse, IsFileResponse, IsHistoryResponse, IsResponse, Response, count_line, delivery, done, is_known_host}
+use Rattle.relay_http.specs.Responses.{IsCountedFileResponse, IsFileResponse, IsHistoryResponse, IsResponse, Response, count_line, delivery, done}
+use Rattle.relay_http.specs.Responses.{is_known_host}
 use Rattle.relay_http.specs.Responses.{each_on_a_line, live_grant_line, refusal, to_delivery}
 use Rattle.relay_http.proofs.AnswerLemmas.{not_done}
 
@@ -86,6 +87,7 @@ one_response r base history set site_history a b x y = one_history r.text base h
 one_response r base history set (host_file host) a b x y = one_file_response (λ lines. lines) r.says base set host a b x y
 one_response r base history set (host_file_after host at) a b x y = one_file_response (lines_after at) r.says base set host a b x y
 one_response r base history set (host_at host at) a b x y = one_counted_file r base set host at a b x y
-one_response r base history set (report at) a b x y = x.2 ∙ ap done (one_report r.says base set set at x.0 y.0 (λ m. (λ held. held, λ held. held)) x.1 y.1) ∙ sym y.2
+one_response r base history set (report at) a b x y =
+    x.2 ∙ ap done (one_report r.says base set set at x.0 y.0 (λ m. (λ held. held, λ held. held)) x.1 y.1) ∙ sym y.2
 one_response r base history set (open_requests at) a b x y = x.2 ∙ ap done (one_open_text r.says set at x.0 y.0 x.1 y.1) ∙ sym y.2
 one_response r base history set (refused fault) a b x y = x ∙ sym y

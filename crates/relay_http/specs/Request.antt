@@ -6,7 +6,8 @@ use Rattle.relay_http.specs.declared.action.Action.TheVariants.{Deliver, AllMess
 use Rattle.relay_http.specs.declared.action.Action.TheVariants.{Count, Parked, HostFile}
 use Rattle.relay_http.specs.declared.action.Action.TheVariants.{HostFileAfter, Report, Refused}
 use Rattle.relay_http.specs.declared.action.Action.TheVariants.{Requests, RequestsAfter}
-use Rattle.relay_http.specs.declared.action.Action.TheVariants.{NamedRequest, HostAt, OpenRequests, SiteHistory}
+use Rattle.relay_http.specs.declared.action.Action.TheVariants.{NamedRequest, HostAt, OpenRequests}
+use Rattle.relay_http.specs.declared.action.Action.TheVariants.{SiteHistory}
 use Rattle.relay_http.specs.declared.action.HttpRequest.{HttpRequest}
 
 -- A delivery by a relay, a query, or the first fault that applies. `At` is the type of a moment and
