@@ -62,7 +62,8 @@ def parts_of(whole: bytes) -> tuple[str, str]:
 
 def text_of(row: Table, name: str, known: dict[str, str]) -> str:
     """A text of the row, as often as the row says."""
-    return str(row[name].format(**known) * row.get("times", 1))
+    times = dict(zip(("history", "out"), row.get("times", (1, 1)), strict=True))
+    return str(row[name].format(**known) * times[name])
 
 
 def is_right(row: Table, told: tuple[str, str], known: dict[str, str], table: Table) -> bool:

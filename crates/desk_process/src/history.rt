@@ -8,15 +8,18 @@ use std::{env, fmt, io, str};
 /// The variable of the environment that names the file of the history.
 const HISTORY_AT: &str = "DESK_HISTORY";
 
-/// The most bytes that are read of the file. One byte more shows that it is longer.
-const MOST_HISTORY: u64 = 1_048_576;
+/// The most bytes of a history that a desk tells. Of a longer one it tells the last lines.
+const MOST_TOLD: usize = 1_048_576;
+
+/// The most bytes that are read of the file.
+const MOST_READ: u64 = 16_777_216;
 
 /// Why a desk does not tell the history of a file.
 #[derive(Drop)]
 enum Why {
     /// The file cannot be read.
     Unread(io::Error),
-    /// The file's last line is not of what is served, or the file is too long.
+    /// The file's last line is not of what is served.
     Another,
     /// Memory ran out.
     NoMemory,
@@ -36,20 +39,32 @@ impl fmt::Display for Untold<'_> {
             Why::Unread(error) => write!(f, "no history is told: F1 FileFailed: {path}: {error}"),
             Why::Another => write!(
                 f,
-                "no history is told: F1 FileFailed: {path} is out of date or too long"
+                "no history is told: F1 FileFailed: {path} does not end with what is served"
             ),
             Why::NoMemory => f.write_str("no history is told: K5 NoMemory"),
         }
     }
 }
 
+/// The last lines that a desk tells of these.
+fn latest(lines: &[u8]) -> &[u8] {
+    if lines.len() <= MOST_TOLD {
+        return lines;
+    }
+    let fitting = &lines[lines.len() - MOST_TOLD..];
+    match fitting.iter().position(|byte| *byte == b'\n') {
+        Some(end) => &fitting[end + 1..],
+        None => &[],
+    }
+}
+
 /// Has the desk take the history of the file at this path.
 fn take<K: Keeper>(rt: &HostRuntime, desk: &mut Desk<K>, path: &str) -> Result<(), Why> {
-    let bytes = match read_file(rt, path, MOST_HISTORY) {
+    let bytes = match read_file(rt, path, MOST_READ) {
         Ok(bytes) => bytes,
         Err(error) => return Err(Why::Unread(error)),
     };
-    let Ok(text) = str::from_utf8(bytes.as_slice()) else {
+    let Ok(text) = str::from_utf8(latest(bytes.as_slice())) else {
         return Err(Why::Another);
     };
     let Ok(text) = String::from_str(rt.alloc(), text) else {
