@@ -30,7 +30,7 @@ invariant_of-result g c =
       known,
       known_of_up (K.is_clean new) (K.is_up new) c.known_at_first.result c.in-Ok.ensures.live,
       tt,
-      inl c.new-2.ensures,
+      inl c.new-in-Ok.ensures.bytes,
     )
 
 pub returns-in-Ok-clause-opens : goal.returns-in-Ok-clause-opens

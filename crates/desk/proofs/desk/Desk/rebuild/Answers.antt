@@ -22,7 +22,7 @@ invariant_of-result g c =
       tt,
       tt,
       tt,
-      inl c.new-2.ensures,
+      inl c.new-in-Ok.ensures.bytes,
     )
 
 pub returns-in-Ok-clause-lasting : goal.returns-in-Ok-clause-lasting

@@ -32,7 +32,7 @@ invariant_of-self g c =
           c.under_another.ensures.nothing,
       known_of_up (K.is_clean new) (K.is_up new) c.under_another.result (λ clean. c.in-Ok.ensures.live clean),
       tt,
-      inl c.new.ensures,
+      inl c.new.ensures.bytes,
     )
 
 pub returns-in-Ok-clause-served : goal.returns-in-Ok-clause-served
