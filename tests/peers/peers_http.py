@@ -410,21 +410,42 @@ def by_bytes(address: str, given: bytes, one_at_a_time: bool = False) -> bytes:
         return whole
 
 
+def sum_of(path: str) -> str:
+    with open(path, "rb") as file:
+        return hashlib.sha256(file.read()).hexdigest()
+
+
+def history(rosters: Sequence[str], base: str) -> str:
+    """The text of a history in which these rosters were served one after the other."""
+    given = [*desk.named(), "check", base]
+    canonical = subprocess.run(given, capture_output=True, check=True).stdout
+    last = hashlib.sha256(canonical).hexdigest()
+    lines = (f"2026010{at}000000Z {sum_of(it)} {last}\n" for at, it in enumerate(rosters, 1))
+    return "".join(lines)
+
+
 @contextlib.contextmanager
-def serving(roster: str, base: str, requests: int | None = None) -> Iterator[str]:
-    """A server's address; behind it, the server has ended: by itself after so many connections, or
-    by SIGTERM."""
+def serving(
+    roster: str, base: str, requests: int | None = None, past: Sequence[str] = ()
+) -> Iterator[str]:
+    """The address of a server, whose site had those rosters before; behind it, the server has
+    ended: by itself after so many connections, or by SIGTERM."""
     more = [] if requests is None else ["--requests", str(requests)]
-    with tempfile.TemporaryFile("w+") as said:
+    with tempfile.TemporaryFile("w+") as said, tempfile.TemporaryDirectory() as folder:
+        told = desk.write(folder, "moments", history([*past, roster], base))
         with desk.Server(
-            "-", *more, program=desk.named(), roster=roster, base=base, stderr=said
+            *("-", *more),
+            program=desk.named(),
+            roster=roster,
+            base=base,
+            stderr=said,
+            environment=os.environ | ({"DESK_HISTORY": told} if past else {}),
         ) as server:
             yield server.address
             status = server.end() if requests is None else server.wait()
         said.seek(0)
         warned, begun, *lines = said.read().splitlines()
-        with open(roster, "rb") as file:
-            digest = hashlib.sha256(file.read()).hexdigest()
+        digest = sum_of(roster)
         last = lines[-1:] if requests else ["ended: all connections that were asked for are served"]
         is_right = (
             re.fullmatch(desk.EVERY_ACCOUNT, warned) is not None
@@ -945,33 +966,40 @@ def long_history() -> Counts:
 
 
 def between_desks() -> Counts:
-    """A host that is told of two desks, of which one lacks a revocation, and then of one with
-    another roster: it never goes back, and says how that roster is accepted."""
+    """A host that is told of two desks, of which one lacks a revocation, and then of two with
+    another roster: it never goes back, and says how the one is accepted of which it cannot know
+    that it is newer."""
     with contextlib.ExitStack() as stack:
         folder = stack.enter_context(tempfile.TemporaryDirectory())
         other = desk.write(folder, "other.toml", desk.read(desk.ROSTER) + "# another\n")
-        rosters = (desk.ROSTER, desk.ROSTER, other)
-        desks = [stack.enter_context(serving(it, desk.BASE)) for it in rosters]
+        newer = desk.write(folder, "newer.toml", desk.read(desk.ROSTER) + "# a newer one\n")
+        sites = ((desk.ROSTER, []), (desk.ROSTER, []), (other, []), (newer, [desk.ROSTER]))
+        desks = [stack.enter_context(serving(it, desk.BASE, past=past)) for it, past in sites]
         asked = desk.request(OLD, **window_until(desk.stamp(time.time() + HOUR)))
         approved = desk.approval(OLD, at=stamp(-2).decode())
         revoked = desk.approval(OLD, kind="revoke", at=desk.stamp(time.time() - HOUR * 2))
         for address in desks:
-            for body in (asked, approved) + ((revoked,) if address == desks[0] else ()):
+            knows = (revoked,) if address in (desks[0], desks[3]) else ()
+            for body in (asked, approved, *knows):
                 by_bytes(address, desk.posted(b"chat", body.encode()))
         wrong = sum(not it for it in steps_between(folder, [f"http://{it}" for it in desks]))
-    return 5, wrong
+    return 9, wrong
 
 
 def steps_between(folder: str, desks: Sequence[str]) -> Iterator[bool]:
     """Whether each fetch between these desks ends as it should."""
     file, state = (os.path.join(folder, it) for it in ("desk", "state"))
-    right, lags, other = desks
+    right, lags, other, newer = desks
     said = ""
     for what, asked, status, has_line, says in (
         ("the one that lags", [lags], 0, True, ""),
         ("both", [lags, right], 0, False, ""),
         ("then the one that lags", [lags], 1, False, "and this host's file is made of 3"),
         ("another roster", [other], 1, False, "desk-host accept db1 "),
+        ("a roster that has left this one", [newer, other], 4, False, "desk-host accept db1 "),
+        ("the roster that was left", [right], 1, False, "a roster that this host has left"),
+        ("the newer one again", [newer], 0, False, ""),
+        ("that other one again", [other], 1, False, "desk-host accept db1 "),
         ("that roster, accepted", [other], 0, True, ""),
     ):
         if what == "that roster, accepted":
