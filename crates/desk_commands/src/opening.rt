@@ -1,6 +1,6 @@
 //! Opening a desk over the bytes of its files and what a keeper keeps.
 
-ghost use Rattle.std.specs.Prelude.{◌≡◌, ◌⊎◌, [], IfErr, IfOk, MatchResult, OnErr, OnOk};
+ghost use Rattle.std.specs.Prelude.{◌≡◌, ◌⊎◌, [], IfErr, IfOk, IsErrAnd, MatchResult, OnErr, OnOk};
 ghost use Rattle.sudo_policy.specs.Spelling.{Spells};
 ghost use Rattle.desk_store.specs.Left.{AddsOnly, IsCommitted, IsDeskOf, LeavesOnly};
 ghost use Rattle.desk_store.specs.Serves.{Serves};
@@ -129,6 +129,8 @@ pub fn take_file<K: Keeper>(
     ensures unchanged { K.is_up desk.new.keeper
         → OnErr result (K.is_same desk.old.keeper desk.new.keeper) }
     ensures err { IfErr result (EndsTakingFile file.now) }
+    ensures served { Serves K.Keeper desk.old.keeper desk.new.keeper
+        ⊥ (IsErrAnd result IsWanting) }
     ensures live { K.is_clean desk.new.keeper → OnOk result (K.is_up desk.new.keeper) }
     // Where the file holds no roster, nothing was done.
     ensures crash { K.is_up desk.old.keeper → K.is_clean desk.new.keeper
