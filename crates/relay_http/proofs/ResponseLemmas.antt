@@ -64,8 +64,7 @@ one_counted_file r base set host at a b (inr x) (inr y) =
 
 one_history : (roster : List ℕ) (base : List Entry) (history : List ℕ) (a b : Response)
     → IsHistoryResponse roster base history a → IsHistoryResponse roster base history b → a ≡ b
-one_history roster base [] a b x y = x ∙ sym y
-one_history roster base (code ∷ more) a b x y = x.1 ∙ sym y.1
+one_history roster base history a b x y = x.1 ∙ sym y.1
 
 pub one_response : (r : Reading) (base : List Entry) (history : List ℕ) (set : List Message) (action : Action ℕ) (a b : Response)
     → IsResponse r base history set action a → IsResponse r base history set action b → a ≡ b

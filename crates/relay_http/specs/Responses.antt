@@ -21,7 +21,7 @@ use Rattle.outcomes.specs.HostFile.{Line, AreLines, lines_after, with_lines}
 use Rattle.outcomes.specs.Outcomes.{AreLive, LiveGrant}
 use Rattle.outcomes.specs.Parked.{AreParked}
 use Rattle.desk.specs.Count.{IsCount}
-use Rattle.desk.specs.History.{EndsWithDigests}
+use Rattle.desk.specs.History.{IsHistory}
 use Rattle.desk.specs.Refusals.{refusal_text}
 use Rattle.desk.specs.Texts.{AreTexts}
 use Rattle.desk.specs.declared.ack.Ack.{Ack}
@@ -138,13 +138,17 @@ IsCountedFileResponse r base set host at response =
     ⊎ ((e : Refusal) × IsFileResponse (lines_after at) r.says base set host (refusal e)
     × (response ≡ refusal e))
 
--- The response to a question for the history of the site: the text, whose last line ends with the
--- digests of this roster and this base. Where none is known, it is that of a path without a route.
+-- the response to a question for the history: where none is known, that of a path without a route
+abbrev pub to_history : (history : List ℕ) → Response
+to_history [] = to_fault NoRoute
+to_history (code ∷ more) = done (code ∷ more)
+
+-- The same, of a history whose last line, if there is one, ends with the digests of this roster and
+-- this base.
 abbrev pub IsHistoryResponse : (roster : List ℕ) → (base : List Entry) → (history : List ℕ)
     → Response → Type 0
-IsHistoryResponse roster base [] response = response ≡ to_fault NoRoute
-IsHistoryResponse roster base (code ∷ more) response =
-    EndsWithDigests roster base (code ∷ more) × (response ≡ done (code ∷ more))
+IsHistoryResponse roster base history response =
+    IsHistory roster base history × (response ≡ to_history history)
 
 -- The response to an action, by a roster, a base, a history and the messages of a set, where memory
 -- lasts and the storage holds: at most one, by a law.

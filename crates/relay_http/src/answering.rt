@@ -1,10 +1,11 @@
 //! The desk's answers to the actions of requests.
 
-ghost use Rattle.std.specs.Prelude.{◌≡◌, ◌++◌, ◌∷◌, List, [], IfErr, IfOk, string_bytes};
+ghost use Rattle.std.specs.Prelude.{◌≡◌, ◌++◌, ◌∷◌, List, [], IfErr, IfOk, OnOk, string_bytes};
 ghost use Rattle.sudo_words.specs.Bytes.{newline};
 ghost use Rattle.messages.specs.declared.message.Message.{Message as AnyMessage};
 ghost use Rattle.desk_store.specs.Serves.{Serves};
 ghost use Rattle.desk_store.specs.Sets.{Lists};
+ghost use Rattle.desk.specs.History.{IsHistory};
 ghost use Rattle.desk.specs.Refusals.{IsWant};
 ghost use Rattle.desk.specs.Serving.{KeepsSettings, OnlyAsks};
 ghost use Rattle.relay_http.specs.Request.{all_messages, action_of, count, deliver, grants};
@@ -14,12 +15,12 @@ ghost use Rattle.relay_http.specs.Request.{open_requests, site_history};
 ghost use Rattle.relay_http.specs.Exchange.{IsAnswered};
 ghost use Rattle.relay_http.specs.Lasting.{Lasts};
 ghost use Rattle.relay_http.specs.Prepared.{IsCountText, IsJoined, response_of, to_question};
+ghost use Rattle.relay_http.specs.Prepared.{to_told};
 ghost use Rattle.relay_http.specs.Responses.{ResponseTells, count_line};
 
 use crate::action::Action;
 use crate::bodies::{count_text, lines_text, live_text};
-use crate::fault::RequestFault;
-use crate::prepared::{PreparedResponse, to_delivery, to_fault, to_question, to_refusal};
+use crate::prepared::{PreparedResponse, to_delivery, to_fault, to_question, to_told};
 use desk::{Desk, Keeper, Refusal};
 use findings::Pick;
 use std::alloc::Global;
@@ -175,25 +176,28 @@ fn parked<K: Keeper>(alloc: Global, desk: &mut Desk<K>) -> Result<String, Refusa
     }
 }
 
-/// The history of the site. Where none is known, the response is that of a path without a route.
-fn site_history<K: Keeper>(alloc: Global, desk: &mut Desk<K>) -> PreparedResponse
+/// The history of the site, from a desk that still answers.
+fn known_history<K: Keeper>(alloc: Global, desk: &mut Desk<K>) -> Result<String, Refusal>
+    ensures told { IfOk result (λ s. string_bytes s ≡ desk.old.history) }
+    ensures ends { OnOk result (IsHistory desk.old.roster.text desk.old.base desk.old.history) }
+    ensures err { IfErr result IsWant }
+    ensures asks { OnlyAsks K.Keeper desk.old desk.new result }
+{
+    desk.count()?;
+    Ok(String::from_str(alloc, desk.history())?)
+}
+
+/// The history of the site; empty where none is known.
+fn site_history<K: Keeper>(alloc: Global, desk: &mut Desk<K>) -> Result<String, Refusal>
     ensures answered { IsAnswered desk.old.roster desk.old.base desk.old.history
         (K.is_up desk.new.keeper) (K.holds desk.old.keeper) (K.holds desk.new.keeper)
-        (K.is_same desk.old.keeper desk.new.keeper) (Serves K.Keeper
-        desk.old.keeper desk.new.keeper) site_history (response_of result) }
+        (K.is_same desk.old.keeper desk.new.keeper)
+        (Serves K.Keeper desk.old.keeper desk.new.keeper) site_history (to_told result) }
     ensures lasts { Lasts K.Keeper desk.old.roster.says desk.old.roster.text
-        desk.old.keeper desk.new.keeper site_history (response_of result) }
-    ensures told { ResponseTells result.refusal (response_of result) }
+        desk.old.keeper desk.new.keeper site_history (to_told result) }
     ensures settings { KeepsSettings desk.old desk.new }
 {
-    let history = desk.history();
-    if history.is_empty() {
-        return to_fault(RequestFault::NoRoute);
-    }
-    match String::from_str(alloc, history) {
-        Ok(text) => to_question(Ok(text)),
-        Err(_) => to_refusal(Refusal::NoMemory),
-    }
+    known_history(alloc, desk)
 }
 
 /// The host's file. A text that is not a host's name counts as a host that the roster lacks.
@@ -328,7 +332,7 @@ pub fn answered<K: Keeper>(
         Action::NamedRequest { asker, no } => to_question(named_request(desk, asker, no)),
         Action::Grants(at) => to_question(live(alloc, desk, at)),
         Action::Parked => to_question(parked(alloc, desk)),
-        Action::SiteHistory => site_history(alloc, desk),
+        Action::SiteHistory => to_told(site_history(alloc, desk)),
         Action::HostFile(host) => to_question(host_file(alloc, desk, host)),
         Action::HostFileAfter(host, at) => to_question(host_file_after(alloc, desk, host, at)),
         Action::HostAt(host, at) => to_question(host_at(alloc, desk, host, at)),
