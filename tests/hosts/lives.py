@@ -99,7 +99,7 @@ class Life:
     """One site's life."""
 
     def __init__(self, rng: random.Random, folder: str) -> None:
-        self.rng, self.said = rng, ""
+        self.rng, self.said, self.is_taken = rng, "", False
         self.site = Site([("a", 0)])
         self.desks = [Desk(self.site, has_history=rng.random() < 0.5) for _ in range(3)]
         self.hosts = [Host(os.path.join(folder, f"host{at}")) for at in range(5)]
@@ -146,6 +146,7 @@ class Life:
     def fetch(self, host: Host, is_killed: bool) -> None:
         """A fetch, and what has to hold after it."""
         before = host.held()
+        self.is_taken = False
         if is_killed:
             self.kills += killed_at(self.rng.randint(1, 40), lambda: self.run(host))
         else:
@@ -157,7 +158,7 @@ class Life:
         for line in host.ended:
             if line in (held or b"").splitlines():
                 self.wrong.append(f"{line!r} is back")
-        if held != before or not is_killed:
+        if held != before or self.is_taken:
             self.note(host, told, held != before)
 
     def note(self, host: Host, told: list[Desk], is_another: bool) -> None:
@@ -179,9 +180,12 @@ class Life:
         return last if is_same else desk.state, desk.seen
 
     def run(self, host: Host) -> None:
-        said = io.StringIO()
+        """A fetch of a host. (Where it is refused by all, a desk whose file is that of the host by
+        chance has told it nothing.)"""
+        said, self.is_taken = io.StringIO(), False
         with contextlib.redirect_stderr(said), contextlib.suppress(Fault):
             fetching.fetch(host.settings, "db1")
+            self.is_taken = True
         self.said = said.getvalue()
 
     def end(self) -> None:
