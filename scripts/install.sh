@@ -40,6 +40,7 @@ put 0755 packaging/mydesk "$PREFIX/bin/mydesk"
 put 0755 packaging/desk-memory "$libexec/desk-memory"
 put 0755 packaging/desk-reserve "$libexec/desk-reserve"
 put 0755 packaging/desk-history "$libexec/desk-history"
+put 0755 packaging/desk-signals "$libexec/desk-signals"
 python3 scripts/host_program.py "$room/desk-host"
 put 0755 "$room/desk-host" "$PREFIX/sbin/desk-host"
 # (it is of this machine's kind, and needs a C compiler and the header of Debian's package sudo)

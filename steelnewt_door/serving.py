@@ -10,13 +10,15 @@ import os
 import re
 import socket
 import struct
-from collections.abc import Awaitable, Callable
+import threading
+from collections.abc import Callable
 from concurrent.futures import ThreadPoolExecutor
-from contextlib import suppress
+from contextlib import ExitStack, suppress
+from dataclasses import replace
 
 from steelnewt_client.desk import answer_in, route
 from steelnewt_client.names import LABEL
-from steelnewt_door.heads import Bad, Head, read_body, read_head, reply
+from steelnewt_door.heads import MOST_HEAD, Bad, Head, head_in, read_body, read_head, reply
 from steelnewt_door.refusals import STATUSES, Refused
 from steelnewt_door.taking import Door, Reply, Way
 
@@ -24,19 +26,23 @@ log = logging.getLogger("desk-door")
 MOST_REPLY = 65_536
 COMES_IN, ANSWERS_IN, GOES_IN = 10.0, 60.0, 30.0  # seconds
 MOST_OPEN = 1_024  # connections
+BACKLOG = 512  # that wait to be taken
 WORKERS = 16
 POSTS = re.compile(rf"/v1/relays/({LABEL})/messages")
 
 
 def post_to(path: str, patience: float = ANSWERS_IN) -> Callable[[str, str], Reply]:
     """What posts a message to the desk at a socket, and gives back its bytes."""
+    until = struct.pack("@ll", int(patience), int(patience % 1 * 1e6))
 
     def post(relay: str, message: str) -> Reply:
         body = message.encode("utf-8")
         head = f"POST {route(relay)} HTTP/1.1\r\nHost: desk\r\nContent-Length: {len(body)}\r\n\r\n"
         try:
             with socket.socket(socket.AF_UNIX) as peer:
-                peer.settimeout(patience)
+                # (the kernel keeps the time: Python's own timeout is two calls for each)
+                for option in (socket.SO_RCVTIMEO, socket.SO_SNDTIMEO):
+                    peer.setsockopt(socket.SOL_SOCKET, option, until)
                 peer.connect(path)
                 peer.sendall(head.encode("ascii") + body)
                 raw = b""
@@ -51,6 +57,65 @@ def post_to(path: str, patience: float = ANSWERS_IN) -> Callable[[str, str], Rep
     return post
 
 
+def post_in(given: bytes) -> tuple[str, bytes] | None:
+    """The relay and the line of a post that is there to its last byte, with nothing behind it; None
+    where more of it may come. Raises where it is something else."""
+    if (found := head_in(given)) is None:
+        if len(given) > MOST_HEAD:
+            raise Bad(400, "T1 BadHead")
+        return None
+    head, line = found
+    posts = POSTS.fullmatch(head.target)
+    if not posts or head.method != "POST" or len(line) > head.length:
+        raise Other
+    return (posts[1], line) if len(line) == head.length else None
+
+
+class Other(Exception):
+    """It is no post alone."""
+
+
+class Coming:
+    """A connection whose request may be a post. One that is, is answered by a worker as soon as it
+    is whole, and the loop has no more to do with it: of all that comes it is what many wait for.
+    Whatever else it is, or becomes, goes to `Serving.hear`, with what was read."""
+
+    def __init__(self, serving: "Serving", peer: socket.socket, way: Way) -> None:
+        self.serving, self.peer, self.way, self.given = serving, peer, way, b""
+        self.timer: asyncio.TimerHandle | None = None
+
+    def read(self) -> None:
+        post = None
+        try:
+            piece = self.peer.recv(MOST_REPLY)
+            self.given += piece
+            post = post_in(self.given)
+            is_other = not piece
+        except BlockingIOError:
+            is_other = False
+        except (OSError, Bad, Other):
+            is_other = True
+        if post:
+            self.leave_loop()
+            self.serving.give(self.peer, replace(self.way, relay=post[0]), post[1])
+        elif is_other:
+            self.leave_loop()
+            self.serving.hear_on(self.peer, self.way, self.given)
+        elif not self.timer:
+            loop = asyncio.get_running_loop()
+            loop.add_reader(self.peer, self.read)
+            self.timer = loop.call_later(COMES_IN, self.end)
+
+    def leave_loop(self) -> None:
+        if self.timer:
+            self.timer.cancel()
+            asyncio.get_running_loop().remove_reader(self.peer)
+
+    def end(self) -> None:
+        self.leave_loop()
+        self.serving.let_go(self.peer)
+
+
 class Serving:
     """One door at its sockets. What comes at root's is root's word; `questions` is where the desk
     answers them."""
@@ -58,43 +123,89 @@ class Serving:
     def __init__(self, door: Door, questions: str) -> None:
         self.door, self.questions = door, questions
         self.workers = ThreadPoolExecutor(WORKERS, "take")
-        self.open = 0
+        self.open, self.counting = 0, threading.Lock()
+        self.tasks = set[asyncio.Task[None]]()
 
     async def serve(self, paths: tuple[str, str], ready: Callable[[], None]) -> None:
         """Serves at the socket for all, and at root's, until it is cancelled."""
-        servers = []
-        for path, mode, is_root in ((paths[0], 0o660, False), (paths[1], 0o600, True)):
-            with suppress(FileNotFoundError):
-                os.unlink(path)
-            before = os.umask(0o777 - mode)
-            servers.append(await asyncio.start_unix_server(self.heard(is_root), path, backlog=512))
-            os.umask(before)
-        ready()
-        try:
-            await asyncio.gather(*(it.serve_forever() for it in servers))
-        finally:
-            for it in servers:
-                it.close()
-            self.workers.shutdown()
-
-    def heard(
-        self, is_root: bool
-    ) -> Callable[[asyncio.StreamReader, asyncio.StreamWriter], Awaitable[None]]:
-        async def hear(reader: asyncio.StreamReader, writer: asyncio.StreamWriter) -> None:
-            self.open += 1
-            account = account_of(writer)
-            is_roots = account in (0, os.geteuid())
+        with ExitStack() as held:
+            for path, mode, is_root in ((paths[0], 0o660, False), (paths[1], 0o600, True)):
+                self.accept(held.enter_context(listening(path, mode)), is_root)
+            ready()
             try:
-                if self.open <= MOST_OPEN and (is_roots or not is_root):
-                    await self.answer(reader, writer, Way("", f"uid {account}", is_root))
-            except (OSError, asyncio.TimeoutError, EOFError):
+                await asyncio.get_running_loop().create_future()
+            finally:
+                self.workers.shutdown()
+
+    def accept(self, place: socket.socket, is_root: bool) -> None:
+        """Takes the connections that wait at a socket, now and as they come."""
+        loop = asyncio.get_running_loop()
+        try:
+            for _ in range(BACKLOG):
+                self.begin(place.accept()[0], is_root)
+        except BlockingIOError:
+            pass
+        except OSError as fault:  # (no descriptor is left: those that wait are taken a bit later)
+            log.warning("no connection is taken for a moment: %s", fault)
+            loop.remove_reader(place)
+            loop.call_later(1.0, self.accept, place, is_root)
+            return
+        loop.add_reader(place, self.accept, place, is_root)
+
+    def begin(self, peer: socket.socket, is_root: bool) -> None:
+        with self.counting:
+            self.open += 1
+        peer.setblocking(False)
+        account = account_of(peer)
+        if self.open <= MOST_OPEN and (account in (0, os.geteuid()) or not is_root):
+            Coming(self, peer, Way("", f"uid {account}", is_root)).read()
+        else:
+            self.let_go(peer)
+
+    def let_go(self, peer: socket.socket) -> None:
+        with self.counting:
+            self.open -= 1
+        peer.close()
+
+    def give(self, peer: socket.socket, way: Way, line: bytes) -> None:
+        """Has a worker take a message and answer it."""
+
+        def work() -> None:
+            try:
+                said = self.take(way, line)
+                if (sent := peer.send(said)) < len(said):
+                    peer.settimeout(GOES_IN)
+                    peer.sendall(said[sent:])
+            except OSError:
                 pass  # (nobody is there to be answered)
             finally:
-                self.open -= 1
-                with suppress(OSError):
-                    writer.close()
+                self.let_go(peer)
 
-        return hear
+        self.workers.submit(work)
+
+    def hear_on(self, peer: socket.socket, way: Way, given: bytes) -> None:
+        """Answers whatever else a connection is, of which so much was read."""
+        task = asyncio.get_running_loop().create_task(self.hear(peer, way, given))
+        self.tasks.add(task)
+        task.add_done_callback(self.tasks.discard)
+
+    async def hear(self, peer: socket.socket, way: Way, given: bytes) -> None:
+        loop = asyncio.get_running_loop()
+        reader = asyncio.StreamReader()
+        reader.feed_data(given)
+        try:
+            protocol = asyncio.StreamReaderProtocol(reader)
+            transport, _ = await loop.connect_accepted_socket(lambda: protocol, peer)
+            writer = asyncio.StreamWriter(transport, protocol, reader, loop)
+            try:
+                await self.answer(reader, writer, way)
+            finally:
+                writer.close()
+        except (OSError, asyncio.TimeoutError, EOFError):
+            pass  # (nobody is there to be answered)
+        finally:
+            with self.counting:
+                self.open -= 1
 
     async def answer(
         self, reader: asyncio.StreamReader, writer: asyncio.StreamWriter, way: Way
@@ -106,7 +217,8 @@ class Serving:
             if (posts := POSTS.fullmatch(head.target)) and head.method == "POST":
                 body = read_body(reader, begun, head.length)
                 line = await asyncio.wait_for(body, COMES_IN)
-                said = await self.take(Way(posts[1], way.peer, way.is_root), line)
+                loop, taken = asyncio.get_running_loop(), replace(way, relay=posts[1])
+                said = await loop.run_in_executor(self.workers, self.take, taken, line)
             else:
                 await self.pass_on(head, writer)
                 return
@@ -115,10 +227,10 @@ class Serving:
         writer.write(said)
         await asyncio.wait_for(writer.drain(), GOES_IN)
 
-    async def take(self, way: Way, line: bytes) -> bytes:
-        loop = asyncio.get_running_loop()
+    def take(self, way: Way, line: bytes) -> bytes:
+        """The response to a message, whatever becomes of it."""
         try:
-            return await loop.run_in_executor(self.workers, self.door.take, way, line)
+            return self.door.take(way, line)
         except Refused as fault:
             log.warning("refused: %s, relay %s%s", fault.code, way.relay, said_why(fault))
             return reply(STATUSES[fault.code], f"{fault.code}\n".encode())
@@ -153,9 +265,25 @@ def said_why(fault: Refused) -> str:
     return f": {plain[:300]}" if plain else ""
 
 
-def account_of(writer: asyncio.StreamWriter) -> int:
+def listening(path: str, mode: int) -> socket.socket:
+    """A socket at this path, with this mode from its first moment on."""
+    with suppress(FileNotFoundError):
+        os.unlink(path)
+    found, before = socket.socket(socket.AF_UNIX), os.umask(0o777 - mode)
+    try:
+        found.bind(path)
+        found.setblocking(False)
+        found.listen(BACKLOG)
+    except BaseException:
+        found.close()
+        raise
+    finally:
+        os.umask(before)
+    return found
+
+
+def account_of(peer: socket.socket) -> int:
     """Which account is at the other end of a socket."""
-    peer = writer.get_extra_info("socket")
     size = struct.calcsize("3i")
     _, uid, _ = struct.unpack("3i", peer.getsockopt(socket.SOL_SOCKET, socket.SO_PEERCRED, size))
     return int(uid)

@@ -496,8 +496,8 @@ def restore(room: Room) -> None:
     room.post(desk.approval(50))
     # a page of the store is damaged, and its log is there
     room.run(
-        "p=$(cat /run/desk.pid); all=\"$(cat /proc/$p/task/$p/children) $p\"; kill -KILL $all;"
-        " rm /run/desk.pid; while ps -o stat= -p \"$all\" | grep -qv Z; do sleep 0.05; done"
+        "p=$(cat /run/desk.pid); kill -s KILL -- -$p; rm /run/desk.pid;"
+        " while ps -o stat= -s $p | grep -qv Z; do sleep 0.05; done"
     )
     room.write(f"{HERE}/desk.db", "no database at all" * 300)
     done = room.follow(heading, 0)
@@ -805,6 +805,7 @@ def prepare(room: Room) -> None:
     for source, name in (
         (PROGRAM, "desk"),
         (os.path.join(desk.ROOT, "packaging", "desk-serve"), "desk-serve"),
+        (os.path.join(desk.ROOT, "packaging", "desk-signals"), "desk-signals"),
         (os.path.join(desk.ROOT, "packaging", "desk-history"), "desk-history"),
         (os.path.join(desk.EXAMPLES, "front-ca.sh"), "front-ca.sh"),
     ):
