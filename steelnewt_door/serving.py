@@ -8,16 +8,19 @@ import asyncio
 import logging
 import os
 import re
+import select
 import socket
 import struct
 import threading
+import time
 from collections.abc import Callable
 from concurrent.futures import ThreadPoolExecutor
-from contextlib import ExitStack, suppress
+from contextlib import suppress
 from dataclasses import replace
 
 from steelnewt_client.desk import answer_in, route
 from steelnewt_client.names import LABEL
+from steelnewt_door.crew import PROCESSES, WORKERS
 from steelnewt_door.heads import MOST_HEAD, Bad, Head, head_in, read_body, read_head, reply
 from steelnewt_door.refusals import STATUSES, Refused
 from steelnewt_door.taking import Door, Reply, Way
@@ -25,9 +28,8 @@ from steelnewt_door.taking import Door, Reply, Way
 log = logging.getLogger("desk-door")
 MOST_REPLY = 65_536
 COMES_IN, ANSWERS_IN, GOES_IN = 10.0, 60.0, 30.0  # seconds
-MOST_OPEN = 1_024  # connections
+MOST_OPEN = 1_024 // PROCESSES  # connections of each process
 BACKLOG = 512  # that wait to be taken
-WORKERS = 16
 POSTS = re.compile(rf"/v1/relays/({LABEL})/messages")
 
 
@@ -72,7 +74,7 @@ def post_in(given: bytes) -> tuple[str, bytes] | None:
 
 
 class Other(Exception):
-    """It is no post alone."""
+    """A request that is no post, or has something behind it."""
 
 
 class Coming:
@@ -126,31 +128,28 @@ class Serving:
         self.open, self.counting = 0, threading.Lock()
         self.tasks = set[asyncio.Task[None]]()
 
-    async def serve(self, paths: tuple[str, str], ready: Callable[[], None]) -> None:
-        """Serves at the socket for all, and at root's, until it is cancelled."""
-        with ExitStack() as held:
-            for path, mode, is_root in ((paths[0], 0o660, False), (paths[1], 0o600, True)):
-                self.accept(held.enter_context(listening(path, mode)), is_root)
-            ready()
-            try:
-                await asyncio.get_running_loop().create_future()
-            finally:
-                self.workers.shutdown()
+    async def serve(self, places: list[tuple[socket.socket, bool]]) -> None:
+        """Serves at these sockets, of which some are root's, until it is cancelled."""
+        loop = asyncio.get_running_loop()
+        for place, is_root in places:
+            # (each connection wakes one of the processes that wait)
+            waits = select.epoll()
+            waits.register(place, select.EPOLLIN | select.EPOLLEXCLUSIVE)
+            loop.add_reader(waits, self.accept, place, is_root)
+        try:
+            await loop.create_future()
+        finally:
+            self.workers.shutdown()
 
     def accept(self, place: socket.socket, is_root: bool) -> None:
-        """Takes the connections that wait at a socket, now and as they come."""
-        loop = asyncio.get_running_loop()
+        """Takes a connection that waits at a socket. (Others may be taken by other processes.)"""
         try:
-            for _ in range(BACKLOG):
-                self.begin(place.accept()[0], is_root)
+            self.begin(place.accept()[0], is_root)
         except BlockingIOError:
             pass
-        except OSError as fault:  # (no descriptor is left: those that wait are taken a bit later)
+        except OSError as fault:  # (no descriptor is left)
             log.warning("no connection is taken for a moment: %s", fault)
-            loop.remove_reader(place)
-            loop.call_later(1.0, self.accept, place, is_root)
-            return
-        loop.add_reader(place, self.accept, place, is_root)
+            time.sleep(0.1)
 
     def begin(self, peer: socket.socket, is_root: bool) -> None:
         with self.counting:
@@ -265,15 +264,14 @@ def said_why(fault: Refused) -> str:
     return f": {plain[:300]}" if plain else ""
 
 
-def listening(path: str, mode: int) -> socket.socket:
-    """A socket at this path, with this mode from its first moment on."""
+def bound(path: str, mode: int) -> socket.socket:
+    """A socket at this path, with this mode from its first moment on. Nobody listens there yet."""
     with suppress(FileNotFoundError):
         os.unlink(path)
     found, before = socket.socket(socket.AF_UNIX), os.umask(0o777 - mode)
     try:
         found.bind(path)
         found.setblocking(False)
-        found.listen(BACKLOG)
     except BaseException:
         found.close()
         raise
