@@ -8,7 +8,6 @@ import asyncio
 import logging
 import os
 import re
-import select
 import socket
 import struct
 import threading
@@ -59,18 +58,18 @@ def post_to(path: str, patience: float = ANSWERS_IN) -> Callable[[str, str], Rep
     return post
 
 
-def post_in(given: bytes) -> tuple[str, bytes] | None:
-    """The relay and the line of a post that is there to its last byte, with nothing behind it; None
-    where more of it may come. Raises where it is something else."""
+def post_in(given: bytes) -> tuple[str, int, int] | None:
+    """The relay of a post whose head is there, how long its line is, and how much of that is still to
+    come; None where more of the head is. Raises where it is something else, or more."""
     if (found := head_in(given)) is None:
         if len(given) > MOST_HEAD:
             raise Bad(400, "T1 BadHead")
         return None
-    head, line = found
+    head, begun = found
     posts = POSTS.fullmatch(head.target)
-    if not posts or head.method != "POST" or len(line) > head.length:
+    if not posts or head.method != "POST" or len(begun) > head.length:
         raise Other
-    return (posts[1], line) if len(line) == head.length else None
+    return posts[1], head.length, head.length - len(begun)
 
 
 class Other(Exception):
@@ -84,29 +83,37 @@ class Coming:
 
     def __init__(self, serving: "Serving", peer: socket.socket, way: Way) -> None:
         self.serving, self.peer, self.way, self.given = serving, peer, way, b""
+        self.length, self.missing = 0, -1  # (-1 while its head is to come)
         self.timer: asyncio.TimerHandle | None = None
 
     def read(self) -> None:
-        post = None
         try:
-            piece = self.peer.recv(MOST_REPLY)
-            self.given += piece
-            post = post_in(self.given)
-            is_other = not piece
+            self.take(self.peer.recv(MOST_REPLY))
         except BlockingIOError:
-            is_other = False
+            pass
         except (OSError, Bad, Other):
-            is_other = True
-        if post:
-            self.leave_loop()
-            self.serving.give(self.peer, replace(self.way, relay=post[0]), post[1])
-        elif is_other:
             self.leave_loop()
             self.serving.hear_on(self.peer, self.way, self.given)
+            return
+        if self.missing == 0:
+            self.leave_loop()
+            line = self.given[len(self.given) - self.length :]
+            self.serving.give(self.peer, self.way, line)
         elif not self.timer:
             loop = asyncio.get_running_loop()
             loop.add_reader(self.peer, self.read)
             self.timer = loop.call_later(COMES_IN, self.end)
+
+    def take(self, piece: bytes) -> None:
+        """The next bytes. (A head is looked at until it is whole, and bytes of a line are counted.)"""
+        self.given += piece
+        if self.missing > 0:
+            self.missing -= len(piece)
+        elif found := post_in(self.given):
+            relay, self.length, self.missing = found
+            self.way = replace(self.way, relay=relay)
+        if not piece or (self.missing < 0 and self.length):
+            raise Other
 
     def leave_loop(self) -> None:
         if self.timer:
@@ -132,10 +139,7 @@ class Serving:
         """Serves at these sockets, of which some are root's, until it is cancelled."""
         loop = asyncio.get_running_loop()
         for place, is_root in places:
-            # (each connection wakes one of the processes that wait)
-            waits = select.epoll()
-            waits.register(place, select.EPOLLIN | select.EPOLLEXCLUSIVE)
-            loop.add_reader(waits, self.accept, place, is_root)
+            loop.add_reader(place, self.accept, place, is_root)
         try:
             await loop.create_future()
         finally:
@@ -172,9 +176,8 @@ class Serving:
         def work() -> None:
             try:
                 said = self.take(way, line)
-                if (sent := peer.send(said)) < len(said):
-                    peer.settimeout(GOES_IN)
-                    peer.sendall(said[sent:])
+                peer.settimeout(GOES_IN)
+                peer.sendall(said)
             except OSError:
                 pass  # (nobody is there to be answered)
             finally:
