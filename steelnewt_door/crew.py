@@ -18,6 +18,7 @@ import os
 import queue
 import selectors
 import signal
+import struct
 import threading
 from collections.abc import Callable, Iterator
 from dataclasses import dataclass, field
@@ -32,25 +33,36 @@ from steelnewt_door.rows import Row
 log = logging.getLogger("desk-door")
 PROCESSES = min(4, len(os.sched_getaffinity(0)))
 WORKERS = 8  # of each: so many messages it has under way
+FLOCK = "@hhqqi0q"  # struct flock: the kind, from where, the first byte, how many, nobody's number
 FAULTS: dict[str, type[Exception]] = {"BadJournal": BadJournal, "Full": Full}
 
 
 class Locks:
-    """A lock for each of so many names, among all threads of all processes."""
+    """A lock for each of so many names, among all threads of all processes: a byte of a file, which
+    each process has open by itself (fcntl(2), 'Open file description locks'). The locks that belong
+    to a process will not do: where two threads wait for those of two others, the kernel sees two
+    processes that wait for each other, and refuses one."""
 
     def __init__(self, count: int) -> None:
         self.file = os.memfd_create("locks")
         self.threads = [threading.Lock() for _ in range(count)]
 
+    def own(self) -> None:
+        """Makes them a process's own, behind a fork."""
+        self.file = os.open(f"/proc/self/fd/{self.file}", os.O_RDWR | os.O_CLOEXEC)
+
     @contextlib.contextmanager
     def held(self, name: object) -> Iterator[None]:
         at = hash(name) % len(self.threads)
         with self.threads[at]:
-            fcntl.lockf(self.file, fcntl.LOCK_EX, 1, at)
+            self.set(fcntl.F_WRLCK, at)
             try:
                 yield
             finally:
-                fcntl.lockf(self.file, fcntl.LOCK_UN, 1, at)
+                self.set(fcntl.F_UNLCK, at)
+
+    def set(self, kind: int, at: int) -> None:
+        fcntl.fcntl(self.file, fcntl.F_OFD_SETLKW, struct.pack(FLOCK, kind, os.SEEK_SET, at, 1, 0))
 
 
 class Asked:

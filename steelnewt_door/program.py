@@ -78,6 +78,7 @@ def serve(settings: Settings) -> int:
         locks, lag = Locks(LOCKS), mmap.mmap(-1, 1)
 
         def work(ends: list[Connection], line: Connection) -> None:
+            locks.own()
             # (it has of a journal, and of a share, what a door uses as it takes messages)
             asked: Any = Asked(settings.journal, ends, lag)
             door = replace(settings.door(asked), locks=locks, share=asked)
