@@ -70,6 +70,12 @@ def rows_of(path: str) -> Iterator[Row]:
                 raise BadJournal(f"{path}: line {number} {fault}") from None
 
 
+def rows_in(folder: str) -> Iterator[Row]:
+    """All rows of a folder, in their order."""
+    for _, path in files_of(folder):
+        yield from rows_of(path)
+
+
 def is_row(line: bytes) -> bool:
     try:
         return line.endswith(b"\n") and bool(read_row(line))
@@ -223,8 +229,7 @@ class Journal:
 
     def rows(self) -> Iterator[Row]:
         """All rows that are here, in their order."""
-        for _, path in files_of(self.folder):
-            yield from rows_of(path)
+        return rows_in(self.folder)
 
     def append(self, rows: list[Row], takes_away: bool = False) -> list[int]:
         """Writes rows, and is back with their numbers when they are on the disk. Who comes first
@@ -244,11 +249,14 @@ class Journal:
         with contextlib.suppress(queue.Empty):
             while len(found) < MOST_BATCH:
                 found.append(self.waiting.get_nowait())
+        self.write_batches(found)
+
+    def write_batches(self, batches: list[Batch]) -> None:
         try:
-            self.write(found)
+            self.write(batches)
         except Exception as fault:  # (whoever waits is answered, whatever happens)
-            self.refuse(found, BadJournal(f"the journal in {self.folder} fails: {fault!r}"))
-        for it in found:
+            self.refuse(batches, BadJournal(f"the journal in {self.folder} fails: {fault!r}"))
+        for it in batches:
             it.is_done = True
 
     def refuse(self, batches: list[Batch], fault: Exception) -> None:

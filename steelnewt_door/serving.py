@@ -11,13 +11,15 @@ import re
 import socket
 import struct
 import threading
+import time
 from collections.abc import Callable
 from concurrent.futures import ThreadPoolExecutor
-from contextlib import ExitStack, suppress
+from contextlib import suppress
 from dataclasses import replace
 
 from steelnewt_client.desk import answer_in, route
 from steelnewt_client.names import LABEL
+from steelnewt_door.crew import PROCESSES, WORKERS
 from steelnewt_door.heads import MOST_HEAD, Bad, Head, head_in, read_body, read_head, reply
 from steelnewt_door.refusals import STATUSES, Refused
 from steelnewt_door.taking import Door, Reply, Way
@@ -25,9 +27,8 @@ from steelnewt_door.taking import Door, Reply, Way
 log = logging.getLogger("desk-door")
 MOST_REPLY = 65_536
 COMES_IN, ANSWERS_IN, GOES_IN = 10.0, 60.0, 30.0  # seconds
-MOST_OPEN = 1_024  # connections
+MOST_OPEN = 1_024 // PROCESSES  # connections of each process
 BACKLOG = 512  # that wait to be taken
-WORKERS = 16
 POSTS = re.compile(rf"/v1/relays/({LABEL})/messages")
 
 
@@ -57,22 +58,22 @@ def post_to(path: str, patience: float = ANSWERS_IN) -> Callable[[str, str], Rep
     return post
 
 
-def post_in(given: bytes) -> tuple[str, bytes] | None:
-    """The relay and the line of a post that is there to its last byte, with nothing behind it; None
-    where more of it may come. Raises where it is something else."""
+def post_in(given: bytes) -> tuple[str, int, int] | None:
+    """The relay of a post whose head is there, how long its line is, and how much of that is still to
+    come; None where more of the head is. Raises where it is something else, or more."""
     if (found := head_in(given)) is None:
         if len(given) > MOST_HEAD:
             raise Bad(400, "T1 BadHead")
         return None
-    head, line = found
+    head, begun = found
     posts = POSTS.fullmatch(head.target)
-    if not posts or head.method != "POST" or len(line) > head.length:
+    if not posts or head.method != "POST" or len(begun) > head.length:
         raise Other
-    return (posts[1], line) if len(line) == head.length else None
+    return posts[1], head.length, head.length - len(begun)
 
 
 class Other(Exception):
-    """It is no post alone."""
+    """A request that is no post, or has something behind it."""
 
 
 class Coming:
@@ -82,29 +83,37 @@ class Coming:
 
     def __init__(self, serving: "Serving", peer: socket.socket, way: Way) -> None:
         self.serving, self.peer, self.way, self.given = serving, peer, way, b""
+        self.length, self.missing = 0, -1  # (-1 while its head is to come)
         self.timer: asyncio.TimerHandle | None = None
 
     def read(self) -> None:
-        post = None
         try:
-            piece = self.peer.recv(MOST_REPLY)
-            self.given += piece
-            post = post_in(self.given)
-            is_other = not piece
+            self.take(self.peer.recv(MOST_REPLY))
         except BlockingIOError:
-            is_other = False
+            pass
         except (OSError, Bad, Other):
-            is_other = True
-        if post:
-            self.leave_loop()
-            self.serving.give(self.peer, replace(self.way, relay=post[0]), post[1])
-        elif is_other:
             self.leave_loop()
             self.serving.hear_on(self.peer, self.way, self.given)
+            return
+        if self.missing == 0:
+            self.leave_loop()
+            line = self.given[len(self.given) - self.length :]
+            self.serving.give(self.peer, self.way, line)
         elif not self.timer:
             loop = asyncio.get_running_loop()
             loop.add_reader(self.peer, self.read)
             self.timer = loop.call_later(COMES_IN, self.end)
+
+    def take(self, piece: bytes) -> None:
+        """The next bytes. (A head is looked at until it is whole, and bytes of a line are counted.)"""
+        self.given += piece
+        if self.missing > 0:
+            self.missing -= len(piece)
+        elif found := post_in(self.given):
+            relay, self.length, self.missing = found
+            self.way = replace(self.way, relay=relay)
+        if not piece or (self.missing < 0 and self.length):
+            raise Other
 
     def leave_loop(self) -> None:
         if self.timer:
@@ -126,31 +135,25 @@ class Serving:
         self.open, self.counting = 0, threading.Lock()
         self.tasks = set[asyncio.Task[None]]()
 
-    async def serve(self, paths: tuple[str, str], ready: Callable[[], None]) -> None:
-        """Serves at the socket for all, and at root's, until it is cancelled."""
-        with ExitStack() as held:
-            for path, mode, is_root in ((paths[0], 0o660, False), (paths[1], 0o600, True)):
-                self.accept(held.enter_context(listening(path, mode)), is_root)
-            ready()
-            try:
-                await asyncio.get_running_loop().create_future()
-            finally:
-                self.workers.shutdown()
+    async def serve(self, places: list[tuple[socket.socket, bool]]) -> None:
+        """Serves at these sockets, of which some are root's, until it is cancelled."""
+        loop = asyncio.get_running_loop()
+        for place, is_root in places:
+            loop.add_reader(place, self.accept, place, is_root)
+        try:
+            await loop.create_future()
+        finally:
+            self.workers.shutdown()
 
     def accept(self, place: socket.socket, is_root: bool) -> None:
-        """Takes the connections that wait at a socket, now and as they come."""
-        loop = asyncio.get_running_loop()
+        """Takes a connection that waits at a socket. (Others may be taken by other processes.)"""
         try:
-            for _ in range(BACKLOG):
-                self.begin(place.accept()[0], is_root)
+            self.begin(place.accept()[0], is_root)
         except BlockingIOError:
             pass
-        except OSError as fault:  # (no descriptor is left: those that wait are taken a bit later)
+        except OSError as fault:  # (no descriptor is left)
             log.warning("no connection is taken for a moment: %s", fault)
-            loop.remove_reader(place)
-            loop.call_later(1.0, self.accept, place, is_root)
-            return
-        loop.add_reader(place, self.accept, place, is_root)
+            time.sleep(0.1)
 
     def begin(self, peer: socket.socket, is_root: bool) -> None:
         with self.counting:
@@ -173,9 +176,8 @@ class Serving:
         def work() -> None:
             try:
                 said = self.take(way, line)
-                if (sent := peer.send(said)) < len(said):
-                    peer.settimeout(GOES_IN)
-                    peer.sendall(said[sent:])
+                peer.settimeout(GOES_IN)
+                peer.sendall(said)
             except OSError:
                 pass  # (nobody is there to be answered)
             finally:
@@ -265,15 +267,14 @@ def said_why(fault: Refused) -> str:
     return f": {plain[:300]}" if plain else ""
 
 
-def listening(path: str, mode: int) -> socket.socket:
-    """A socket at this path, with this mode from its first moment on."""
+def bound(path: str, mode: int) -> socket.socket:
+    """A socket at this path, with this mode from its first moment on. Nobody listens there yet."""
     with suppress(FileNotFoundError):
         os.unlink(path)
     found, before = socket.socket(socket.AF_UNIX), os.umask(0o777 - mode)
     try:
         found.bind(path)
         found.setblocking(False)
-        found.listen(BACKLOG)
     except BaseException:
         found.close()
         raise

@@ -474,7 +474,7 @@ def rewritten(signed: Signed) -> list[Signed]:
     its numbers, with the other one of its two, and with other bits behind its base64."""
     raw = base64.b64decode(signed.signature.removeprefix("ssh:"))
     parts = parts_of(raw)
-    algorithm, itself, _ = parts.tail()
+    algorithm, itself, _ = parts.tail
     first, second = (int.from_bytes(it, "big") for it in strings(itself))
     pairs = [(b"\0" * count + number(first), number(second)) for count in range(1, 9)]
     pairs.append((number(first), number(P256 - second)))
