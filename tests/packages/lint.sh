@@ -25,7 +25,7 @@ for deb in build/deb/*.deb; do
 done
 cd "$room/lib/systemd/system"
 # (the programs that the units start are those of the packages, but for the machine's `install`)
-sed -i "s,=/usr/\(bin\|libexec\|sbin\),=$room/usr/\1," ./*.service
+sed -i "s,=/usr/\(bin\|lib/nagios\|libexec\|sbin\),=$room/usr/\1," ./*.service
 sed -i "s,=$room\(/usr/bin/install \),=\1," ./*.service
 sed -i "/^Documentation=/d" ./*.service
 cp desk-fetch@.service desk-fetch@db1.service
