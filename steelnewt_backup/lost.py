@@ -16,7 +16,6 @@ from typing import Any, NamedTuple
 
 from steelnewt_backup.faults import Failed
 from steelnewt_backup.follow import said_in
-from steelnewt_backup.manifest import digest
 from steelnewt_backup.site import Answer, Site, name_of, run_relay
 from steelnewt_client.messages import canonical
 
@@ -154,12 +153,13 @@ def fill(site: Site, found: list[Source], told: Told) -> None:
 # ---- what hosts have heard of
 
 
-def heard_of(folder: str, roster: str, host: str) -> Heard:
-    """What was brought from a host: its record HOST.json, and its file HOST.sudoers."""
+def heard_of(folder: str, rosters: set[str], host: str) -> Heard:
+    """What was brought from a host: its record HOST.json, and its file HOST.sudoers. (A change of
+    the roster takes no message away, so a count under any of these rosters says what came.)"""
     try:
         with open(os.path.join(folder, f"{host}.json"), encoding="ascii") as file:
             rows = json.load(file)["installed"]
-        same = [int(count) for count, its, _ in rows if its == roster]
+        same = [int(count) for count, its, _ in rows if its in rosters]
         last = str(rows[-1][1])
         with open(os.path.join(folder, f"{host}.sudoers"), encoding="utf-8") as file:
             lines = file.read().splitlines()
@@ -168,21 +168,21 @@ def heard_of(folder: str, roster: str, host: str) -> Heard:
     return Heard(host, max(same, default=0), last, lines)
 
 
-def all_heard(folder: str, roster: str) -> list[Heard]:
+def all_heard(folder: str, rosters: set[str]) -> list[Heard]:
     names = sorted(glob.glob(os.path.join(folder, "*.json")))
     if not names:
         raise Failed(f"{folder} has no HOST.json: bring /var/lib/desk-host/HOST.json of each host")
     hosts = [os.path.basename(it).removesuffix(".json") for it in names]
-    return [heard_of(folder, roster, it) for it in hosts]
+    return [heard_of(folder, rosters, it) for it in hosts]
 
 
 def compare(site: Site, heard: list[Heard], count: int, now: str, told: Told) -> None:
     """Names each grant that a host has and the desk does not, and each that a host has no more.
     Only a host that has heard of more than the `count` messages that came back says something of
     the loss."""
-    held, roster = site.messages(), digest(site.recorded())
+    held, rosters = site.messages(), site.rosters()
     for it in heard:
-        if it.roster != roster:
+        if it.roster not in rosters:
             told.open.append(
                 f"{it.host} had a roster of sha256 {it.roster[:16]}..: it came after the backup, so"
                 " give the desk that one"

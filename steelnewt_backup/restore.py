@@ -15,7 +15,7 @@ from typing import Any
 from steelnewt_backup import lost, machine
 from steelnewt_backup.faults import Failed, Refused
 from steelnewt_backup.lost import Told
-from steelnewt_backup.manifest import Manifest, backups_in, digest, read_manifest
+from steelnewt_backup.manifest import Manifest, backups_in, read_manifest
 from steelnewt_backup.put import Backup, faults, is_same, lacking_room, put_all, set_aside
 from steelnewt_backup.pieces import sync_folder, write_all
 from steelnewt_backup.site import Site, run_relay
@@ -233,7 +233,7 @@ def recover(site: Site, wanted: Wanted, told: Told, folder: str) -> dict[str, in
         lost.fill(site, found, told)
         if wanted.heard:
             now = stamp_of(int(time.time()))
-            heard = lost.all_heard(wanted.heard, digest(site.recorded()))
+            heard = lost.all_heard(wanted.heard, site.rosters())
             count = len(site.messages())
             if wanted.revoke_as:
                 lost.revoke(site, heard, count, wanted.revoke_as, now, told)

@@ -17,6 +17,7 @@ from typing import Any, NamedTuple
 
 from steelnewt_backup import machine
 from steelnewt_backup.faults import Failed
+from steelnewt_backup.manifest import digest
 from steelnewt_client.places import place
 
 # what packaging/desk-serve takes where serve.conf says nothing
@@ -105,6 +106,18 @@ class Site:
         if len(found) != 1:
             raise Failed(f"{self.path('STORE')} is no desk's store")
         return found[0]
+
+    def rosters(self) -> set[str]:
+        """The digests of the roster that the store has, and of those before it, as the history has
+        them. (It is the account's own, so no link in it is followed.)"""
+        path = os.path.join(os.path.dirname(self.path("STORE")), "history", "moments")
+        found = {digest(self.recorded())}
+        try:
+            with open(os.open(path, os.O_RDONLY | os.O_NOFOLLOW | os.O_NONBLOCK), "rb") as file:
+                rows = [line.split(b" ") for line in file.read().splitlines()]
+        except OSError:
+            return found
+        return found | {row[1].decode("ascii", "replace") for row in rows if len(row) == 3}
 
     def messages(self) -> list[str]:
         """What the store holds, in byte order."""

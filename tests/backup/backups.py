@@ -21,8 +21,8 @@ from collections.abc import Callable, Iterator
 from steelnewt_backup.backup import expired
 from steelnewt_relay.outbox import Outbox
 from tests.backup import history
-from tests.backup.room import BASE, DAY, OUTBOX, PATIENCE, PROGRAM, ROSTER, SECRETS, STORE, Room
-from tests.backup.room import Row, made, said, tried, wish
+from tests.backup.room import BASE, DAY, HISTORY, OUTBOX, PATIENCE, PROGRAM, ROSTER, SECRETS
+from tests.backup.room import STORE, Room, Row, made, said, tried, wish
 from tests.common import desk
 
 
@@ -237,6 +237,15 @@ def heard(folder: str) -> Iterator[Row]:
     open_ = re.findall(form, ran.stdout, re.M)
     yield "a revocation that a host has", open_ == ["ann 1"], ran
     yield "nothing starts", "Nothing was started" in ran.stdout, ran
+    earlier = {"installed": [[count, "e" * 64, "0" * 64]]}
+    with open(room.path(f"{HISTORY}/moments"), "r+", encoding="ascii") as file:
+        rows = file.read()
+        file.seek(0)
+        file.write(f"20251231000000Z {'e' * 64} {'0' * 64}\n{rows}")
+    desk.write(brought, "db1.json", json.dumps(earlier))
+    ran = room.restore("--settle", "--heard", brought)
+    yield "a roster of before is none of later", "had a roster of" not in ran.stdout, ran
+    yield "and what it heard counts", *said(ran, 1, "db1 has heard of 15 messages, and 12 came")
     newer = {"installed": [[count, roster, "0" * 64], [3, "f" * 64, "0" * 64]]}
     desk.write(brought, "db1.json", json.dumps(newer))
     other = room.restore("--settle", "--heard", brought)
