@@ -143,7 +143,8 @@ ASKING_BASH = """\
         mapfile -t COMPREPLY < <(compgen -W '@WORDS@ @NAMES@' -- "$current")
         return
     fi
-    mapfile -t COMPREPLY < <(@TOOL@ complete "${COMP_WORDS[@]:1:COMP_CWORD}" 2> /dev/null < /dev/null)
+    local typed=("${COMP_WORDS[@]:1:COMP_CWORD}")
+    mapfile -t COMPREPLY < <(@TOOL@ complete "${typed[@]}" < /dev/null 2> /dev/null)
     if [ "${#COMPREPLY[@]}" -eq 0 ]; then
         compopt -o filenames 2> /dev/null
         mapfile -t COMPREPLY < <(compgen -f -- "$current")

@@ -16,8 +16,8 @@ PATTERN = re.compile(r"[*?\[]")
 
 
 def hosts_of(given: Sequence[str], offered: Sequence[str], numbered: bool = False) -> list[str]:
-    """The hosts that words mean, of those that are offered. A word that means none stays as it is:
-    what is wrong with it is said where the host's name is looked at."""
+    """The hosts that words mean, of those that are offered. A word that means none stays: the check
+    of a host's name says what is wrong with such a word."""
     found: list[str] = []
     for word in given:
         found += meant(word, list(offered), numbered)
@@ -71,7 +71,8 @@ def runas_of(said: argparse.Namespace, ceiling: Ceiling | None) -> str:
 def fitting(
     said: argparse.Namespace, roster: Roster, person: str, window: tuple[str, str], at: datetime
 ) -> Wish:
-    """The wish under the ceiling that covers it and needs least; of two such the narrower one."""
+    """The wish under the ceiling that covers it and needs the fewest approvals; if two do, under
+    the narrower one."""
     tried: list[tuple[int, int, str, Wish, list[str]]] = []
     for ceiling in roster.may_ask(person, at):
         try:

@@ -134,5 +134,6 @@ def spoken(length: timedelta) -> str:
 def clock(at: datetime, zone: tzinfo, today: datetime) -> str:
     """A moment in short, with its zone; with its day where that is another than today's."""
     local = at.astimezone(zone)
-    is_today = local.date() == today.astimezone(zone).date()
-    return f"{local:%H:%M}" + ("" if is_today else f" {local:%a %d %b}") + f" {local.tzname()}"
+    days = abs((local.date() - today.astimezone(zone).date()).days)
+    day = "" if not days else f"{local:%a} " if days < 7 else f"{local:%Y-%m-%d} "
+    return f"{day}{local:%H:%M} {local.tzname()}"

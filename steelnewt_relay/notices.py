@@ -41,6 +41,7 @@ CREATE TABLE IF NOT EXISTS notices (
     UNIQUE (message, kind)
 ) STRICT;
 CREATE INDEX IF NOT EXISTS due_notices ON notices (state) WHERE state = 'due';
+CREATE INDEX IF NOT EXISTS open_calls ON notices (body ->> '$.until') WHERE kind = 'asked';
 CREATE TABLE IF NOT EXISTS told_from (
     one INTEGER PRIMARY KEY CHECK (one = 1), message INTEGER NOT NULL
 ) STRICT;
@@ -97,6 +98,11 @@ class Notices:
         )
         return found.fetchone() is not None
 
+    def is_noted(self, kept: Kept) -> bool:
+        """Whether anything is recorded of a message."""
+        found = self.base.execute("SELECT 1 FROM notices WHERE message = ?", (kept.id,))
+        return found.fetchone() is not None
+
     def record(self, events: list[Event]) -> None:
         """Keeps events that are new; all of them, or none. One without data is told to nobody."""
         with self.outbox.writing():
@@ -148,10 +154,19 @@ def find(notices: Notices, finder: Finder) -> Iterator[Event]:
         yield finder.of_late(kept)
     for grant in knowledge.live():
         request = knowledge.asked_here(grant)
-        if request and notices.is_new(request) and not notices.has(request, "granted"):
+        is_untold = request and notices.is_new(request) and not notices.has(request, "granted")
+        if request and is_untold and not is_under_way(notices, request, untold):
             yield finder.of_grant(request)
         if request and finder.is_ending(grant) and not notices.has(request, "ends-soon"):
             yield finder.of_end(grant, request)
+
+
+def is_under_way(notices: Notices, request: Kept, untold: list[Kept]) -> bool:
+    """Whether a verdict on a request was sent that nothing was told of, and is not looked at now:
+    what it brought is told with it, as its author's doing."""
+    verdicts = notices.outbox.verdicts(request.request.by, request.request.no)
+    now_looked_at = {it.id for it in untold}
+    return any(it.id not in now_looked_at and not notices.is_noted(it) for it in verdicts)
 
 
 def settle(notices: Notices, finder: Finder) -> None:

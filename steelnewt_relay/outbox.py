@@ -315,6 +315,10 @@ class Outbox:
     def entry(self, id: int) -> Kept:
         return self.find("id = ?", id)[0]
 
+    def with_reasons(self) -> list[Kept]:
+        """All requests, and the verdicts for which somebody gave a reason."""
+        return self.find("kind = 'request' OR reasons.why IS NOT NULL")
+
     def requests(self) -> list[Kept]:
         return self.find("kind = 'request'")
 

@@ -11,7 +11,7 @@ import sys
 import threading
 from collections.abc import Iterable
 
-from steelnewt_client.messages import BadWord, checked
+from steelnewt_client.messages import BadWord, Verdict, checked
 from steelnewt_client.moments import now
 from steelnewt_relay import ssh
 from steelnewt_relay.caller import Caller, Keyed, certified
@@ -45,7 +45,7 @@ def parser() -> argparse.ArgumentParser:
     jobs.add_parser("page", help="serve the page, until SIGTERM")
     jobs.add_parser("post-again", help="post again all that was acknowledged")
     jobs.add_parser("sent", help="print the outbox's messages, whoever may have written it")
-    jobs.add_parser("reasons", help="print why each request was asked, as lines of JSON")
+    jobs.add_parser("reasons", help="print why people asked and decided, as lines of JSON")
     return found
 
 
@@ -127,9 +127,14 @@ def notify(config: Config, every: float) -> int:
 
 
 def reason_line(kept: Kept) -> str:
-    """A request's name, and why it was asked: a line for the evidence."""
-    request = kept.request
-    name = {"who": request.by, "no": request.no, "at": request.at, "ceiling": request.wish.ceiling}
+    """A request's name or a verdict, and why somebody asked or gave it: a line for the evidence."""
+    name: dict[str, object] = {}
+    if isinstance(kept.message, Verdict):
+        name |= vars(kept.verdict)
+    else:
+        request = kept.request
+        name |= {"who": request.by, "no": request.no, "at": request.at}
+        name["ceiling"] = request.wish.ceiling
     state = {"state": kept.state, "answer": kept.answer or None}
     return json.dumps(name | kept.reason.data() | state)
 
@@ -151,7 +156,7 @@ def run_job(config: Config, job: str, said: argparse.Namespace) -> int:
     if job == "sent":
         return print_lines(bodies(config.outbox))
     if job == "reasons":
-        return print_lines(reason_line(it) for it in config.open_outbox().requests())
+        return print_lines(reason_line(it) for it in config.open_outbox().with_reasons())
     # (Flask takes a moment to load, and a call by ssh has no use for it)
     from steelnewt_relay.page import serve
 

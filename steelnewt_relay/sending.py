@@ -11,7 +11,7 @@ from steelnewt_client.messages import BadWord, Wish
 from steelnewt_client.moments import now, stamp
 from steelnewt_client.names import is_label
 from steelnewt_relay import staying, telling
-from steelnewt_relay.admission import surely_refused
+from steelnewt_relay.admission import objections, surely_refused
 from steelnewt_relay.call import DONE, KEPT, NOT_SENT, REFUSED, YES, Call, is_at_terminal
 from steelnewt_relay.leading import Leader
 from steelnewt_relay.meant import hosts_of, is_named, typed_hosts, wish_of
@@ -180,7 +180,8 @@ def send(
     """Shows what is asked for, keeps it, posts it, and says what became of it."""
     call.say_strong(f"{call.person} asks")
     call.say_lines(telling.asked_lines(wish, reason, call.zone))
-    if is_hopeless(call, wish):
+    is_repeat = once is not None and call.outbox.same(call.person, once) is not None
+    if not is_repeat and is_hopeless(call, wish):
         return REFUSED
     if not once and not is_meant and (old := same_wish(call, wish)):
         call.say(f"You asked for the same just now, as {old.name}.")
@@ -196,12 +197,21 @@ def send(
     return told_request(call, post_one(call.outbox, call.desk, kept))
 
 
+def hopeless(call: Call, wish: Wish) -> str:
+    """Why a request cannot be granted, in a sentence; empty where it can."""
+    about = call.roster, call.person, wish, now()
+    if found := objections(*about):
+        return telling.objected(found)
+    few = surely_refused(*about)
+    return f"This cannot be granted: {'; '.join(few)}." if few else ""
+
+
 def is_hopeless(call: Call, wish: Wish) -> bool:
     """Whether a request is not sent, for it cannot be granted; says why."""
-    wrong = telling.objected(surely_refused(call.roster, call.person, wish, now()))
-    if wrong:
-        call.say_strong(wrong)
-    if not wrong or call.said.anyway:
+    if not (wrong := hopeless(call, wish)):
+        return False
+    call.say_strong(wrong)
+    if call.said.anyway:
         return False
     call.say("Nothing was sent. Change that, or write --anyway.")
     return True

@@ -11,21 +11,24 @@ from steelnewt_client.messages import VERDICTS, BadWord, Request, Verdict
 from steelnewt_client.moments import now, stamp
 from steelnewt_client.signed import MOST_LINE, MOST_LISTED, BadLine, Signed, read_line
 from steelnewt_relay import telling
-from steelnewt_relay.admission import surely_refused
 from steelnewt_relay.posting import post_one
 from steelnewt_relay.reasons import NONE, Reason
 from steelnewt_relay.call import DONE
-from steelnewt_relay.sending import again_of, asked_of, saved_of, told_request, told_verdict
+from steelnewt_relay.sending import (
+    again_of,
+    asked_of,
+    hopeless,
+    saved_of,
+    told_request,
+    told_verdict,
+)
 
 if TYPE_CHECKING:
     from steelnewt_client.messages import Wish
     from steelnewt_relay.call import Call
 
 Item = dict[str, object]
-SIGN = (
-    "this site takes signed messages alone: write mydesk in place of ssh and the relay's name"
-    " (man mydesk)"
-)
+SIGN = "this site takes signed messages alone: write mydesk in place of ssh desk (man mydesk)"
 
 
 def item(text: str, request: str | None, reason: Reason, notes: list[str]) -> Item:
@@ -37,8 +40,7 @@ def item(text: str, request: str | None, reason: Reason, notes: list[str]) -> It
 def prepare_request(call: Call, wish: Wish, reason: Reason) -> Item:
     """A request, which is sent once it comes back signed. What cannot be granted is not prepared,
     but for whoever wants it in any case."""
-    at = now()
-    note = telling.objected(surely_refused(call.roster, call.person, wish, at))
+    at, note = now(), hopeless(call, wish)
     if note and not call.said.anyway:
         raise BadWord(f"{note.rstrip('.')}. Change that, or write --anyway")
     request = call.outbox.prepare_request(call.person, wish.as_of(at), stamp(at), reason)

@@ -52,7 +52,8 @@ def away(call: Call) -> int:
             raise BadWord("that absence would end before it begins")
         own.set_away(call.person, f"{first:%Y%m%d}", f"{last:%Y%m%d}")
     first_day, last_day = own.away(call.person)
-    said = f"You are away from {first_day} until {last_day}" if first_day else "You are not away"
+    days = [f"{it[:4]}-{it[4:6]}-{it[6:]}" for it in (first_day, last_day)]
+    said = f"You are away from {' until '.join(days)}" if first_day else "You are not away"
     call.say(f"{said}. What you may approve stays as it is.")
     call.give_data({"from": first_day or None, "until": last_day or None})
     return DONE

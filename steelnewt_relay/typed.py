@@ -65,10 +65,12 @@ class Doubt:
 
     def question(self) -> str:
         """Both readings in words, for whoever cannot be asked."""
-        first = shlex.join(self.rest)
+        found = [f"--why {why} -- {' '.join(words)}" for why, words in self.readings()]
+        if len(found) == 1:
+            found.append(f"--why {self.reason} {' '.join(self.rest)} -- COMMAND")
         return (
-            f"is {first!r} the command, or part of the reason? Write -- before the command, as in"
-            f" --why {self.reason} -- {first}. ({QUOTES})"
+            f"is {' '.join(self.rest)!r} the command, or part of the reason? Write -- before the"
+            f" command: {', or '.join(found)}. ({QUOTES})"
         )
 
 

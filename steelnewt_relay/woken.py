@@ -13,8 +13,8 @@ from steelnewt_relay.standing import Standing
 CALLS = ("asked", "asked-next")
 ENDS = ("granted", "refused", "revoked", "void")
 # Requests whose first people were told before a moment, and the next ones not yet.
-LATE = """SELECT message FROM notices WHERE kind = 'asked' AND state <> 'needless'
- AND body ->> '$.at' <= ? AND body ->> '$.until' >= ? AND NOT EXISTS (SELECT 1 FROM notices AS other
+LATE = """SELECT message FROM notices WHERE kind = 'asked' AND body ->> '$.until' >= ?
+ AND body ->> '$.at' <= ? AND NOT EXISTS (SELECT 1 FROM notices AS other
  WHERE other.message = notices.message AND other.kind IN ('asked-next', 'granted', 'void'))"""
 
 
@@ -37,7 +37,7 @@ class Woken:
 
     def late(self, now: datetime, patience: timedelta) -> list[int]:
         """The requests for which the next people have to be told now, by their messages."""
-        rows = self.base.execute(LATE, (stamp(now - patience), stamp(now)))
+        rows = self.base.execute(LATE, (stamp(now), stamp(now - patience)))
         return [message for (message,) in rows]
 
     def notices(self, messages: Iterable[int], kinds: tuple[str, ...]) -> list[dict[str, Any]]:

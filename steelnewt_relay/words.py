@@ -84,7 +84,8 @@ def parser() -> Parser:
     for word in ("mine", "waiting", "history"):
         listing = commands.add_parser(word, parents=[common])
         listing.add_argument("-l", "--long", action="store_true")
-        listing.add_argument("--all", action="store_true")
+        if word != "waiting":
+            listing.add_argument("--all", action="store_true")
         if word == "history":
             listing.add_argument("--who", metavar="NAME")
             listing.add_argument("--on", metavar="HOST")

@@ -53,7 +53,6 @@ class Person:
         assert ran.returncode == status, ran
         return ran.stdout + ran.stderr
 
-
     def typed(self, *words: str) -> str:
         """Runs mydesk at a terminal: what is shown."""
         here, there = pty.openpty()

@@ -2,13 +2,15 @@
 that lies."""
 
 import json
+import os
 import shlex
 import subprocess
+import sys
 from pathlib import Path
 
 import pytest
 
-from door.tests.doors import Doored, keygen
+from door.tests.doors import MYDESK, TOP, Doored, keygen
 from door.tests.people import Person, behind_door, script
 from steelnewt_client.signed import reason_digest
 
@@ -117,6 +119,19 @@ def test_at_a_terminal(signing: Doored) -> None:
 def test_completions_ask_the_relay(signing: Doored) -> None:
     ann = Person(signing, "ann")
     assert ann.run("complete", "ask", "db-care", "--on", "").split() == ["all", "db1", "db2"]
+    # in a real bash, by what the package installs
+    pages = signing.folder / "pages"
+    pages.mkdir()
+    make = [sys.executable, str(TOP.parent / "scripts" / "make_pages.py"), str(pages)]
+    subprocess.run(make, check=True, env=os.environ | {"PREFIX": "/usr"})
+    (ann.home / "bin" / "mydesk").symlink_to(MYDESK)
+    typed = "COMP_WORDS=(mydesk ask db-care --on d) COMP_CWORD=4; _mydesk; echo ${COMPREPLY[@]}"
+    path = f"{ann.home}/bin:/usr/bin:/bin"
+    ran = subprocess.run(
+        ["bash", "-c", f"source {pages}/mydesk.bash; {typed}"],
+        env={"HOME": str(ann.home), "PATH": path}, capture_output=True, text=True, check=True,
+    )  # fmt: skip
+    assert ran.stdout.split() == ["db1", "db2"], ran
 
 
 def test_where_the_site_signs_nothing(signing: Doored) -> None:

@@ -83,7 +83,8 @@ def test_who_may_object_ends_it(fronted: tuple[Site, Front], person: str, kind: 
     assert waits_for_bob(site, front, no) == (False, False)
     assert state(site, no) == "objected"
     ran = site.run("bob", f"approve ann {no} --yes --again")
-    assert ran.returncode == 2 and "Your approval will not count: the desk grants nothing of it any more." in ran.stdout
+    assert ran.returncode == 2, ran
+    assert "Your approval will not count: the desk grants nothing of it any more." in ran.stdout
     assert state(site, no) == "objected"
 
 
@@ -93,7 +94,8 @@ def test_a_refusal_after_enough_approvals(fronted: tuple[Site, Front]) -> None:
     assert site.run("bob", f"approve ann {no} --yes").returncode == 0
     wait_for_next_second()  # (a refusal of the same second counts)
     ran = site.run("carol", f"refuse ann {no} --yes")
-    assert ran.returncode == 2 and "Your refusal will not count: enough people have approved it: revoke it" in ran.stdout
+    assert ran.returncode == 2, ran
+    assert "Your refusal will not count: enough people have approved it: revoke it" in ran.stdout
     assert state(site, no) == "in-force"
 
 

@@ -63,11 +63,14 @@ def commands(of: argparse.ArgumentParser) -> dict[str, set[str]]:
 
 
 def test_each_word_by_ssh_has_a_test() -> None:
-    # (`prepare` stands before the words of another)
-    assert {*commands(parser()), "prepare"} == set(ANSWERS)
-    # (who writes `ask` and no more is led)
+    # (`prepare` stands before the words of another, and `complete` before words that are unfinished)
+    assert {*commands(parser()), "prepare", "complete"} == set(ANSWERS)
+    # (who writes `ask` and no more is led; `ask` with a name of one's own is `saved`; and who writes
+    # nothing reads an overview, in test_alone_at_a_terminal)
     lines = [it.split() for it in texts() if it.split()[:1] and it.split()[0] in ANSWERS]
     lines += [["lead", *it[1:]] for it in lines if it in (["ask"], ["ask", "--zone"])]
+    lines += [["saved", *it[2:]] for it in lines if it[:1] == ["ask"] and it[1:2] == ["pg-again"]]
+    lines += [["overview"]]
     wanted = [(word, "") for word in ANSWERS]
     known = commands(parser()).items()
     wanted += [(word, name) for word, names in known for name in names - COMMON]

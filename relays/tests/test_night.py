@@ -16,9 +16,11 @@ import pytest
 from relays.tests.site import PATIENCE, Site
 from relays.tests.test_asks import brought, wish
 from relays.tests.test_fuzz import answer
+from relays.tests.test_reasons import exported
 from steelnewt_client.messages import Wish
 from steelnewt_client.moments import now, stamp
 from steelnewt_relay.config import read_config
+from steelnewt_relay.words import parse
 
 ASK = "ask db-care --on db1 --as root --for 1h --yes --again"
 NIGHT = "ask db-emergency --on db1 --as root --for 15m"
@@ -112,7 +114,7 @@ class Terminal:
         os.write(self.here, typed.encode())
 
     def until(self, piece: str, seconds: float = PATIENCE) -> str:
-        """What is shown until a piece of it comes, or the call ends."""
+        """All that is shown, once a piece of text has come or the call has ended."""
         end = time.monotonic() + seconds
         while piece not in self.shown and time.monotonic() < end:
             if select.select([self.here], [], [], 1)[0]:
@@ -147,13 +149,15 @@ def test_at_a_terminal_it_is_asked(quiet_site: Site) -> None:
 
 
 def test_a_verdict_has_a_reason(site: Site) -> None:
-    """It is shown to whoever asked, and kept with the verdict."""
+    """The asker reads the reason, and it is kept with the verdict."""
     asks(site)
     assert said(site, "bob", f"refuse ann {site.no()} --yes --why not now, see OPS-9")[0] == 0
     told = said(site, "ann", f"show ann {site.no()}")[1]
     assert "bob refused it" in told and "why       | not now, see OPS-9" in told, told
-    [found] = site.data("ann", "mine")  # type: ignore[misc]
-    assert found["verdicts"][0]["why"] == "not now, see OPS-9"
+    [found] = data(site, "ann", "mine")
+    why = "not now, see OPS-9"
+    assert found["verdicts"][0]["why"] == why  # type: ignore[index]
+    assert [it["why"] for it in exported(site) if it.get("kind") == "refuse"] == [why]
     status, told = said(site, "bob", f"refuse ann {site.no()} --yes --again --why {'x' * 501}")
     assert status == 2 and "at most 500" in told
 
@@ -182,7 +186,8 @@ def test_a_grant_is_extended_from_its_end(quiet_site: Site) -> None:
 def test_what_too_few_may_approve_is_not_sent(quiet_site: Site) -> None:
     """carol may not approve her own, and bob alone is not two."""
     status, told = said(quiet_site, "carol", f"{NIGHT} --yes ALL")
-    assert status == 2 and "only bob may approve it for carol" in told, told
+    assert status == 2 and "This cannot be granted: it needs approvals of 2" in told, told
+    assert "only bob may approve it for carol" in told, told
     assert said(quiet_site, "carol", f"{NIGHT} --yes --anyway ALL")[0] == 3
     assert said(quiet_site, "ann", f"{NIGHT} --yes ALL")[0] == 3
 
@@ -206,7 +211,7 @@ def test_what_is_surely_refused_is_not_sent(quiet_site: Site, words: str, piece:
 
 @pytest.mark.parametrize("person", ["ann", "dave"])
 def test_a_verdict_that_will_not_count(site: Site, person: str) -> None:
-    """It is not sent; who sends it anyway reads the same, and status 1."""
+    """The verdict is not sent; with `--anyway` the same is read behind it, and the status is 1."""
     asks(site)
     status, told = said(site, person, f"approve ann {site.no()} --yes")
     assert status == 2 and "will not count" in told and len(site.kept()) == 1, told
@@ -277,7 +282,7 @@ def test_each_person_has_a_zone(quiet_site: Site) -> None:
     assert "CE" in said(quiet_site, "ann", "show ann 1")[1]
     assert said(quiet_site, "ann", "set zone America/New_York")[0] == 0
     assert re.search(r" E[SD]T\)", said(quiet_site, "ann", "show ann 1")[1])
-    assert re.search(r"until \d\d:\d\d( \w+ \d+ \w+)? E[SD]T", said(quiet_site, "ann", "mine")[1])
+    assert re.search(r"until (\w+ )?\d\d:\d\d E[SD]T", said(quiet_site, "ann", "mine")[1])
     assert "no time zone" in said(quiet_site, "ann", "set zone Mars")[1]
     assert said(quiet_site, "ann", "set zone none")[0] == 0
 
@@ -289,7 +294,7 @@ SLIPS = [
     ("ann", "cancel 1", "did you mean withdraw?"),
     ("ann", "ask --help", "ask CEILING"),
     ("ann", "--help", "ask CEILING"),
-    ("ann", "ask db-care --on DB1.example.com --for 1h /usr/bin/id", "ann as root on db1:"),
+    ("ann", "ask db-care --on DB1.example.com --for 5m /usr/bin/id", "ann as root on db1:"),
     ("ann", "ask db-care --on db* --for 1h /usr/bin/id", "ann as root on db1, db2:"),
     ("ann", "ask db-care --on all --for 1h /usr/bin/id", "ann as root on db1, db2:"),
     ("ann", "ask db-care --on db --for 1h /usr/bin/id", "may be db1, db2: write db* for all"),
@@ -330,8 +335,9 @@ def test_a_ticket_is_spelled_as_the_sites(quiet_site: Site) -> None:
 def test_who_asks_withdraws(site: Site) -> None:
     asks(site)
     assert said(site, "ann", f"withdraw {site.no()} --yes --why found it")[0] == 0
-    [found] = site.data("ann", "mine")  # type: ignore[misc]
-    assert found["state"] == "objected" and found["verdicts"][0]["why"] == "found it"
+    [found] = data(site, "ann", "mine")
+    assert found["state"] == "objected"
+    assert found["verdicts"][0]["why"] == "found it"  # type: ignore[index]
 
 
 def test_a_name_of_ones_own(quiet_site: Site) -> None:
@@ -346,6 +352,24 @@ def test_a_name_of_ones_own(quiet_site: Site) -> None:
     status, told = said(quiet_site, "bob", "ask pg-again", "y\n")
     assert status == 2 and "saved" in told
     assert "ceiling's name" in said(quiet_site, "ann", "save db-care 1")[1]
+
+
+# Each option of the words that have many.
+WHOLE = [
+    "ask pg-again --on db2 --from +1h --until +2h --why x --ticket T-1 --anyway --no-wait",
+    "ask pg-again --for 1h", "again 1 --from +1h --for 1h --anyway --no-wait",
+    "ask db-care --on db1 --for 1h --anyway --no-wait /usr/bin/id",
+    "withdraw 1 2 --why x --again --anyway", "approve ann 1 --why x --again --anyway",
+    "refuse ann 1 --why x --again --anyway", "revoke ann 1 --why x --again --anyway",
+    "mine -l --long --all", "waiting -l --long", "history -l --long --all --who ann --on db1",
+]  # fmt: skip
+
+
+@pytest.mark.parametrize("line", WHOLE)
+def test_each_option_is_known(line: str) -> None:
+    found = vars(parse(line))
+    flags = [it for it in line.split() if it in ("--again", "--anyway", "--no-wait", "--long")]
+    assert all(found[it[2:].replace("-", "_")] for it in flags), found
 
 
 def test_alone_at_a_terminal(site: Site) -> None:

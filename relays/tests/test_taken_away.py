@@ -14,7 +14,8 @@ import pytest
 from relays.tests.site import PATIENCE, Site
 from relays.tests.sshd import Sshd, keygen
 
-ASK = "ask db-care --on db1 --as root --for 1h --again"
+# (bob and eve may not ask for that: nobody here is refused for what they ask)
+ASK = "ask db-care --on db1 --as root --for 1h --again --anyway"
 
 
 @pytest.fixture

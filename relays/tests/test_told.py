@@ -108,7 +108,7 @@ def test_a_notice_says_what_it_is_about_and_leads_there(telling: Site) -> None:
     told(telling, "bob", f"refuse ann {telling.no()} --yes --why not now")
     wait_for(lambda: len(events(telling)) == 2)
     event = events(telling)[1]
-    assert str(event["text"]).startswith('bob refused ann 1: "not now".')
+    assert str(event["text"]).startswith(f'bob refused {name}: "not now".')
     assert event["verdict_why"] == "not now" and event["thread"] == f"ann-{telling.no()}"
 
 
