@@ -72,7 +72,7 @@ bench: desk
 faults: desk
 	$(GATE) faults
 
-# Reads and writes of the program that fail, disks that fill and files that change under it, each place; the program killed 600 times over 20,000 messages; and
+# Reads and writes of the program that fail, disks that fill and files that change under it, each place; the program killed 600 times over 20,000 messages; 1,000 rosters taken under load; and
 # a million inputs changed at random, each answer beside a second reading. The last line has the counts. `make test` runs a short form of each.
 soak: desk
 	bash scripts/tools.sh
@@ -80,6 +80,7 @@ soak: desk
 	python3 -m tests.soak.healing --whole
 	python3 -m tests.peers.crowd --whole
 	python3 -m tests.soak.kills
+	env CHANGES=1000 python3 -m tests.soak.rosters
 	/usr/bin/python3 -m tests.soak.soak
 
 # The types and style of relays/, broker/ and tools/, by mypy and flake8 (it installs them where this is root).

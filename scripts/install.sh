@@ -38,6 +38,7 @@ put 0755 build/desk-audit "$PREFIX/bin/desk-audit"
 put 0755 packaging/desk-serve "$libexec/desk-serve"
 put 0755 packaging/mydesk "$PREFIX/bin/mydesk"
 put 0755 packaging/desk-memory "$libexec/desk-memory"
+put 0755 packaging/desk-history "$libexec/desk-history"
 python3 scripts/host_program.py "$room/desk-host"
 put 0755 "$room/desk-host" "$PREFIX/sbin/desk-host"
 # (it is of this machine's kind, and needs a C compiler and the header of Debian's package sudo)
@@ -50,8 +51,8 @@ for page in "$room"/pages/*.[1-8]; do
 done
 broker=(consume publish fill refused snapshot compare check-queues broker-definitions)
 for name in desk desk-audit desk-lint desk-import desk-used desk-evidence desk-change-roster \
-    desk-roster desk-demo desk-relay desk-relay-person desk-door desk-signer desk-verify mydesk \
-    "${broker[@]/#/desk-}"; do
+    desk-change-base desk-roster desk-demo desk-relay desk-relay-person desk-door desk-signer \
+    desk-verify mydesk "${broker[@]/#/desk-}"; do
     put 0644 "$room/pages/$name.bash" "$PREFIX/share/bash-completion/completions/$name"
     put 0644 "$room/pages/_$name" "$PREFIX/share/zsh/$zsh/_$name"
 done
@@ -74,8 +75,8 @@ DEB_PYTHON_INSTALL_LAYOUT=$layout /usr/bin/python3 -m pip --disable-pip-version-
     --root-user-action=ignore --root "${root:-/}" "${where[@]}" "$room/python"
 packages=("$root$PREFIX"/lib/python3*/dist-packages)
 rm -f "${packages[0]}"/steelnewt-*.dist-info/{INSTALLER,RECORD,REQUESTED,direct_url.json}
-for name in desk-{lint,import,used,evidence,change-roster,roster,demo,relay,relay-person} \
-    desk-{door,signer,verify} "${broker[@]/#/desk-}"; do
+for name in desk-{lint,import,used,evidence,change-roster,change-base,roster,demo,relay} \
+    desk-{relay-person,door,signer,verify} "${broker[@]/#/desk-}"; do
     # (nothing of the caller's environment, or of the folder that it is in, is imported)
     sed -i '1s,.*,#!/usr/bin/python3 -I,' "$root$PREFIX/bin/$name"
 done
@@ -88,6 +89,7 @@ mkdir -p "$root$PREFIX/share/steelnewt-relay/relays"
 ln -sfn ../../../bin/desk-relay "$root$PREFIX/share/steelnewt-relay/relays/desk-relay"
 # The programs that tell people of the relay's news, and what a site begins with.
 ln -sfn ../man1/desk-relay.1 "$root$PREFIX/share/man/man8/desk-relay-person.8"
+ln -sfn desk-change-roster.1 "$root$PREFIX/share/man/man1/desk-change-base.1"
 ln -sfn desk-door.8 "$root$PREFIX/share/man/man8/desk-signer.8"
 ln -sfn ../man8/desk-door.8 "$root$PREFIX/share/man/man1/desk-verify.1"
 for name in notify-mail notify-webhook; do

@@ -36,12 +36,14 @@ MYPYPATH=broker:broker/tests typed broker "${broker[@]}" || status=1
 MYPYPATH=tools:tools/tests typed tools "${tools[@]}" || status=1
 # (hosts may have an older Python)
 typed host --python-version 3.9 "${host[@]}" || status=1
+# (and so may people)
+typed mydesk --python-version 3.8 packaging/mydesk || status=1
 wait "$relays_ended" || status=1
 cat build/types/relays.said
 # (a line may have more than flake8's 79 columns, and a slice a blank before its colon)
 /usr/bin/python3 -m flake8 --extend-ignore=E203,E501 "${relays[@]}" "${broker[@]}" \
-    "${tools[@]}" "${host[@]}" || status=1
-count=$((${#relays[@]} + ${#broker[@]} + ${#tools[@]} + ${#host[@]}))
+    "${tools[@]}" "${host[@]}" packaging/mydesk || status=1
+count=$((${#relays[@]} + ${#broker[@]} + ${#tools[@]} + ${#host[@]} + 1))
 if [ "$status" != 0 ] || [ "$count" -lt 100 ]; then
     echo "$count programs and modules: FAILED"
     exit 1

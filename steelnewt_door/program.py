@@ -12,6 +12,7 @@ import stat
 import sys
 from collections.abc import Iterator
 
+from steelnewt_client.codes import NO_ROUTE
 from steelnewt_client.desk import Silent
 from steelnewt_door.index import Index
 from steelnewt_door.journal import BadJournal, files_of
@@ -142,6 +143,14 @@ def signer_faults(settings: Settings) -> Iterator[str]:
         pass  # (desk_faults says so)
 
 
+def questions_faults(settings: Settings) -> Iterator[str]:
+    """Whether the desk takes messages where it answers questions: they would go past the door."""
+    if settings.questions != settings.desk:
+        said = settings.asked_by_others().post("desk-door", b"").said
+        if said != NO_ROUTE:
+            yield f"{settings.questions} takes messages ({said}): past the door (serve --questions)"
+
+
 def desk_faults(settings: Settings) -> Iterator[str]:
     """Whether the desk answers, and whether anything came past the door."""
     try:
@@ -152,6 +161,7 @@ def desk_faults(settings: Settings) -> Iterator[str]:
         index = Index(os.path.join(settings.journal, "index.db"))
         yield from (f"this came past the door: {it}" for it in held if not index.is_here(it))
         index.close()
+        yield from questions_faults(settings)
     except OSError as fault:
         yield f"there is no desk at {settings.desk}: {fault.strerror}"
     except Silent as fault:

@@ -17,7 +17,7 @@ CONFIG = "/etc/desk/door.toml"
 TEXTS = {
     "site": "",
     "signing": "yes",
-    "desk": "unix:/run/desk/desk.sock",
+    "desk": "unix:/run/desk-posts/desk.sock",
     "questions": "",
     "listen": "unix:/run/desk-door/desk.sock",
     "root": "unix:/run/desk-door/root/desk.sock",
@@ -51,7 +51,12 @@ class Settings:
         return Two(self.judge(), Signers(self.signers), self.rules.changes_by)
 
     def asked(self) -> Desk:
-        """The desk, to be asked."""
+        """The desk, to be asked by the door itself: where messages go, so that whoever asks much at
+        the socket for questions keeps none waiting."""
+        return Desk(f"unix:{self.desk}", "")
+
+    def asked_by_others(self) -> Desk:
+        """The desk at its socket for questions."""
         return Desk(f"unix:{self.questions}", "")
 
     def door(self) -> Door:

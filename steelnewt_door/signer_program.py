@@ -34,6 +34,9 @@ def parser() -> argparse.ArgumentParser:
     )
     found.add_argument("--config", default=CONFIG, help=f"the door's settings (default {CONFIG})")
     found.add_argument("--why", default="", help="kept beside the change, for auditors")
+    found.add_argument("--ticket", default="", help="likewise, under which ticket")
+    said = "likewise, who approved it; may be given again"
+    found.add_argument("--approved-by", action="append", default=[], metavar="NAME", help=said)
     found.add_argument("--yes", action="store_true", help="ask nobody here")
     add_jobs(found.add_subparsers(dest="job", metavar="JOB", required=True))
     return found
@@ -97,8 +100,11 @@ class Job:
     ) -> int:
         """Shows what changes, and makes it hold, or says who has to say yes."""
         by = os.environ.get("SUDO_USER") or str(os.getuid())
-        told = json.dumps({"by": by, "change": what, "why": self.said.why}, sort_keys=True)
-        draft = self.changing.write_draft(signers, revoked, told, krl)
+        told = {"by": by, "change": what, "why": self.said.why}
+        more = {"ticket": self.said.ticket, "approved-by": self.said.approved_by}
+        told |= {word: it for word, it in more.items() if it}
+        change = json.dumps(told, sort_keys=True)
+        draft = self.changing.write_draft(signers, revoked, change, krl)
         print("\n".join(lines_of(self.changing.now(), draft)))
         if needs := self.changing.needs():
             print(f"{needs} of those who sign have to say yes. Send them {draft.path('to-sign')}")

@@ -2,10 +2,7 @@
 
     desk-snapshot STORE        # each message on a line, in byte order
 
-The desk writes its database at a checkpoint alone; between two of them it only adds to the log
-beside it. So a copy of both, between whose beginning and end there was no checkpoint, is what a
-crash would have left then: a whole store, with each message that was acknowledged before. The
-store itself is never opened here, so the desk is not disturbed.
+It is read of a copy (steelnewt_client/stores.py): the desk is not disturbed.
 """
 
 from __future__ import annotations
@@ -14,42 +11,18 @@ import argparse
 import contextlib
 import os
 import pathlib
-import shutil
 import sqlite3
 import sys
 import tempfile
 import time
 
-HEADER = 32  # the log's first bytes: they are others after the log began anew
+from steelnewt_client.stores import TICK, copy_once
+
 TRIES = 50
-# A file's time is that of the system's last tick: a change within one may leave it the same.
-TICK = 0.1
 
 
 class NoSnapshot(Exception):
     """The file is no desk's store, or it changed during each try."""
-
-
-def mark(store: str) -> tuple[int, int, int, bytes]:
-    """What is another after a checkpoint, or after the log began anew."""
-    found = os.stat(store)
-    header = b""
-    with contextlib.suppress(FileNotFoundError), open(store + "-wal", "rb") as log:
-        header = log.read(HEADER)
-    return found.st_ino, found.st_size, found.st_mtime_ns, header
-
-
-def copy_once(store: str, copy: str) -> bool:
-    """Copies the store and its log; whether there was no checkpoint meanwhile."""
-    before = mark(store)
-    if time.time() - before[2] / 1e9 < TICK:
-        return False
-    shutil.copyfile(store, copy)
-    with contextlib.suppress(FileNotFoundError):
-        os.unlink(copy + "-wal")
-    with contextlib.suppress(FileNotFoundError):
-        shutil.copyfile(store + "-wal", copy + "-wal")
-    return mark(store) == before
 
 
 def read_copy(copy: str) -> list[str]:

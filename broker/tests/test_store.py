@@ -13,6 +13,7 @@ import pytest
 from conftest import Scripted
 from desk_broker import snapshot
 from desk_broker.fill import fill
+from steelnewt_client import stores
 from steelnewt_client.desk import Desk
 
 
@@ -91,7 +92,7 @@ def test_a_checkpoint_meanwhile_spoils_the_copy(
             connection.execute("PRAGMA wal_checkpoint(TRUNCATE)")
 
     monkeypatch.setattr(shutil, "copyfile", copy)
-    assert not snapshot.copy_once(str(tmp_path / "desk.db"), str(tmp_path / "copy.db"))
+    assert not stores.copy_once(str(tmp_path / "desk.db"), str(tmp_path / "copy.db"))
     connection.close()
 
 

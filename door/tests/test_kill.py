@@ -185,12 +185,13 @@ def test_a_power_cut_before_a_desk(fresh: Doored) -> None:
 
 @pytest.fixture
 def small(fresh: Doored) -> Iterator[Doored]:
-    """A site whose journal has a small disk of its own."""
+    """A site whose journal has a small disk of its own, which has room for all rows of the long form
+    and for the index, whose log takes 4 MiB."""
     place = str(fresh.folder / "journal")
     fresh.stop_door()
     for path in Path(place).iterdir():
         path.unlink()
-    words = ["mount", "-t", "tmpfs", "-o", "size=3m,mode=0700", "none", place]
+    words = ["mount", "-t", "tmpfs", "-o", "size=12m,mode=0700", "none", place]
     subprocess.run(words, check=True)
     try:
         fresh.start_door()

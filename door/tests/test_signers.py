@@ -112,10 +112,12 @@ def test_who_else_writes_the_folder(still: Doored) -> None:
 
 
 def test_a_change_is_shown_and_kept(still: Doored) -> None:
-    said = still.signer("--why", "new here", "add", "dave", still.public("thief"), "--unproved")
+    reasons = ("--why", "new here", "--ticket", "OPS-7", "--approved-by", "bob")
+    said = still.signer(*reasons, "add", "dave", still.public("thief"), "--unproved")
     assert said.startswith("+ dave ssh-ed25519 SHA256:") and "hold" in said
     said = still.signer("history").splitlines()[-1]
     assert "unproved" in said and "new here" in said
+    assert '"approved-by": ["bob"]' in said and '"ticket": "OPS-7"' in said
     at = Signers(str(still.folder / "signers")).moments()[0]
     assert "dave" not in still.signer("list", "--at", at)
 

@@ -254,4 +254,4 @@ def test_settings_that_cannot_be_used(tmp_path: Path, text: str) -> None:
 
 def test_the_example_of_settings() -> None:
     found = read_settings(str(Path(__file__).resolve().parents[1] / "door.example.toml"))
-    assert found.questions == found.desk and found.rules.is_signing and found.site == SITE
+    assert found.questions != found.desk and found.rules.is_signing and found.site == SITE

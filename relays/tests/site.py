@@ -98,9 +98,9 @@ class Site:
     def store(self) -> Path:
         return self.folder / "desk.db"
 
-    def start_desk(self) -> None:
+    def start_desk(self, *more: str) -> None:
         words = [DESK, "serve", str(self.folder / "site.roster"), str(BASE), str(self.store)]
-        words.append(self.url)
+        words += [self.url, *more]
         self.desk = subprocess.Popen(words, stdout=subprocess.PIPE, text=True)
         assert self.desk.stdout
         first = self.desk.stdout.readline()

@@ -8,6 +8,9 @@
 - **A report** of 100 live grants alone, and beside 100,000 that have ended.
 - **A message and the count after it** (`/v1/count`, which each host asks before its file) beside 40
   messages, and beside 4,000: the count is kept up to date, and not made anew.
+- **Another roster** that an open desk takes, beside 40 messages, and beside 4,000: it is one row of
+  the store. Beside a million, how long it takes; and beside 100,000 no question that comes
+  meanwhile waits longer than a second.
 - **What became of one request** (`/v1/requests/ASKER/NO`) beside 100,000 other messages, and the
   file of a host that has this request's grant alone, of the same desk.
 - **An opening and the first file**: of 100,000 messages the instructions, beside what it costs to
@@ -25,11 +28,13 @@ WORDS run another program than build/desk, and the numbers are for smaller histo
 """
 
 import argparse
+import hashlib
 import os
 import re
 import subprocess
 import sys
 import tempfile
+import threading
 import time
 from collections.abc import Iterator, Sequence
 
@@ -37,6 +42,7 @@ from tests.bench.bench_store import judged
 from tests.common import desk, store_files
 
 LIVE, GRANTS, TOLD = 20, 100, 4_000
+TAKEN = 10  # how many rosters are taken while somebody asks
 BEFORE = 300  # questions before the one that is counted
 OTHERS, ENDED, OPENED, COUNTED = 1_000_000, 100_000, 1_000_000, 100_000
 HOSTS = ["db1", *(f"web{n}" for n in range(40))]
@@ -92,11 +98,16 @@ class Site:
         return path
 
     def serving(
-        self, store: str, *more: str, before: Sequence[str] = (), stderr: int = subprocess.DEVNULL
+        self,
+        store: str,
+        *more: str,
+        before: Sequence[str] = (),
+        stderr: int = subprocess.DEVNULL,
+        takes_orders: bool = False,
     ) -> desk.Server:
         return desk.Server(
             store, *more, program=self.program, roster=self.roster, base=self.base, before=before,
-            stderr=stderr,
+            stderr=stderr, takes_orders=takes_orders,
         )
 
 
@@ -214,6 +225,63 @@ def counts(site: Site, count: int) -> bool:
     return judged(what, many / few, 1.5)
 
 
+def take_another(site: Site, server: desk.Server, number: int = 0) -> None:
+    """An open desk takes another roster. (Its file has the first one again then.)"""
+    first = desk.read(site.roster)
+    text = f"{first}# another, {number}\n".encode()
+    desk.write(site.folder, "roster.toml", text)
+    server.order(text)
+    told = f", roster {hashlib.sha256(text).hexdigest()}\n".encode()
+    if not any(line.endswith(told) for line in server.error):
+        sys.exit("bench_history: the desk did not take another roster")
+    desk.write(site.folder, "roster.toml", first)
+
+
+def taken_counted(site: Site, store: str) -> int:
+    """The instructions of another roster that an open desk takes over a store."""
+    before = [*desk.counting(), "--instr-atstart=no"]
+    with site.serving(
+        store, "--requests", "2", before=before, stderr=subprocess.PIPE, takes_orders=True
+    ) as server:
+        answer(server, COUNT)
+        count(server, "on")
+        take_another(site, server)
+        count(server, "off")
+        answer(server, COUNT)
+        return collected(server)
+
+
+def takings(site: Site, count: int) -> bool:
+    few = taken_counted(site, site.store("few rows", granted(0, 40, "db1")))
+    many = taken_counted(site, site.store("many rows", granted(0, count, "db1")))
+    what = f"another roster, beside {count:,} messages"
+    print(f"{what}: {few:,} instructions beside 40, {many:,} beside all")
+    return judged(what, many / few, 1.5)
+
+
+def waiting(site: Site, count: int) -> bool:
+    """The longest that a question waits while an open desk takes one roster after the other."""
+    store, longest, ended = site.store("waiting", granted(0, count, "db1")), 0.0, threading.Event()
+
+    def ask(server: desk.Server) -> None:
+        nonlocal longest
+        while not ended.is_set():
+            begun = time.perf_counter()
+            answer(server, COUNT)
+            longest = max(longest, time.perf_counter() - begun)
+
+    with site.serving(store, stderr=subprocess.PIPE, takes_orders=True) as server:
+        answer(server, COUNT)
+        asker = threading.Thread(target=ask, args=[server])
+        asker.start()
+        for number in range(TAKEN):
+            take_another(site, server, number)
+        ended.set()
+        asker.join()
+    what = f"a question while one of {TAKEN} rosters is taken, beside {count:,} messages, seconds"
+    return judged(what, longest, 1.0)
+
+
 def opening_counted(site: Site, count: int) -> bool:
     """An opening and the first file, beside reading the messages, in instructions."""
     bodies = [*granted(0, 2 * LIVE, "db1"), *others(count - 2 * LIVE)]
@@ -239,18 +307,22 @@ def opening(site: Site, count: int) -> bool:
     for name, bodies in parts.items():
         store = site.store(name, *bodies)
         begun = time.perf_counter()
-        with site.serving(store) as server:
+        with site.serving(store, stderr=subprocess.PIPE, takes_orders=True) as server:
             opened = time.perf_counter() - begun
             answer(server, FILE)
             first = time.perf_counter() - begun - opened
             answer(server, FILE)
             last = time.perf_counter() - begun - opened - first
             peaks[name] = server.memory()[1] * 1024
+            begun = time.perf_counter()
+            take_another(site, server)
+            taken = time.perf_counter() - begun
         if name == "opened":
             print(
                 f"{count:,} messages: opening {opened:.2f} s, the first file {first * 1e3:.1f} ms,"
-                f" a later one {last * 1e3:.1f} ms; {peaks[name] / 2**20:,.0f} MiB, of which"
-                f" {peaks['none'] / 2**20:.0f} for a desk without messages"
+                f" a later one {last * 1e3:.1f} ms, another roster {taken * 1e3:.1f} ms;"
+                f" {peaks[name] / 2**20:,.0f} MiB, of which {peaks['none'] / 2**20:.0f} for a desk"
+                " without messages"
             )
     each = (peaks["opened"] - peaks["none"]) / count
     return judged(f"opening {count:,} messages and the first file, bytes a message", each, 1_000)
@@ -272,11 +344,11 @@ def main() -> int:
         site = Site(folder, given.words)
         if desk.found("valgrind"):
             wrong += files(site, given.others) + reports(site, given.ended)
-            wrong += one_request(site, given.ended) + counts(site, TOLD)
+            wrong += one_request(site, given.ended) + counts(site, TOLD) + takings(site, TOLD)
             wrong += opening_counted(site, given.counted)
         else:
             print("instructions: left out, for valgrind is not there")
-        wrong += opening(site, given.opened)
+        wrong += waiting(site, given.counted) + opening(site, given.opened)
     return 1 if wrong else 0
 
 

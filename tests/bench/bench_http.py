@@ -10,9 +10,10 @@ with each sync lasting a millisecond at least, as on a drive that keeps what it 
 Then 100,000 exchanges, before and behind which the memory of the desk's process is read; and a
 request of 24,576 bytes, read at once and one byte at a time, each counted in the program's
 instructions (valgrind's callgrind), so that the machine's load does not matter; newlines before a
-request, one at a time; and, by gdb, how often one request's head is looked at and parsed. A part
-whose tools are missing is left out, and said to be. All of it goes to 127.0.0.1, and each loop is
-bounded.
+request, one at a time; and, by gdb, how often one request's head is looked at and parsed. And what
+the count costs beside a base of 1 KiB and one of 1 MiB, and a host's file alone and behind the
+count. A part whose tools are missing is left out, and said to be. All of it goes to 127.0.0.1, and
+each loop is bounded.
 """
 
 import os
@@ -39,6 +40,12 @@ EACH = 1_500
 TURNS, A_TURN = 75, 140
 CLOSES = b"Connection: close\r\n"
 MANY = 100_000
+# what is asked beside a small base and a large one, and how often: for the count, for a host's
+# file, and for both at once
+COUNT, FILE, BOTH = b"/v1/count", b"/v1/hosts/db1/sudoers/%b", b"/v1/hosts/db1/at/%b"
+SINCE = b"20260105093000Z"
+ASKED = {COUNT: 1_500, FILE % SINCE: 60, BOTH % SINCE: 60}
+SMALL, LARGE = 1 << 10, 1 << 20
 
 # Gives each read of a socket one byte. Its own instructions are not counted, and it asks once what
 # a descriptor is.
@@ -350,6 +357,46 @@ def many(folder: str) -> int:
     return int(after > before)
 
 
+def base_of(size: int) -> str:
+    """A base of nearly so many bytes, as it is printed."""
+    first, end = "root ALL = (ALL) ALL\n", " " + " ".join(["a" * 63] * 15)
+    longest = f"u0000 ALL = (root) /bin/ls{end}\n"
+    lines = range((size - len(first)) // len(longest))
+    return first + "".join(f"u{n:04} ALL = (root) /bin/ls{end}\n" for n in lines)
+
+
+def costs_beside(folder: str, size: int) -> dict[bytes, float]:
+    """The seconds of a processor that the desk has for each question, beside a base of this size.
+    (It is asked each once before: the first time it makes what it keeps.)"""
+    roster, _ = files_of(folder)
+    base, costs = desk.write(folder, "large.sudo", base_of(size)), dict[bytes, float]()
+    with desk.Server(roster=roster, base=base) as server:
+        for target, often in ASKED.items():
+            body_of(desk.exchange(server.port, get(target)))
+            begun, _ = times(server.process.pid)
+            rate(server.port, [get(target)] * often)
+            costs[target] = (times(server.process.pid)[0] - begun) / often
+    return costs
+
+
+def counts(folder: str) -> int:
+    """The count costs little more beside a large base than beside a small one, and a host's file
+    behind it little more than the file alone; how many of the two do not hold."""
+    small, large = (costs_beside(folder, size) for size in (SMALL, LARGE))
+    for name, costs in (("1 KiB", small), ("1 MiB", large)):
+        told = ", ".join(f"{target.decode()} {it * 1e6:,.0f} us" for target, it in costs.items())
+        print(f"beside a base of {name}: {told}")
+    wrong = 0
+    for what, figure, most in (
+        ("the count beside 1 MiB", large[COUNT] / small[COUNT], 2),
+        ("the file behind it", large[BOTH % SINCE] / large[FILE % SINCE], 1.5),
+    ):
+        holds = figure <= most
+        print(f"{what}: {figure:.2f}, at most {most:g}: {'holds' if holds else 'FAILS'}")
+        wrong += not holds
+    return wrong
+
+
 def largest() -> bytes:
     """A POST with a head of 8,192 bytes, in 32 fields, and a message of nearly 16,384."""
     body = request(7).replace(
@@ -498,7 +545,7 @@ def looks(folder: str) -> int:
 def main() -> int:
     with tempfile.TemporaryDirectory() as folder:
         wrong = beside_nginx(folder) + many(folder) + bytewise(folder)
-        wrong += newlines(folder) + looks(folder)
+        wrong += newlines(folder) + looks(folder) + counts(folder)
     # (a temporary folder may lie in memory)
     with tempfile.TemporaryDirectory(dir=desk.BUILD) as folder:
         wrong += beside_deliver(folder)

@@ -963,8 +963,8 @@ KINDS: dict[str, Callable[[Table], Iterator[Case]]] = {
     "rebuild": rebuild,
     "review": review_desks,
 }
-# what audit.py runs
-ELSEWHERE = ("audit",)
+# what audit.py and serve.py run
+ELSEWHERE = ("audit", "serve")
 
 
 def table_of(name: str) -> Table:

@@ -3,6 +3,7 @@ messages and rosters that it is given."""
 
 from __future__ import annotations
 
+import hashlib
 import json
 import os
 import re
@@ -131,6 +132,10 @@ def memory_of(pid: int) -> tuple[int, int]:
 # ---- the program, served
 
 
+# with this in its environment a desk takes orders on its standard input
+ORDERS = {"DESK_ORDERS": "stdin"}
+
+
 class Server:
     """A desk as long as the block lasts: on loopback, at a port that the system chooses, or at the
     address that is named, as `unix:/PATH`."""
@@ -147,11 +152,15 @@ class Server:
         environment: Mapping[str, str] | None = None,
         must_listen: bool = True,
         listen: str = "127.0.0.1:0",
+        takes_orders: bool = False,
     ) -> None:
         """`before` are words that start the program; without `must_listen` the port may be 0."""
         words = [*before, *program, "serve", roster, base, store, listen, *more]
+        orders = None
+        if takes_orders:
+            orders, environment = subprocess.PIPE, {**(environment or os.environ), **ORDERS}
         self.process = subprocess.Popen(
-            words, stdout=subprocess.PIPE, stderr=stderr, env=environment
+            words, stdin=orders, stdout=subprocess.PIPE, stderr=stderr, env=environment
         )
         assert self.process.stdout is not None
         said = self.process.stdout.readline()
@@ -188,6 +197,12 @@ class Server:
         """The server's standard error, which was asked for as a pipe."""
         assert self.process.stderr is not None
         return self.process.stderr
+
+    def order(self, roster: bytes) -> None:
+        """Has a desk that takes orders take its roster's file, which has this text."""
+        assert self.process.stdin is not None
+        self.process.stdin.write(f"roster {hashlib.sha256(roster).hexdigest()}\n".encode())
+        self.process.stdin.flush()
 
     def memory(self) -> tuple[int, int]:
         """What the process has in memory, in KiB, and the most that it had."""

@@ -77,29 +77,34 @@ def pour(source: socket.socket, target: socket.socket) -> None:
         target.shutdown(socket.SHUT_RDWR)
 
 
-def placed(text: str, folder: str, port: int, address: str) -> str:
+def placed(text: str, folder: str, port: int, address: str, questions: str = "") -> str:
     """A configuration of examples/ with its files, its port and the desk's address put in place,
-    and less patience with a body that stops. The accounts of a package's machine are not here."""
+    that for questions if it is another one, and less patience with a body that stops. The accounts
+    of a package's machine are not here."""
     text = text.replace("/etc/desk/front", os.path.join(folder, "ca")).replace(
         "/var/log/nginx", folder
     )
     text = re.sub(r"(listen|bind) \S*443 ", rf"\1 127.0.0.1:{port} ", text)
     text = re.sub(r"(client_body_timeout +)10s", r"\g<1>2s", text)
     text = re.sub(r"(?m)^    (user|group) .*\n", "", text)
-    assert SOCKET in text
-    return text.replace(f"unix:{SOCKET}", address).replace(
-        f"unix@{SOCKET}", address.replace("unix:", "unix@", 1)
-    )
+
+    def at(found: re.Match[str]) -> str:
+        place = address if found[2] else questions or address
+        return place.replace("unix:", f"unix{found[1]}", 1)
+
+    text, count = re.subn(rf"unix([:@]){SOCKET}(?=(.*# messages)?)", at, text)
+    assert count == 2, text
+    return text
 
 
-def nginx_words(folder: str, port: int, address: str) -> list[str]:
+def nginx_words(folder: str, port: int, address: str, questions: str = "") -> list[str]:
     """Writes the whole configuration of an nginx that has the example's."""
     temp = "".join(
         f"{name}_temp_path {folder}/{name};"
         for name in ("client_body", "proxy", "fastcgi", "uwsgi", "scgi")
     )
     with open(NGINX, encoding="utf-8") as file:
-        example = placed(file.read(), folder, port, address)
+        example = placed(file.read(), folder, port, address, questions)
     head = f"user root; worker_processes 2; daemon off; pid {folder}/pid;"
     head += f" error_log {folder}/error.log;"
     with open(os.path.join(folder, "nginx.conf"), "w", encoding="utf-8") as file:
@@ -115,9 +120,9 @@ def nginx_words(folder: str, port: int, address: str) -> list[str]:
     ]
 
 
-def haproxy_words(folder: str, port: int, address: str) -> list[str]:
+def haproxy_words(folder: str, port: int, address: str, questions: str = "") -> list[str]:
     with open(HAPROXY, encoding="utf-8") as file:
-        example = placed(file.read(), folder, port, address)
+        example = placed(file.read(), folder, port, address, questions)
     path = os.path.join(folder, "haproxy.cfg")
     with open(path, "w", encoding="utf-8") as file:
         file.write(example)

@@ -38,10 +38,12 @@ ROUTES = (
     (rb"/v1/requests", "GET", "requests"),
     (rb"/v1/requests/after/([^/]+)", "GET", "requests after"),
     (rb"/v1/requests/([^/]+)/([^/]+)", "GET", "request"),
+    (rb"/v1/open/([^/]+)", "GET", "open"),
     (rb"/v1/grants/([^/]+)", "GET", "grants"),
     (rb"/v1/parked", "GET", "parked"),
     (rb"/v1/hosts/([^/]+)/sudoers", "GET", "file"),
     (rb"/v1/hosts/([^/]+)/sudoers/([^/]+)", "GET", "file after"),
+    (rb"/v1/hosts/([^/]+)/at/([^/]+)", "GET", "file at"),
     (rb"/v1/reviews/([^/]+)", "GET", "report"),
 )
 
@@ -129,7 +131,7 @@ def asks(given: bytes) -> tuple[Asked, bool]:
         return (*fault, None), bare
     if what == "request" and not (NAME.fullmatch(found[1]) and NUMBER.fullmatch(found[2])):
         return ("404 Not Found", "T3 NoRoute", None), bare
-    dated = ("grants", "report", "file after", "requests after")
+    dated = ("grants", "report", "file after", "file at", "requests after", "open")
     if what in dated and not is_moment(found[found.re.groups]):
         return ("400 Bad Request", "T8 BadMoment", None), bare
     return (what, found[1] if found.groups() else None), bare

@@ -16,10 +16,13 @@ from tests.common import desk
 
 PEERS = os.path.join(desk.BUILD, "sudoers-peers")
 OF_PACKAGES = os.path.join(desk.BUILD, "sudoers-packages")
+# all of Debian 12's that have a file for sudo below /etc, by its lists of contents: 27 files
 PACKAGES = """\
-sudo biglybtd cinder-common ctdb debci designate-common freedombox glance-store-common
-hobbit-plugins ironic-common ironic-inspector libkf5su-data manila-common masakari-monitors-common
-neutron-common nova-common open-infrastructure-compute-tools openstack-cluster-installer x2goserver
+sudo apt-dater-host biglybtd ceilometer-instance-poller ceph-base cinder-common ctdb debci
+designate-common freedombox fvwm-crystal glance-store-common hobbit-plugins ironic-common
+ironic-inspector libkf5su-data manila-common masakari-monitors-common neutron-common nova-common
+open-infrastructure-compute-tools openstack-cluster-installer pconsole x2gobroker-ssh x2goserver
+zvmcloudconnector-common
 """.split()
 WANTED = ("*/regress/sudoers/test*.in", "*/regress/cvtsudoers/sudoers*", "*/examples/sudoers.in")
 SOURCES = """\
@@ -101,6 +104,8 @@ def fetch_packages(folder: str) -> list[tuple[str, bytes]]:
 def kept(folder: str, fetch: Callable[[str], list[tuple[str, bytes]]]) -> list[str]:
     """The paths of the files in a folder, which are fetched the first time."""
     if not os.path.isdir(folder):
+        # (where DESK names a program of another folder, there may be no build yet)
+        os.makedirs(desk.BUILD, exist_ok=True)
         with tempfile.TemporaryDirectory() as room:
             files = fetch(room)
             new = tempfile.mkdtemp(prefix=f"{os.path.basename(folder)}.", dir=desk.BUILD)

@@ -186,7 +186,7 @@ def http(page: Page) -> None:
     with desk.Server(program=[PROGRAM], listen=f"unix:{path}") as server:
         place, *asked = [it.replace("/run/desk/desk.sock", path) for it in page.blocks()[1:]]
         posted, request, became, audited, messages, count, grants, parked, files = asked[:9]
-        later, fetched, review = asked[9:12]
+        later, review = asked[9:11]
         shown = page.blocks("")
         page.holds("an approval", page.out(place + posted) == "ack\n", page.run(place + posted))
         body = shown[0].split("\n\n")[1].strip()
@@ -208,8 +208,8 @@ def http(page: Page) -> None:
         for what, block in (("the files", files), ("a file after a moment", later)):
             said = page.out(place + block)
             page.holds(what, said.startswith("dba ALL = (postgres) ALL\n"), said)
-        fetch(page, fetched)
-        page.holds("a report", whole(page, place + review) == shown[4].strip(), shown[4])
+        said = page.out(place + review)
+        page.holds("a report", said == shown[4], said)
         refused = next(it for it in asked if it.startswith("$ ")).splitlines()
         said = whole(page, place + refused[0].removeprefix("$ ").replace(" -i ", " "))
         page.holds("a refusal", said == "\n".join(refused[1:]).strip(), said)
@@ -225,17 +225,6 @@ def counted(page: Page, said: str, shown: str) -> None:
     begins = [re.escape(it.removesuffix("..")) for it in shown.split()]
     is_shown = re.fullmatch(r"\S* ".join(begins) + r"\S*\n", said) is not None
     page.holds("the count that is shown", is_shown, f"{shown} {said}")
-
-
-def fetch(page: Page, block: str) -> None:
-    """A host's fetch, of a desk at a port in place of a front."""
-    with desk.Server(program=[PROGRAM]) as server:
-        words = block.replace("/etc/sudoers.d/desk", "fetched").replace(
-            "--cert host.pem --key host.key --ca ca.pem https://desk.example",
-            f"--state kept http://{server.address}",
-        )
-        ran = page.run(words)
-    page.holds("a fetch", "dba ALL" in page.file("fetched"), ran)
 
 
 def whole(page: Page, block: str) -> str:
@@ -285,7 +274,7 @@ def auditing(page: Page) -> None:
     page.says("`ann db1 root 20260105091500Z /usr/bin/id` and status 1")
     page.holds("beyond", said.endswith("\nann db1 root 20260105091500Z /usr/bin/id\n1\n"), said)
     page.says(
-        "a delivery by somebody whom the roster does not list is refused (`A1`)",
+        "is never under `BARRED`: it is refused (`A1`)",
         "The hosts and commands stand in the request",
     )
     gone = desk.approval(by="zoe")

@@ -49,6 +49,7 @@ TYPED: list[tuple[list[str], set[str]]] = [
     (["desk-evidence", "--year", ""], set()),
     (["desk-change-roster", "rost"], {"roster.toml"}),
     (["desk-change-roster", "--give"], {"--give-back"}),
+    (["desk-change-base", "--ti"], {"--ticket"}),
     (["desk-roster", "--pe"], {"--people"}),
     (["desk-roster", "--on", ""], set()),
     (["desk-demo", "--d"], {"--desk"}),

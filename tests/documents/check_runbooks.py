@@ -42,6 +42,7 @@ STAND_INS = {
     # the service, started as its unit starts it; INSTANCE, STORE and ADDR make a second one
     "systemctl": """#!/bin/bash
 pid=/run/${INSTANCE:-desk}.pid log=/run/${INSTANCE:-desk}.log
+door=/etc/systemd/system/desk.service.d/door.conf
 state() { sed -n 's/^State:\\s*//p' "/proc/$1/status" 2> /dev/null | cut -c 1; }
 runs() { case $(state "$1") in '' | Z) return 1 ;; esac; }
 stop() {
@@ -53,8 +54,11 @@ stop() {
 start() {
     : > "$log"
     [ -d /run/desk ] || install -d -o desk -g desk-front -m 0750 /run/desk
+    [ -n "$ADDR" ] || [ ! -e /etc/desk/serve.conf ] || . /etc/desk/serve.conf
+    [ ! -e "$door" ] || $(sed -n 's/^ExecStartPre=+//p' "$door")
     setsid setpriv --reuid desk --regid desk-front --groups desk env "PATH=$PATH" \\
-        "STORE=$STORE" "ADDR=$ADDR" /usr/local/bin/desk-serve > "$log" 2>&1 < /dev/null &
+        "STORE=$STORE" "ADDR=$ADDR" "QUESTIONS=$QUESTIONS" \\
+        /usr/local/bin/desk-serve > "$log" 2>&1 < /dev/null &
     echo $! > "$pid"
     for _ in $(seq 1200); do
         grep -q 'listening at' "$log" && return 0
@@ -63,6 +67,10 @@ start() {
     done
     cat "$log" >&2
     return 1
+}
+reload() {
+    setpriv --reuid desk --regid desk-front --groups desk /usr/local/bin/desk-serve --base &&
+        kill -HUP "$(cat "$pid")"
 }
 halt() {
     # (`nginx -t` leaves an empty one)
@@ -83,6 +91,7 @@ case $* in
     'stop desk') stop ;;
     'start desk') start ;;
     'restart desk') stop; start ;;
+    'reload desk') reload ;;
     'stop nginx') halt ;;
     'start nginx') nginx ;;
     'restart nginx') halt; nginx ;;
@@ -237,56 +246,32 @@ def with_lines(lines: str) -> str:
     return text
 
 
-def change(room: Room, roster: str) -> tuple[desk.Run, desk.Run]:
-    """The runbook of a changed roster: what would change, and the change."""
+def change(room: Room, roster: str) -> desk.Run:
+    """The runbook's one command, and a person who says yes."""
     room.write(f"{BOOK}/new.toml", roster)
-    heading = "A roster is changed"
-    return room.follow(heading, 1), room.follow(heading, 2)
+    says_yes = 'desk-change-roster() { echo y | command desk-change-roster "$@"; }\n'
+    return room.follow("A roster is changed", 0, says_yes)
 
 
 def by_one_command(room: Room) -> None:
-    """The runbook's one command, and a person who says yes."""
-    heading = "A roster is changed"
     asked, approved = granted_now()
     room.begin(asked, approved)
-    new = with_lines("bob = []")
-    room.write(f"{BOOK}/new.toml", new)
-    says_yes = 'desk-change-roster() { echo y | command desk-change-roster "$@"; }\n'
-    room.says(heading, "it shows which grants change, asks, rebuilds, starts the desk")
-    done = room.follow(heading, 0, says_yes)
+    old, new = room.read(FILES[0]), with_lines("bob = []")
+    before = room.text(f"/v1/grants/{near(0)}")
+    room.says("A roster is changed", "it shows which grants", "If it ends with status 3")
+    done = change(room, new)
     room.holds("it is changed", done.returncode == 0, done)
     shown = re.search(r"ENDS\nann 7 .*\n(?s:.*) bob counts no more \(duty\)\n", done.stdout)
     room.holds("what ends", shown is not None, done)
     room.holds("it is there", room.read(FILES[0]) == new)
     room.holds("it is not granted", room.text(f"/v1/grants/{near(0)}") == "")
-    compared = "cat /etc/desk/rosters/*Z.toml | cmp - /etc/desk/roster.toml"
-    kept = room.run(f"ls -l /var/lib/desk; {compared}")
-    others = [line for line in kept.stdout.splitlines()[1:] if " desk desk" not in line]
-    room.holds("the desk's own store", not others, kept)
-    room.holds("a copy by its moment", kept.returncode == 0, kept)
-    room.run("rm -r /etc/desk/rosters")
-
-
-def roster_changed(room: Room) -> None:
-    asked, approved = granted_now()
-    room.begin(asked, approved, desk.request(3, by="carol"))
-    before = room.text(f"/v1/grants/{near(0)}")
-    shown, made = change(room, with_lines('bob = []\ncarol = ["approve-db"]\n'))
-    room.says("A roster is changed", "A line `line N: A..`", "`rebuild` prints `ok`")
-    found = re.findall(r"^([<>] [a-z]+ +[37] .*)$", shown.stdout, re.MULTILINE)
-    barred = [line.split() for line in found if line.startswith(">")]
-    room.holds("what was in force", found[0].startswith("< ann"), shown.stdout)
-    room.holds("who counts no more", barred == [["> ann 7 bob duty".split()][0]], shown.stdout)
-    named = re.search(r"^line [1-3]: A3 NotAsker$", shown.stderr, re.MULTILINE)
-    room.holds("a request that is not admitted", named is not None, shown.stderr)
-    room.holds("rebuilt", (made.stdout, made.returncode) == ("ok\n", 0), made)
-    kept = room.run("cd /etc/desk/rosters && ls && cat *Z.toml | cmp - /etc/desk/roster.toml")
-    is_kept = re.fullmatch(r"\d{14}Z\.toml\n", kept.stdout) is not None
-    room.holds("the roster is kept", is_kept and kept.returncode == 0, kept)
-    room.holds("it is not granted", room.text(f"/v1/grants/{near(0)}") == "")
-    room.says("A roster is changed", "same with `/root/old.toml`: the desk answers as before")
-    done = room.follow("A roster is changed", 2, "cp /root/old.toml /root/new.toml")
-    room.holds("rebuilt with the old one", done.stdout == "ok\n", done)
+    kept = room.run("ls -lR /var/lib/desk; cat /var/lib/desk/history/*/roster.toml")
+    lines = [it for it in kept.stdout.splitlines() if re.match(r"[-d][rwx-]{9}", it)]
+    room.holds("the desk's own store", all(" desk desk" in it for it in lines), kept)
+    room.holds("both are in the history", old + new in kept.stdout, kept)
+    room.says("A roster is changed", "give it the earlier one of `/var/lib/desk/history`")
+    done = change(room, old + "# again\n")
+    room.holds("and back", done.returncode == 0, done)
     room.holds("as before", room.text(f"/v1/grants/{near(0)}") == before != "", before)
 
 
@@ -297,8 +282,8 @@ def leaver(room: Room) -> None:
     room.begin(*asked)
     question = "/v1/grants/20260105093000Z"
     before = room.text(question)
-    _, made = change(room, with_lines(line))
-    room.holds("the roster is taken", made.stdout == "ok\n", made)
+    made = change(room, with_lines(line))
+    room.holds("the roster is taken", made.returncode == 0, made)
     room.says(heading, "what they approved up to that day stays approved", "refused (`A3`)")
     room.holds("what was asked before stays", room.text(question) == before != "", before)
     last = {"at": "20261125235959Z", "from": "20261127000000Z", "until": "20261127010000Z"}
@@ -306,8 +291,8 @@ def leaver(room: Room) -> None:
     answers = room.post(desk.request(8, **last), desk.request(9, **late))
     room.holds("what is asked after it", answers == ["ack\n", "A3 NotAsker\n"], answers)
     approver = line.replace("ann", "bob").replace("operate", "approve")
-    _, made = change(room, with_lines(approver))
-    room.holds("an approver leaves", made.stdout == "ok\n", made)
+    made = change(room, with_lines(approver))
+    room.holds("an approver leaves", made.returncode == 0, made)
     room.holds("what was approved before stays", room.text(question) == before, before)
     room.says(heading, "`desk review` lists under `BARRED` an approval without the duty")
     room.post(desk.approval(8, at="20261126000000Z"))
@@ -614,7 +599,7 @@ def second_front(room: Room, place: str) -> None:
     for first, second in (
         ("listen 443 ", "listen 8443 "),
         ("/server.", "/server-desk2.example."),
-        (f"http://unix:{SOCKET};", f"http://unix:{place};"),
+        ("http://$desk_at;", f"http://unix:{place};"),
     ):
         room.holds(f"the front has {first}", first in server)
         server = server.replace(first, second)
@@ -758,7 +743,6 @@ def authority_lost(room: Room) -> None:
 
 BOOKS = (
     by_one_command,
-    roster_changed,
     leaver,
     on_call,
     revoked,
@@ -789,7 +773,7 @@ def prepare_tools(room: Room) -> None:
     folder, name = os.path.split(PROGRAM)
     audit = os.path.join(folder, name.replace("desk", "desk-audit", 1))
     shutil.copy(audit, room.path("/usr/local/bin/desk-audit"))
-    for source in ("steelnewt_client", "steelnewt_relay", "relays", "tools"):
+    for source in ("steelnewt_client", "steelnewt_relay", "relays", "tools", "packaging"):
         place = f"/usr/local/share/desk/{source}"
         shutil.copytree(os.path.join(desk.ROOT, source), room.path(place), dirs_exist_ok=True)
         programs = ("desk-relay", "desk-relay-person", "desk-change-roster", "desk-lint")
@@ -811,6 +795,7 @@ def prepare(room: Room) -> None:
     for source, name in (
         (PROGRAM, "desk"),
         (os.path.join(desk.ROOT, "packaging", "desk-serve"), "desk-serve"),
+        (os.path.join(desk.ROOT, "packaging", "desk-history"), "desk-history"),
         (os.path.join(desk.EXAMPLES, "front-ca.sh"), "front-ca.sh"),
     ):
         shutil.copy(source, room.path(f"/usr/local/bin/{name}"))

@@ -38,9 +38,10 @@ NEEDED += " python3-itsdangerous python3-jsonschema python3-pip python3-setuptoo
 NEEDED += " python3-waitress sqlite3 sudo"
 PEOPLE = ("ann", "ben", "carol")
 AT_DOOR = "/run/desk-door/desk.sock"
+AT_POSTS = "/run/desk-posts/desk.sock"
 MINUTES = {"two": 2, "three": 3, "five": 5, "eight": 8, "ten": 10, "thirty": 30, "forty": 40}
 SSH = "Host desk\n    HostName desk.example\n    User desk-relay\n"
-# what systemd does of the door's unit, and of the desk's with the door's file beside it
+# what systemd does of the door's unit
 DOOR = """door() {
     if [ -e /run/door.pid ]; then
         kill "$(cat /run/door.pid)"
@@ -59,7 +60,6 @@ DOOR = """door() {
     cat /tmp/desk-door.log >&2
     return 1
 }
-group=$(sed -n s/^Group=//p /etc/systemd/system/desk.service.d/door.conf 2> /dev/null)
 """
 UNITS = """case $* in
     daemon-reload) ;;
@@ -115,8 +115,7 @@ def packages(room: Room) -> None:
 def prepare(room: Room, is_built: bool) -> None:
     """A machine on which nothing of the desk is installed, and the accounts of its people."""
     os.mkdir(room.path(BOOK))
-    units = STAND_INS["systemctl"].replace("desk-front", '"${group:-desk-front}"')
-    units = units.replace("case $* in\n", DOOR + UNITS)
+    units = STAND_INS["systemctl"].replace("case $* in\n", DOOR + UNITS)
     units = units.replace("/usr/local/bin/desk-serve", "/usr/libexec/steelnewt/desk-serve")
     stand_ins = {"systemctl": units, "ssh": STAND_INS["ssh"].replace("db1", "prod1")}
     if is_built:
@@ -195,17 +194,23 @@ def install(page: Page, room: Room) -> None:
 
 
 def door(page: Page, room: Room) -> None:
-    """The desk is served, and nobody but the door and root reaches it."""
+    """The desk is served, and nobody but the door and root can bring it a message: who asks goes on
+    at the desk, where none is taken."""
     done = page.next("sh")
     room.holds("the desk and its door", done.returncode == 0, done)
     room.holds("it answers", len(room.text("/v1/count").split()) == 3)
     for account in ("desk-relay", "www-data", "nobody"):
         may = f"setpriv --reuid {account} --regid $(id -g {account}) --init-groups curl -sS -m 60"
-        past = room.run(f"{may} --unix-socket {SOCKET} http://desk/v1/count")
-        room.holds(f"{account} at the desk's own socket", past.returncode == 7, past)
-        through = room.run(f"{may} --unix-socket {AT_DOOR} http://desk/v1/count")
+        past = room.run(f"{may} --unix-socket {AT_POSTS} http://desk/v1/count")
+        room.holds(f"{account} where the desk takes messages", past.returncode == 7, past)
         is_open = account != "nobody"
-        room.holds(f"{account} at the door", (through.returncode == 0) == is_open, through)
+        for place in (SOCKET, AT_DOOR):
+            asked = room.run(f"{may} --unix-socket {place} http://desk/v1/count")
+            room.holds(f"{account} at {place}", (asked.returncode == 0) == is_open, asked)
+        posts = f"--data-binary x --unix-socket {SOCKET} http://desk/v1/relays/chat/messages"
+        said = room.run(f"{may} {posts}")
+        told = "T3 NoRoute\n" if is_open else ""
+        room.holds(f"{account} posts past the door", said.stdout == told, said)
 
 
 def host(page: Page, room: Room) -> None:
@@ -272,8 +277,10 @@ def audited(page: Page, room: Room) -> None:
     changed = "No grant changes" in done.stdout and "serves the new roster" in done.stdout
     room.holds("the change", done.returncode == 0 and changed, done)
     room.holds("eric", '\neric = ["operate"]\n' in room.read("/etc/desk/roster.toml"))
-    kept = room.run("ls /etc/desk/rosters")
-    room.holds("both rosters are kept", len(kept.stdout.split()) == 2, kept)
+    kept = room.run("wc -l < /var/lib/desk/history/moments")
+    room.holds("both rosters are kept", kept.stdout.strip() == "2", kept)
+    why = room.run("cat /var/lib/desk/history/*/change")
+    room.holds("and why", "why eric joins\n" in why.stdout, why)
     room.holds("no block is left", not page.blocks, page.blocks)
     size = len(TEXT.encode())
     room.holds(f"it has at most {MOST} bytes", size <= MOST, size)

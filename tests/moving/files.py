@@ -13,6 +13,10 @@ GROUPS = {
     "helpdesk": ("pam",),
     "admin": ("carol",),
     "debci": ("ci",),
+    "fvwm-crystal": ("olga",),
+    "pconsole": ("op",),
+    "x2gobroker": (),
+    "x2gobroker-users": ("pam",),
     "nobodyinit": (),
 }
 MORE = "/etc/sudoers.ops"  # the file that the first site's includes
@@ -87,6 +91,7 @@ ci ALL = (root) NOPASSWD: /usr/bin/apt-get clean
 %helpdesk ALL = /usr/sbin/usermod -U *, /usr/bin/chage -l *, /usr/bin/lastlog
 %nobodyinit ALL = (root) ALL
 pam ALL = /usr/bin/lastlog -u pam
+pam, pam, %helpdesk ALL = (op) NOPASSWD: /bin/ls, !/sbin/fdisk, /bin/df -h
 """,
     ),
     File(

@@ -31,7 +31,8 @@ NEEDED = "adduser,ca-certificates,curl,faketime,haproxy,nginx-light,openssl,pyth
 NEEDED += ",python3-jsonschema,sqlite3,openssh-client,tzdata,python3-flask,python3-waitress"
 NEEDED += ",python3-pika,strace,sudo,systemd"
 DOC = "/usr/share/doc/steelnewt"
-TOOLS = ("desk-lint", "desk-import", "desk-used", "desk-change-roster", "desk-roster")
+TOOLS = ("desk-lint", "desk-import", "desk-used", "desk-roster")
+TOOLS += ("desk-change-roster", "desk-change-base")
 NAMES = ("steelnewt", "steelnewt-host", "steelnewt-host-plugin", "steelnewt-tools")
 NAMES += ("python3-steelnewt-client",)
 RELAY, BROKER = "steelnewt-relay", "steelnewt-broker"
@@ -41,6 +42,7 @@ STORE = "/var/lib/desk/desk.db"
 SOCKET = "unix:/run/desk/desk.sock"
 SECOND = "unix:/run/desk/second.sock"
 AT_DOOR, AT_DOORS_ROOT = (f"/run/desk-door/{it}desk.sock" for it in ("", "root/"))
+AT_POSTS = "/run/desk-posts/desk.sock"  # where the desk takes messages behind a door
 STEP = "\n(account|session)\trequired\t+pam_exec.so .*/usr/sbin/desk-host prompt"
 DPKG = ["dpkg", "--force-unsafe-io", "--no-triggers"]  # quick: the root is thrown away
 DESK = ["setpriv", "--reuid", "desk", "--regid", "desk", "--clear-groups", "desk"]
@@ -186,7 +188,8 @@ def tools(trial: Trial) -> None:
         status=1,
         says="    lost: /usr/bin/less: NOEXEC: ",
     )
-    trial.check("the base", base.endswith("\nann db1 = (root) /bin/ls\n"), base)
+    # (/bin is a link there)
+    trial.check("the base", base.endswith("\nann db1 = (root) /usr/bin/ls\n"), base)
     said = "\ndb1 eve as root  once"
     told = trial.does("desk-used", "sh", "-c", AUDITED, status=1, says=said)
     trial.check("a grant that was used", "  used twice\n" in told, told)
@@ -312,8 +315,12 @@ def traced(trial: Trial) -> None:
 
 def empty(trial: Trial) -> None:
     """Takes away what a part left in the desk's folder."""
-    for name in os.listdir(trial.path("/var/lib/desk")):
-        os.unlink(trial.path(f"/var/lib/desk/{name}"))
+    with os.scandir(trial.path("/var/lib/desk")) as held:
+        for it in held:
+            if it.is_dir(follow_symlinks=False):
+                shutil.rmtree(it.path)
+            else:
+                os.unlink(it.path)
 
 
 def bad_starts(trial: Trial) -> None:
@@ -729,13 +736,20 @@ def relay(trial: Trial) -> None:
 
 
 def behind_a_door(trial: Trial) -> None:
-    """By SIGNING's line the desk's own socket opens to the door and root alone, as the units start
-    both; the door's opens to the front and the relay, who get nothing that is not signed."""
+    """By SIGNING's lines the socket that takes messages opens to the door and root alone, as the
+    units start both; front and relay ask at the desk's other one, which takes no message, and bring
+    messages to the door's, where nothing is taken that is not signed."""
     page = desk.read("docs", "SIGNING.md").splitlines()
-    (line,) = [it for it in page if it.startswith("install -D ") and it.endswith("/door.conf")]
-    trial.does("the desk's socket is the door's", "sh", "-c", line)
+    settings = trial.read("/etc/desk/serve.conf")
+    for begins, ends in (("install -D ", "/door.conf"), ("sed -i ", "/etc/desk/serve.conf")):
+        (line,) = [it for it in page if it.startswith(begins) and it.endswith(ends)]
+        trial.does(f"a line of SIGNING: {begins}", "sh", "-c", line)
+    starts = service.settings_of(trial.root, "desk.service")["ExecStartPre"]
+    (makes,) = [it for it in starts if it.startswith("+/usr/bin/install ")]
+    trial.does("the folder for messages", *makes.lstrip("+").split())
     running = Service(trial)
-    running.wait_ready()
+    told = running.wait_ready().decode()
+    trial.check("the desk listens for messages", f"listening at unix:{AT_POSTS}" in told, told)
     made = service.make_runtime(trial.root, "desk-door.service")
     (before,) = service.settings_of(trial.root, "desk-door.service")["ExecStartPre"]
     as_door = ["setpriv", "--reuid", "desk-door", "--regid", "desk-front", "--clear-groups"]
@@ -747,8 +761,13 @@ def behind_a_door(trial: Trial) -> None:
     for account, is_open in (("www-data", True), ("desk-relay", True), ("nobody", False)):
         group = trial.run("id", "-gn", account).stdout.strip()
         becomes = ["setpriv", "--reuid", account, "--regid", group, "--init-groups"]
-        trial.does(f"{account} at the desk", *becomes, *asking(SOCKET[5:]), status=7)
-        trial.does(f"{account} at the door", *becomes, *asking(AT_DOOR), status=0 if is_open else 7)
+        status, posts = 0 if is_open else 7, asking(SOCKET[5:], "/v1/relays/chat/messages")
+        trial.does(f"{account} at the socket for messages", *becomes, *asking(AT_POSTS), status=7)
+        trial.does(f"{account} at the desk", *becomes, *asking(SOCKET[5:]), status=status)
+        trial.does(f"{account} at the door", *becomes, *asking(AT_DOOR), status=status)
+        said = "^T3 NoRoute$" if is_open else ""
+        words = [*becomes, *posts, "--data-binary", desk.approval()]
+        trial.does(f"{account} posts past the door", *words, status=status, says=said)
         trial.does(f"{account} at root's", *becomes, *asking(AT_DOORS_ROOT), status=7)
     relay = ["setpriv", "--reuid", "desk-relay", "--regid", "desk-relay", "--init-groups"]
     revoke = desk.approval(kind="revoke")
@@ -765,9 +784,10 @@ def behind_a_door(trial: Trial) -> None:
     door.terminate()
     said, _ = door.communicate(timeout=PATIENCE)
     trial.check("the door ends", door.returncode == 0 and "ended, as it was" in said, said)
-    service.remove(made)
+    service.remove([*made, trial.path("/run/desk-posts")])
     running.stop()
     os.unlink(trial.path("/etc/systemd/system/desk.service.d/door.conf"))
+    trial.write("/etc/desk/serve.conf", settings)
     empty(trial)
 
 

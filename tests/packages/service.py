@@ -138,7 +138,7 @@ def start(
     writable = [
         *more,
         *(f"/var/lib/{each}" for each in settings.get("StateDirectory", [])),
-        *settings.get("ReadWritePaths", []),
+        *(it.removeprefix("-") for it in settings.get("ReadWritePaths", [])),
     ]
     mounts = "".join(f"mount --rbind {each} {each} && " for each in writable)
     mounts += "".join(read_only(each) for each in settings.get("ReadOnlyPaths", []))

@@ -22,6 +22,7 @@ import sys
 import tempfile
 import threading
 import time
+from collections.abc import Callable
 
 from tests.common import desk, front, outsider
 from tests.common.ports import free_port
@@ -74,10 +75,14 @@ ROUTES = [
     ("GET", "/v1/hosts/db1/sudoers/20260105110000Z", None, ("host", "db1")),
     ("HEAD", "/v1/hosts/db1/sudoers/20260105110000Z", None, ("host", "db1")),
     ("GET", "/v1/hosts/db2/sudoers/20260105110000Z", None, ("host", "db2")),
+    ("GET", "/v1/hosts/db1/at/20260105110000Z", None, ("host", "db1")),
+    ("HEAD", "/v1/hosts/db1/at/20260105110000Z", None, ("host", "db1")),
+    ("GET", "/v1/hosts/db2/at/20260105110000Z", None, ("host", "db2")),
     ("GET", "/v1/count", None, ("host auditor", None)),
     ("HEAD", "/v1/count", None, ("host auditor", None)),
     ("GET", "/v1/reviews/20260105093000Z", None, ("auditor", None)),
     ("HEAD", "/v1/grants/20260105093000Z", None, ("auditor", None)),
+    ("GET", "/v1/open/20260105093000Z", None, ("auditor", None)),
     ("GET", "/v1/parked", None, ("auditor", None)),
     ("GET", "/v1/messages", None, ("auditor", None)),
     ("HEAD", "/v1/messages", None, ("auditor", None)),
@@ -98,6 +103,11 @@ ROUTES = [
     ("GET", "/v1/hosts/db1/sudoers/1Z/20260105110000Z", None, None),
     ("GET", "/v1/hosts/db1/sudoers/20260105110000Zx", None, None),
     ("POST", "/v1/hosts/db1/sudoers/20260105110000Z", message(3), None),
+    ("GET", "/v1/hosts/db1/at", None, None),
+    ("GET", "/v1/hosts/db1/at/20260105110000Z/", None, None),
+    ("GET", "/v1/hosts/db1/at/1Z/20260105110000Z", None, None),
+    ("POST", "/v1/hosts/db1/at/20260105110000Z", message(3), None),
+    ("GET", "/v1/open/20260105093000Z?x", None, None),
     ("GET", "/v1/relays/chat/messages", None, None),
     ("PUT", "/v1/relays/chat/messages", message(3), None),
     ("POST", "/v1/count", message(3), None),
@@ -627,6 +637,33 @@ def passed_on(folder: str, port: int, recorder: front.Recorder) -> tuple[int, in
     return 1, 0
 
 
+def apart(folder: str, words_of: Callable[..., list[str]]) -> tuple[int, int]:
+    """Messages go to one socket, and questions to another: nothing comes to the wrong one."""
+    port, found = free_port(), []
+    with served(folder) as server, tempfile.TemporaryDirectory() as places:
+        at = [front.Recorder(server.address, os.path.join(places, it)) for it in ("post", "ask")]
+        with front.front(words_of(folder, port, at[0].address, at[1].address), port):
+            for name, method, route, body in (
+                ("relay-chat", "POST", "/v1/relays/chat/messages", desk.approval().encode()),
+                ("host-db1", "GET", "/v1/hosts/db1/sudoers", None),
+                ("host-db1", "HEAD", "/v1/count", None),
+                ("auditor-carol", "GET", "/v1/messages", None),
+            ):
+                given = request(method, route, body)
+                reply = front.exchange(front.context(folder, name), port, given)
+                found.append((route, status(reply) == "200", reply))
+        until = time.monotonic() + 60
+        while sum(len(it.requests) for it in at) < 4 and time.monotonic() < until:
+            time.sleep(0.05)
+        for recorder, methods in zip(at, ({b"POST"}, {b"GET", b"HEAD"}), strict=True):
+            heard = {it.partition(b" ")[0] for it in recorder.requests if it}
+            found.append((recorder.address, heard == methods, heard))
+    wrong = [(what, said) for what, is_right, said in found if not is_right]
+    for what, said in wrong:
+        print(f"messages and questions apart, {what}: {said!r}")
+    return len(found), len(wrong)
+
+
 def under_haproxy(folder: str) -> list[tuple[int, int]]:
     port = free_port()
     with served(folder) as server:
@@ -668,9 +705,9 @@ def main() -> None:
     with tempfile.TemporaryDirectory() as folder:
         os.chmod(folder, 0o755)
         make_certificates(folder)
-        counts = [second_server(folder), *under_nginx(folder)]
+        counts = [second_server(folder), *under_nginx(folder), apart(folder, front.nginx_words)]
         if os.path.exists(front.HAPROXY):
-            counts += under_haproxy(folder)
+            counts += [*under_haproxy(folder), apart(folder, front.haproxy_words)]
         counts.append(ended_list(folder))
     asked, wrong = (sum(each) for each in zip(*counts, strict=True))
     print(f"through the front the desk was asked {asked} times: {wrong} otherwise than they say")

@@ -103,6 +103,11 @@ ASKED: list[tuple[list[str | bytes], tuple[str, bytes]]] = [
     (["/v1/requests/nobody/999999999"], ("200 OK", NO_NAME)),
     (["/v1/requests/after/20260105110001Z"], ("200 OK", NO_NAME)),
     (["/v1/requests/after/20260105"], ("400 Bad Request", b"T8 BadMoment\n")),
+    (["--head", "/v1/open/20260105110000Z"], ("200 OK", b"")),
+    (["/v1/open/20260105110001Z"], ("200 OK", NO_NAME)),
+    (["/v1/open/20260105"], ("400 Bad Request", b"T8 BadMoment\n")),
+    (["/v1/open/"], ("404 Not Found", b"T3 NoRoute\n")),
+    (["-X", "DELETE", "/v1/open/20260105"], ("405 Method Not Allowed", b"T4 BadMethod\n")),
     (["/v1/requests/after/7"], ("400 Bad Request", b"T8 BadMoment\n")),
     (["/v1/requests/after/2026010504-0500"], ("400 Bad Request", b"T8 BadMoment\n")),
     (["/v1/requests/"], ("404 Not Found", b"T3 NoRoute\n")),
@@ -130,6 +135,16 @@ ASKED: list[tuple[list[str | bytes], tuple[str, bytes]]] = [
     (["/v1/hosts/db1/sudoers/"], ("404 Not Found", b"T3 NoRoute\n")),
     (["/v1/hosts/db1/sudoers/20260105110000Z/"], ("404 Not Found", b"T3 NoRoute\n")),
     (["/v1/hosts//sudoers/20260105110000Z"], ("404 Not Found", b"T3 NoRoute\n")),
+    (["--head", "/v1/hosts/db1/at/20260105110000Z"], ("200 OK", b"")),
+    (["/v1/hosts/db9/at/20260105110000Z"], ("404 Not Found", b"P2 UnknownHost\n")),
+    (["/v1/hosts/DB1/at/20260105110000Z"], ("404 Not Found", b"P2 UnknownHost\n")),
+    (["/v1/hosts/db1/at/20260105"], ("400 Bad Request", b"T8 BadMoment\n")),
+    (["/v1/hosts/db1/at/"], ("404 Not Found", b"T3 NoRoute\n")),
+    (["/v1/hosts/db1/at"], ("404 Not Found", b"T3 NoRoute\n")),
+    (
+        ["-X", "DELETE", "/v1/hosts/db1/at/20260105110000Z"],
+        ("405 Method Not Allowed", b"T4 BadMethod\n"),
+    ),
     (
         ["-X", "DELETE", "/v1/hosts/db1/sudoers/20260105"],
         ("405 Method Not Allowed", b"T4 BadMethod\n"),
@@ -482,6 +497,37 @@ def of_one(whole: bytes, name: tuple[str, int]) -> tuple[list[dict[str, object]]
     )
 
 
+def without_approvers(entries: list[dict[str, object]]) -> list[dict[str, object]]:
+    return [{key: it for key, it in each.items() if key != "may_approve"} for each in entries]
+
+
+def is_open_right(body: bytes, after: bytes, begun: bytes, moment: str) -> bool:
+    """What is open at a moment is what desk-audit tells from then on of names that somebody asks
+    under, but for who may approve; that is told for the moment, as desk-audit tells it up to then
+    of what has begun."""
+    made, wanted = json.loads(body), json.loads(after)
+    asked = [each for each in wanted["names"] if each["status"] != "parked"]
+    own = {(each["by"], each["no"]): each for each in json.loads(begun)["names"]}
+    return (
+        without_approvers(made["names"]) == without_approvers(asked)
+        and made["windows"] == wanted["windows"]
+        and all(own.get((each["by"], each["no"]), each) == each for each in made["names"])
+        and all(each["may_approve"]["at"] == moment for each in made["names"] if "lacks" in each)
+    )
+
+
+def ask_open(address: str, roster: str, base: str, listed: bytes, moment: str) -> bool:
+    """Asks for what is open at the moment, and says whether that is wrong."""
+    target = f"/v1/open/{moment}"
+    status, _, body = reply_of(by_curl(address, [target]))
+    after = told(roster, base, listed, ["--from", moment])
+    begun = told(roster, base, listed, ["--until", moment])
+    if status == "200 OK" and is_open_right(body, after, begun, moment):
+        return False
+    print(f"{target}: {status} {body!r}, beside {after!r} and {begun!r}")
+    return True
+
+
 def ask_audits(address: str, roster: str, base: str) -> Counts:
     """What became of the requests is what desk-audit prints of the same messages: byte for byte
     for all requests and for those after a moment, and for each name its part of the whole
@@ -494,6 +540,7 @@ def ask_audits(address: str, roster: str, base: str) -> Counts:
         target = f"/v1/requests/after/{moment}"
         wanted = ("200 OK", told(roster, base, listed, ["--from", moment]))
         wrong += not check(target, by_curl(address, [target]), wanted)
+        wrong += ask_open(address, roster, base, listed, moment)
     names = {(each["by"], each["no"]) for each in json.loads(whole)["names"]}
     for by, no in sorted(names | {("ann", 77)}):
         target = f"/v1/requests/{by}/{no}"
@@ -502,7 +549,7 @@ def ask_audits(address: str, roster: str, base: str) -> Counts:
         if status != "200 OK" or (made["names"], made["windows"]) != of_one(whole, (by, no)):
             wrong += 1
             print(f"{target}: {body!r}, not {of_one(whole, (by, no))}")
-    return 2 + len(moments) + len(names), wrong
+    return 2 + 2 * len(moments) + len(names), wrong
 
 
 def ask_own_audits(address: str) -> Counts:
@@ -726,8 +773,9 @@ def check_file(address: str) -> Counts:
 
 def ask_later_files(address: str) -> Counts:
     """The host's file after a moment: a grant's line is there up to the last moment of its window,
-    and not after it; all else stays."""
+    and not after it; all else stays. The same comes behind the line of the count."""
     _, _, whole = reply_of(by_curl(address, ["/v1/hosts/db1/sudoers"]))
+    _, _, count = reply_of(by_curl(address, ["/v1/count"]))
     wrong, rows = 0, [
         ("19700101000000Z", whole),
         ("20260105110000Z", whole),
@@ -740,7 +788,12 @@ def ask_later_files(address: str) -> Counts:
             by_curl(address, [f"/v1/hosts/db1/sudoers/{moment}"]),
             ("200 OK", wanted),
         )
-    return len(rows), wrong
+        wrong += not check(
+            f"the count and the file after {moment}",
+            by_curl(address, [f"/v1/hosts/db1/at/{moment}"]),
+            ("200 OK", count + wanted),
+        )
+    return 2 * len(rows), wrong
 
 
 def fetch(words: Sequence[str], file: str) -> tuple[int, str]:

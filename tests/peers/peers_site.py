@@ -3,16 +3,18 @@
 
 A store that is made is named. A file, a stream or an address that fails is named with its cause. A
 device without an end, a folder, a file past its limit and a line without an end take no memory.
-`rebuild` says which grants change, as desk-change-roster does. `desk-serve` takes another base at
-SIGHUP only where the desk would, and its --check names each fault of a site. `desk-audit` answers
-while its store is written without a pause. `python3 -m tests.peers.peers_site WORDS..` runs another
-program than build/desk; `--only PART..` before them tries some of the parts. desk-audit stands
-beside the program, or AUDIT names it.
+`rebuild` says which grants change, as desk-change-roster does. `desk-serve` takes another roster
+and another base at SIGHUP only where the desk would, and its --check names each fault of a site.
+`desk-audit` answers while its store is written without a pause.
+
+`python3 -m tests.peers.peers_site WORDS..` runs another program than build/desk; `--only PART..`
+before them tries some of the parts. desk-audit stands beside the program, or AUDIT names it.
 """
 
 from __future__ import annotations
 
 import contextlib
+import hashlib
 import json
 import os
 import random
@@ -458,6 +460,11 @@ class Served:
             return body if head.startswith(b"HTTP/1.1 200 ") else b""
         return b""
 
+    def post(self, body: str) -> None:
+        with desk.connected(self.address, PATIENCE) as peer:
+            peer.sendall(desk.posted(b"chat", body.encode()))
+            assert desk.received(peer).endswith(b"ack\n"), body
+
     def ask(self, word: str) -> tuple[str, int]:
         """What the program says with this word, and its status."""
         done = subprocess.run(
@@ -483,7 +490,7 @@ def site_of(words: list[str], folder: str) -> Iterator[Served]:
 
 def reloads(count: Count, words: list[str], folder: str) -> None:
     """At SIGHUP a base is taken that the desk takes; else the old one is served, and the log says
-    why. Another roster is not taken."""
+    why."""
     line = "dave db1 = (root) /usr/bin/true\n"
     with site_of(words, folder) as served:
         served.start()
@@ -508,10 +515,6 @@ def reloads(count: Count, words: list[str], folder: str) -> None:
         desk.write(os.path.dirname(served.base), "base.sudo", heavy)
         refused("a base past a limit", "K6 BaseTooLarge")
         desk.write(os.path.dirname(served.base), "base.sudo", text + line)
-        shown = desk.read("examples", "roster.toml")
-        desk.write(os.path.dirname(served.roster), "roster.toml", shown + "# later\n")
-        refused_roster(count, served, old)
-        desk.write(os.path.dirname(served.roster), "roster.toml", shown)
         count.same("a base that it takes: asked before", served.ask("--base"), ("", 0))
         served.hang_up()
         wanted = old + line.encode()
@@ -524,13 +527,135 @@ def reloads(count: Count, words: list[str], folder: str) -> None:
         count.same("it ends as before", served.end(), 0)
 
 
-def refused_roster(count: Count, served: Served, old: bytes) -> None:
-    begun = len(served.said())
-    served.hang_up()
-    told = "a new one is desk-change-roster's"
-    is_told = comes(lambda: told in served.said()[begun:], PATIENCE) is not None
-    count.holds("another roster: the log says what to do", is_told, served.said()[begun:])
-    count.same("another roster: the old desk is served", served.file(), old)
+def reloads_early(count: Count, words: list[str], folder: str) -> None:
+    """SIGHUP before the desk is opened ends nothing: it is opened over what is there then, and its
+    history has that."""
+    with site_of(words, folder) as served:
+        served.start()
+        begun = comes(lambda: "starting over" in served.said(), PATIENCE) is not None
+        count.holds("it begins", begun, served.said())
+        for _ in range(5):
+            served.hang_up()
+            time.sleep(0.02)
+        count.holds("it serves", comes(served.file, PATIENCE) is not None, served.said())
+        lines = desk.read(os.path.dirname(served.store), "history", "moments").splitlines()
+        wanted = [digest_of(desk.read("examples", "roster.toml"))]
+        count.same("the history", [it.split(" ")[1] for it in lines], wanted)
+        count.same("it ends as before", served.end(), 0)
+
+
+ROSTERS = 40  # how many rosters a served desk is to take while it is asked
+PAIRS = 10  # how often one roster is to follow right behind another
+
+
+def digest_of(text: str) -> str:
+    return hashlib.sha256(text.encode()).hexdigest()
+
+
+def takes_rosters(count: Count, words: list[str], folder: str) -> None:
+    """At SIGHUP a served desk takes another roster, and goes on: the same process, with the same
+    messages, answers by it. One that is none, or that is another one by the time the desk reads it,
+    is not taken."""
+    shown = desk.read("examples", "roster.toml")
+    with site_of(words, folder) as served:
+        room = os.path.dirname(served.roster)
+        served.start()
+        count.holds("it serves", comes(served.file, PATIENCE) is not None, served.said())
+        for body in (desk.request(), desk.approval()):
+            served.post(body)
+        granted = served.file()
+        count.holds("a grant is there", granted.count(b"ann") > 0, granted)
+
+        def takes(title: str, text: str, told: str) -> None:
+            begun = len(served.said())
+            desk.write(room, "roster.toml", text)
+            served.hang_up()
+            is_told = comes(lambda: told in served.said()[begun:], PATIENCE) is not None
+            count.holds(f"{title}: the log says so", is_told, served.said()[begun:])
+
+        def serves(text: str) -> str:
+            return f"serving 2 messages, roster {digest_of(text)}"
+
+        takes("a roster that is none", "=", "O1 NotToml")
+        count.same("a roster that is none: the old one is served", served.file(), granted)
+        later = shown + "# later\n"
+        takes("a comment more", later, serves(later))
+        count.same("a comment more: the same file", served.file(), granted)
+        short = shown.replace("longest = 7200", "longest = 60")
+        takes("a shorter window", short, serves(short))
+        count.holds("a shorter window: it lapses", b"ann" not in served.file(), served.file())
+        takes("the first roster again", shown, serves(shown))
+        count.same("the first roster again: the grant is back", served.file(), granted)
+        said = served.said()
+        count.same("one process served all the time", said.count("listening at"), 1)
+        count.same("it ends as before", served.end(), 0)
+        told = answer([*words, "print", served.roster, served.base, served.store, "db1"])
+        count.same("the store has the last roster", told, (granted.decode(), "", 0))
+
+
+def takes_both(count: Count, words: list[str], folder: str) -> None:
+    """Where roster and base have changed, both are taken; where a roster follows right behind
+    another one, the last one is."""
+    shown, text = (desk.read("examples", name) for name in ("roster.toml", "site.sudo"))
+    line, last = "dave db1 = (root) /usr/bin/true\n", shown + "# with a base\n"
+    with site_of(words, folder) as served:
+        room = os.path.dirname(served.roster)
+        served.start()
+        count.holds("it serves", comes(served.file, PATIENCE) is not None, served.said())
+        wanted = served.file() + line.encode()
+        desk.write(room, "roster.toml", last)
+        desk.write(room, "base.sudo", text + line)
+        served.hang_up()
+        took = comes(lambda: served.file() == wanted, PATIENCE)
+        count.holds("a roster and a base: the base is served", took is not None, served.said())
+        count.holds("and the roster", f"roster {digest_of(last)}" in served.said(), served.said())
+        for number in range(PAIRS):
+            begun = len(served.said())
+            for place in (1, 2):
+                last = f"{shown}# {number}, {place}\n"
+                desk.write(room, "roster.toml", last)
+                served.hang_up()
+            told = f"serving 0 messages, roster {digest_of(last)}"
+            took = comes(lambda at=begun, it=told: it in served.said()[at:], PATIENCE)
+            count.holds("the second of two is served", took is not None, served.said()[begun:])
+        count.same("it was opened again for the base", served.said().count("listening at"), 2)
+        count.same("it ends as before", served.end(), 0)
+        status = answer([*words, "print", served.roster, served.base, served.store, "db1"])[2]
+        count.same("the store has the last roster", status, 0)
+
+
+def asks_meanwhile(count: Count, words: list[str], folder: str) -> None:
+    """While a served desk takes one roster after the other, each answer is by one of them, and none
+    is lost."""
+    shown = desk.read("examples", "roster.toml")
+    both = (shown, shown.replace("longest = 7200", "longest = 60"))
+    with site_of(words, folder) as served:
+        served.start()
+        comes(served.file, PATIENCE)
+        for body in (desk.request(), desk.approval()):
+            served.post(body)
+        wanted, found, ended = {served.file()}, set[bytes](), threading.Event()
+
+        def ask() -> None:
+            while not ended.is_set():
+                found.add(served.file())
+
+        asker = threading.Thread(target=ask)
+        asker.start()
+        for number in range(ROSTERS):
+            text = both[1 - number % 2]
+            begun = len(served.said())
+            desk.write(os.path.dirname(served.roster), "roster.toml", text)
+            served.hang_up()
+            told = f"roster {digest_of(text)}"
+            if comes(lambda at=begun, it=told: it in served.said()[at:], PATIENCE) is None:
+                count.holds(f"roster {number} is taken", False, served.said()[begun:])
+                break
+            if number == 0:
+                wanted.add(served.file())
+        ended.set()
+        asker.join()
+        count.same("each answer is by one of both rosters", found, wanted)
 
 
 ELSEWHERE = """
@@ -604,6 +729,10 @@ def checks(count: Count, words: list[str], folder: str) -> None:
     site("no number of syncs", "F2 BadWord: ADDR, SYNC", SYNC="thrice")
     site("a site that syncs twice", SYNC="twice")
     site("a socket in no folder", "F1 FileFailed: there is no folder", ADDR="unix:/none/desk.sock")
+    site("no form of an address for questions", "F2 BadWord: ADDR", QUESTIONS="nowhere")
+    told = "F1 FileFailed: there is no folder /none for the socket of QUESTIONS"
+    site("a socket for questions in no folder", told, QUESTIONS="unix:/none/desk.sock")
+    site("a folder that is made at the start", QUESTIONS="unix:/run/desk-posts/desk.sock")
     with contextlib.closing(socket.create_server(("127.0.0.1", free_port()))) as other:
         address = f"127.0.0.1:{other.getsockname()[1]}"
         site("an address that is taken", f"F1 FileFailed: the address {address}", ADDR=address)
@@ -615,6 +744,7 @@ def checks(count: Count, words: list[str], folder: str) -> None:
         other.listen()
         told = f"F1 FileFailed: the address unix:{place}"
         site("a socket that is taken", told, ADDR=f"unix:{place}")
+        site("a socket for questions that is taken", told, QUESTIONS=f"unix:{place}")
     site("a socket that nobody has", ADDR=f"unix:{place}")
     store = made_store(words, os.path.join(folder, "locked.db"), desk.request().encode())
     with store_files.taken(store):
@@ -641,6 +771,25 @@ def syncs(count: Count, words: list[str], folder: str) -> None:
             count.holds(f"it serves with {given}", is_up, served.said())
             last = desk.read(said).splitlines()[-1]
             count.holds(f"as {given} says", last.endswith(f" --sync {wanted}"), last)
+
+
+def questions(count: Count, words: list[str], folder: str) -> None:
+    """`desk-serve` has the desk answer questions where QUESTIONS says, and no message is taken."""
+    with site_of(words, folder) as served:
+        place = f"unix:{os.path.dirname(served.base)}/questions.sock"
+        served.environment["QUESTIONS"] = place
+        served.start()
+        is_up = comes(served.file, PATIENCE) is not None
+        count.holds("it serves with QUESTIONS", is_up, served.said())
+        is_told = f"desk: listening at {place} for questions\n" in served.said()
+        count.holds("it says where", is_told, served.said())
+        file, served.address = served.file(), place
+        count.same("the same file at both", served.file(), file)
+        with desk.connected(place, PATIENCE) as peer:
+            peer.sendall(desk.posted(b"chat", desk.request().encode()))
+            said = desk.received(peer)
+        count.holds("no message", said.endswith(b"\r\n\r\nT3 NoRoute\n"), said)
+        count.same("it ends", served.end(), 0)
 
 
 # ---- desk-audit beside a desk that is written to
@@ -683,8 +832,13 @@ PARTS = (
     longer_and_shorter,
     struck_out,
     reloads,
+    reloads_early,
+    takes_rosters,
+    takes_both,
+    asks_meanwhile,
     checks,
     syncs,
+    questions,
     audit_meanwhile,
 )
 

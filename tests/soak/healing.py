@@ -3,15 +3,19 @@
 
 The package's `desk-serve` runs the desk. While peers post and ask, a call on the store's file fails
 (a write, a read, a sync), once or for a while; another program locks the file while the desk is
-opened again; the file is gone. Each time the desk answers posts and questions again at most 5 s
-after the fault's end, without what a busy machine adds, and what it acknowledged is there. A store
-that is gone is never begun anew. `python3 -m tests.soak.healing WORDS..` runs another program than
-build/desk; `--only PART..` before them tries some of the parts, and `--whole` more places.
+opened again; the file is gone; the desk is to take another roster meanwhile, or is killed then and
+started again. Each time the desk answers posts and questions again at most 5 s after the fault's
+end, without what a busy machine adds, and what it acknowledged is there. A store that is gone is
+never begun anew.
+
+`python3 -m tests.soak.healing WORDS..` runs another program than build/desk; `--only PART..` before
+them tries some of the parts, and `--whole` more places.
 """
 
 from __future__ import annotations
 
 import contextlib
+import hashlib
 import os
 import signal
 import sqlite3
@@ -32,12 +36,15 @@ LISTED = desk.asked(b"GET", b"/v1/messages")
 ACK = b"\r\n\r\nack\n"
 MOST = 5.0 * max(1.0, PATIENCE / 60)  # seconds after a fault's end
 LASTS = 1.5  # seconds of a fault
+ORDERED = 6  # another roster is taken in fewer calls on the store's files
+KILLS = 40  # of a desk, each a millisecond later after an order to take a roster
+ORDER = "has the desk take the roster "  # what desk-serve says as it orders
 
 
 class Service:
     """`desk-serve` over a store and a desk whose calls on files fail as planned."""
 
-    def __init__(self, words: list[str], folder: str) -> None:
+    def __init__(self, words: list[str], folder: str, roster: str) -> None:
         self.plan = Plan(folder)
         self.store = os.path.join(folder, "desk.db")
         self.address = f"unix:{folder}/desk.sock"
@@ -46,14 +53,14 @@ class Service:
         text = f"#!/bin/sh\n{held}exec {' '.join(words)} \"$@\"\n"
         name = desk.write(folder, "failing-desk", text)
         os.chmod(name, 0o755)
-        held_by = {"DESK": name, "ROSTER": desk.ROSTER, "BASE": desk.BASE}
+        held_by = {"DESK": name, "ROSTER": roster, "BASE": desk.BASE}
+        self.environment = {**os.environ, **held_by, "STORE": self.store, "ADDR": self.address}
         self.log = open(os.path.join(folder, "log"), "w+", encoding="utf-8")
-        self.process = subprocess.Popen(
-            [SERVE],
-            env={**os.environ, **held_by, "STORE": self.store, "ADDR": self.address},
-            stdout=self.log,
-            stderr=subprocess.STDOUT,
-        )
+        self.process = self.started()
+
+    def started(self) -> subprocess.Popen[bytes]:
+        out, err = self.log, subprocess.STDOUT
+        return subprocess.Popen([SERVE], env=self.environment, stdout=out, stderr=err)
 
     def ask(self, given: bytes) -> bytes:
         """The reply; nothing where nobody answers."""
@@ -85,9 +92,9 @@ class Service:
 
 
 @contextlib.contextmanager
-def serving(words: list[str]) -> Iterator[Service]:
+def serving(words: list[str], roster: str = desk.ROSTER) -> Iterator[Service]:
     with tempfile.TemporaryDirectory(dir=desk.MEMORY) as folder:
-        service = Service(words, folder)
+        service = Service(words, folder, roster)
         try:
             yield service
         finally:
@@ -238,7 +245,69 @@ def gone(count: Count, words: list[str], _: int) -> None:
         count.holds("it says so", f"{service.store} is gone" in service.said(), service.last())
 
 
-PARTS = (fail_calls, lock, gone)
+def order(count: Count, service: Service, text: str, place: int) -> None:
+    """The roster's file has this text now. The desk is to take it while calls on the store's file
+    fail, from this one on, for a while."""
+    begun, told = len(service.said()), f", roster {hashlib.sha256(text.encode()).hexdigest()}"
+
+    def is_taken() -> bool:
+        return told in service.said()[begun:]
+
+    service.plan.set(CALLS, place)
+    service.process.send_signal(signal.SIGHUP)
+    comes(lambda: is_taken() or "the roster stays: " in service.said()[begun:], PATIENCE)
+    time.sleep(LASTS)
+    service.plan.clear()
+    if comes(is_taken, MOST) is None:  # (the storage was back before the desk ended)
+        service.process.send_signal(signal.SIGHUP)
+    is_there = comes(is_taken, PATIENCE) is not None
+    count.holds(f"call {place} fails: the roster is taken at last", is_there, service.last())
+
+
+def ordered(count: Count, words: list[str], step: int) -> None:
+    """The storage fails while the desk takes another roster: the desk has it once the storage is
+    back, and nobody has to rebuild the store."""
+    shown = desk.read("examples", "roster.toml")
+    with tempfile.TemporaryDirectory(dir=desk.MEMORY) as room:
+        roster = desk.write(room, "roster.toml", shown)
+        with serving(words, roster) as service:
+            acked = [begin(count, service)]
+            for number, place in enumerate(range(1, 25 if step == 1 else ORDERED)):
+                text = f"{shown}# {number}\n"
+                desk.write(room, "roster.toml", text)
+                order(count, service, text, place)
+                heals(count, f"call {place} fails at a roster", service, acked, 300 + number)
+            carried_out = service.said().count("gives the store the roster ")
+            count.holds("an order was carried out later", carried_out > 0, service.last())
+            count.same("the service ends", service.end(), 0)
+
+
+def killed(count: Count, words: list[str], step: int) -> None:
+    """The desk is killed while it takes another roster, and its service is started again, as
+    systemd does that: the desk has the roster, and nobody has to rebuild the store."""
+    shown = desk.read("examples", "roster.toml")
+    with tempfile.TemporaryDirectory(dir=desk.MEMORY) as room:
+        roster = desk.write(room, "roster.toml", shown)
+        with serving(words, roster) as service:
+            acked = [begin(count, service)]
+            for number in range(0, KILLS, step):
+                text, begun = f"{shown}# {number}\n", len(service.said())
+                desk.write(room, "roster.toml", text)
+                service.process.send_signal(signal.SIGHUP)
+                comes(lambda at=begun: ORDER in service.said()[at:], PATIENCE)
+                time.sleep(number / 1000)
+                for child in children(service.process.pid):
+                    with contextlib.suppress(ProcessLookupError):
+                        os.kill(child, signal.SIGKILL)
+                title = f"killed {number} ms after an order"
+                count.same(title, service.process.wait(PATIENCE), 128 + signal.SIGKILL)
+                service.process = service.started()
+                heals(count, title, service, acked, 600 + number)
+                told = f", roster {hashlib.sha256(text.encode()).hexdigest()}"
+                count.holds(f"{title}: it serves the roster", told in service.said(), told)
+
+
+PARTS = (fail_calls, lock, gone, ordered, killed)
 
 
 def main() -> int:

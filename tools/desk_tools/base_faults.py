@@ -12,69 +12,23 @@ from desk_tools import explain
 from desk_tools.base_risks import risks
 from desk_tools.found import Fault, Warning, coded
 from desk_tools.judge import NoDesk
+from desk_tools.likely_words import COMMENT, likely, without
 from desk_tools.warnings import real_path
 
-MOST_FAULTS = 64
+MOST_FAULTS, MOST_WORDS = 64, 8
 ANSWER = re.compile(r"(S[0-9]+) (\w+)(?: line ([0-9]+))?\n")
 # what ends a search, since it is a fault of the whole
 OF_ALL = ("S1", "S10", "S11")
 DEFINES = re.compile(r"(?:User|Runas|Host|Cmnd|Cmd)_Alias[ \t]")
 NAME = re.compile(r"(?:^|:)[ \t]*([A-Z][A-Z0-9_]*)[ \t]*=")
 PATH = re.compile(r"(?<![^\s,!:=)])/[^\s,:=]*")
-# (a # in a word begins none, nor does #1000 or #include: the desk refuses them)
-COMMENT = re.compile(r"(?:(?<=\s)|^)#(?![0-9]|include).*")
 CONTINUES = re.compile(rb"\\[ \t]*\Z")
+BLANK_BEHIND = re.compile(rb"(?<=\\)[ \t]+\Z")
 LATE = re.compile(r"[ \t]*\\[ \t]*")
 UNPREFIXED = (
     "the base's aliases have no prefix in common that ends in _: a host that defines an alias of "
     "this name too takes its own, and others gain rights: begin each with one, as DESK_"
 )
-# words that the desk does not read, where each is likely: its form, and what to do
-LIKELY: dict[str, list[tuple[str, str]]] = {
-    "S9": [
-        (r"^[ \t]*Defaults\b.*", "leave it in the hosts' own /etc/sudoers"),
-        (r"[@#]include(?:dir)?\b.*", "write the lines of that file here"),
-        (r"(?<![^\s,!(])%:?[^\s,=:)]+", "name the group's users, or write an alias of them"),
-        (r"(?<![^\s,!(])\+[^\s,=:)]+", "name the users or hosts of the netgroup"),
-        (r"(?<![^\s,!(])#-?[0-9]+", "write the user's name"),
-        (
-            r"\b(?:NO)?(?:EXEC|SETENV|LOG_INPUT|LOG_OUTPUT|MAIL|FOLLOW|INTERCEPT)[ \t]*:",
-            "a base has the tags NOPASSWD and PASSWD alone: without NOEXEC or INTERCEPT the command "
-            "may open a shell, so leave it out; leave out any other tag",
-        ),
-        (
-            r"\b(?:TIMEOUT|CWD|CHROOT|ROLE|TYPE|PRIVS|LIMITPRIVS|APPARMOR_PROFILE)[ \t]*=[^\s,]*",
-            "leave the command out, or the option, if that is meant",
-        ),
-        (r"\bsha(?:224|256|384|512)\b[^,]*", "list the command without its digest, or not at all"),
-        (r"[^\s,]*sudoedit\b[^\s,]*", "leave it out: it edits any file"),
-        (r"\([^)]*:[^)]*\)", "name target users alone, without a group"),
-        (r"\([ \t]*\)", "name the target user"),
-        (r"[^\s,]*[*?\[\]^$][^\s,]*", "list full paths, a directory, and the arguments"),
-        (r"\"(?!\")[^\"]*\"", "write plain words: only \"\" stands between quotes"),
-        (
-            r"(?<![\w/.])[a-z][\w-]*\.[\w.-]+(?=[ \t]*(?:=|,[^=()/]*=))",
-            "write the short name of the host",
-        ),
-        (r"(?<![\w.])(?:[0-9]+(?:\.[0-9]+){3}|[0-9A-Fa-f]*:[0-9A-Fa-f:]+)(?:/[0-9.]+)?", "write short host names"),
-        (r"(?<=[\s,=])list(?=[ \t,:]|$)", "leave it out: it shows what others may do"),
-    ],
-    "S3": [
-        (r"(?<![^\s,!(])[A-Za-z_][\w.-]{32,}", "a name has up to 32 bytes"),
-        (r"(?<![^\s,!(])[A-Z][\w.-]*[a-z][\w.-]*", "a name has lower-case letters alone"),
-        (r"/[^\s,]*(?://|/\.\.?(?=/|[\s,]|$))[^\s,]*", "no part of a path is empty, . or .."),
-    ],
-    "S8": [
-        (
-            r"NOT(?:BEFORE|AFTER)[ \t]*=[ \t]*[^\s,]*",
-            "write a moment of the calendar in UTC, as 20260105090000Z, or with an offset as +0100",
-        ),
-    ],
-    "S7": [(r"_Alias[ \t]+(?P<word>[A-Z_]+)", "the word is reserved: choose another name")],
-    "S6": [(r"_Alias[ \t]+(?P<word>[A-Z0-9_]+)", "each name is defined once in its kind")],
-    "S5": [(r"(?<![\w])[A-Z][A-Z0-9_]*(?![\w])", "define the alias on a line above, in its kind")],
-}
-KNOWN = {"ALL", "NOPASSWD", "PASSWD", "NOTBEFORE", "NOTAFTER", "Z"}
 
 
 @dataclass
@@ -96,7 +50,7 @@ class Base:
                 break
             code, line = found
             self.answer = self.answer or coded(code)
-            self.faults.append(self.fault(code, line, lines))
+            self.faults += self.of_line(code, line, lines)
             if code in OF_ALL or not line or line > len(lines):
                 break
             self.take_out(lines, line)
@@ -121,25 +75,56 @@ class Base:
             raise NoDesk(f"{self.desk} check fails: {ran.stderr.strip()}")
         return found[1], int(found[3] or 0)
 
-    def fault(self, code: str, line: int, lines: list[bytes]) -> Fault:
-        """The fault in the words of whoever wrote the line."""
-        text = logical(lines, line)
-        word, remedy = likeliest(code, text)
+    def of_line(self, code: str, line: int, lines: list[bytes]) -> list[Fault]:
+        """The faults of a line in the words of whoever wrote it; without a word that is likely, the
+        line's own."""
+        text = COMMENT.sub("", logical(lines, line))
         bad = re.search(r"[^\t\n -~]", text)
         if code == "S2" and bad:
-            word, remedy = bad[0], "write plain ASCII: no such byte may stand in a base"
-        return Fault(line, code, "", word, remedy or explain.to_do(code))
+            found = [(bad[0], "write plain ASCII: no such byte may stand in a base")]
+        else:
+            found = self.words(code, line, lines, text)
+        found = found or [(text.strip(), explain.to_do(code))]
+        return [Fault(line, code, "", word, remedy) for word, remedy in found]
+
+    def words(
+        self, code: str, line: int, lines: list[bytes], text: str
+    ) -> list[tuple[str, str]]:
+        """The words of a line without which the desk does not refuse it so; the likeliest where it
+        does without all of them."""
+        first, last = span(lines, line)
+
+        def is_refused(held: list[bytes]) -> bool:
+            rest = [b""] * (last - first + 1 - len(held))
+            changed = [*lines[: first - 1], *held, *rest, *lines[last:]]
+            return self.asked(b"\n".join(changed)) == (code, line)
+
+        joins = [BLANK_BEHIND.sub(b"", it) for it in lines[first - 1 : last]]
+        if joins != lines[first - 1 : last] and not is_refused(joins):
+            return [("\\", "no blank stands behind it at the end of a line")]
+        taken: dict[str, str] = {}
+        left = text
+        for word, remedy in likely(code, text):
+            changed = without(left, [word])
+            if changed != left and len(taken) < MOST_WORDS:
+                taken[word], left = remedy, changed
+                if not is_refused([encoded(left)]):
+                    break
+        else:
+            return [*taken.items()][:1]
+        others = {it: [word for word in taken if word != it] for it in taken}
+        return [
+            (it, remedy)
+            for it, remedy in taken.items()
+            if len(taken) == 1 or is_refused([encoded(without(text, others[it]))])
+        ]
 
     def take_out(self, lines: list[bytes], line: int) -> None:
-        """Takes the line of a fault out, with those that continue it. What it defines stays defined,
-        so that lines that use it are no faults of their own."""
-        while line > 1 and CONTINUES.search(lines[line - 2]):
-            line -= 1
+        """Takes the line of a fault out, with those that continue it. What it defines stays
+        defined, so that lines that use it are no faults of their own."""
+        line, last = span(lines, line)
         text = COMMENT.sub("", logical(lines, line))
         kind = DEFINES.match(text.lstrip())
-        last = line
-        while last < len(lines) and CONTINUES.search(lines[last - 1]):
-            last += 1
         lines[line - 1 : last] = [b""] * (last - line + 1)
         names = NAME.findall(text.lstrip()[kind.end() :]) if kind else []
         if kind and names:
@@ -149,6 +134,20 @@ class Base:
             found = self.asked(b"\n".join(lines))
             if found is not None and found[1] <= line:
                 lines[line - 1] = b""
+
+
+def span(lines: list[bytes], line: int) -> tuple[int, int]:
+    """The first and the last of the lines that continue one another, of which this is one."""
+    while line > 1 and CONTINUES.search(lines[line - 2]):
+        line -= 1
+    last = line
+    while last < len(lines) and CONTINUES.search(lines[last - 1]):
+        last += 1
+    return line, last
+
+
+def encoded(text: str) -> bytes:
+    return text.encode("utf-8", "surrogateescape")
 
 
 def logical(lines: list[bytes], line: int) -> str:
@@ -164,18 +163,6 @@ def logical(lines: list[bytes], line: int) -> str:
 def joined(lines: list[str], line: int) -> str:
     """A line of a base that the desk reads, with those that continue it."""
     return logical([it.encode() for it in lines[line - 1 :]], 1)
-
-
-def likeliest(code: str, text: str) -> tuple[str, str]:
-    """The word of a line for which the desk likely refuses it, and what to do; nothing where none
-    is likely."""
-    plain = COMMENT.sub("", text)
-    for form, remedy in LIKELY.get(code, []):
-        for found in re.finditer(form, plain):
-            word = found.groupdict().get("word") or found[0]
-            if code != "S5" or (word not in KNOWN and f"{word} =" not in plain):
-                return word.strip(), remedy
-    return plain.strip(), ""
 
 
 def warnings_of(data: bytes) -> list[Warning]:

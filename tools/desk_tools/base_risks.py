@@ -13,6 +13,8 @@ COMMAND = re.compile(
     r"(?:(?<!\\)[,=:)])[ \t]*(?:NOT(?:BEFORE|AFTER)=\S+[ \t]+)*"
     r"(ALL\b(?![ \t]*=)|/(?:\\.|[^,:=\\])*)"
 )
+# a program where programs are
+PROGRAM = re.compile(r"/(?:usr/(?:local/)?)?s?bin/[^/ ]+")
 EVERYTHING = (
     "every command, at all times and without a request: name commands, or let it be asked for"
 )
@@ -26,6 +28,9 @@ def risks(number: int, line: str) -> list[Warning]:
             found.append(Warning(number, "everything", text, EVERYTHING))
         elif (why := risk(command(text))) is not None:
             found.append(Warning(number, "runs-others", text, why))
+        elif other := next(filter(PROGRAM.fullmatch, text.split(" ")[1:]), None):
+            said = f"sudo takes {other} for an argument: a comma may be missing before it"
+            found.append(Warning(number, "comma", text, said))
         if seems_directory(text):
             found.append(Warning(number, "directory", text, without_slash(text)))
     return found

@@ -1,34 +1,42 @@
-"""The roster of a running desk is changed: all of it, or nothing."""
+"""The roster or the base of a desk is changed while it serves: the desk has the old or the new one.
+
+What is to be is written into the desk's history first, then into the file, and then the service is
+reloaded: the desk judges it, and says what it serves. Killed anywhere, the file and the history say
+what was meant, and the same call, run again, ends it.
+"""
 
 from __future__ import annotations
 
+import fcntl
 import os
+import re
 import shutil
 import signal
 import tempfile
 import time
 from collections.abc import Iterator
-from contextlib import contextmanager, suppress
+from contextlib import contextmanager
 from dataclasses import dataclass
 from typing import NamedTuple
 
-from desk_tools import changes, served
-from desk_tools.changes import Change
-from desk_tools.journal import Journal, Pending, synced, write
-from desk_tools.served import Failed, Settings, digest
+from desk_tools import changes, history, served
+from desk_tools.changes import Audit, Change
+from desk_tools.history import History, Line
+from desk_tools.putting import synced, write
+from desk_tools.served import Count, Failed, Settings, digest
 from desk_tools.toml_text import read as read_toml
-from steelnewt_client.moments import stamp_of
 
 SIGNALS = (signal.SIGINT, signal.SIGTERM, signal.SIGHUP)
-PATIENCE = 60.0  # seconds until a desk that was started answers
-
-
-class Ended(Exception):
-    """Somebody ends the program."""
+LOCKED_FOR = 60.0  # seconds
+PATIENCE = 120.0  # seconds until a desk says what it serves; its store of so many bytes adds one
+BYTES_A_SECOND = 4 << 20
+ROOM = 1 << 20
+LEFT = re.compile(r"desk-change-([0-9]+)-\w+")
+KINDS = ("roster", "base")
 
 
 class Halfway(Exception):
-    """The change failed, and the old state is not back: a person has to do something."""
+    """The desk may serve either one, or not each desk the same: the change has to be run again."""
 
 
 class Compared(NamedTuple):
@@ -38,120 +46,143 @@ class Compared(NamedTuple):
     old: bytes
     messages: str  # their digest
     found: list[Change]
-    hosts_gone: list[str]
-    seconds: float
 
 
 @dataclass
 class Desk:
-    """A desk that systemd serves, the programs over its store, and where its rosters are kept."""
+    """A desk that systemd serves, and the programs over its store."""
 
     settings: Settings
     service: str
-    rosters: str
     desk: str
     audit: str
 
-    @property
-    def roster(self) -> str:
-        """The file itself, where its name is a link."""
-        return os.path.realpath(self.settings.roster)
+    def file(self, kind: str) -> str:
+        """The roster's file, or the base's, itself, where its name is a link."""
+        return os.path.realpath(self.settings.roster if kind == "roster" else self.settings.base)
 
     @property
-    def staged(self) -> str:
-        """Where a roster is put first: the desk's account can read it there."""
-        return f"{self.roster}.change"
+    def history(self) -> History:
+        return History(self.settings, self.desk)
 
-    def stage(self, text: bytes) -> str:
-        write(self.staged, text, self.roster)
-        return self.staged
+    @property
+    def patience(self) -> float:
+        size = sum(os.path.getsize(path) for path in served.parts(self.settings.store))
+        return PATIENCE + size / BYTES_A_SECOND
 
-    def systemctl(self, verb: str) -> None:
-        served.run(["systemctl", verb, self.service])
+    def stage(self, kind: str, text: bytes) -> str:
+        """Where it is put first: the desk's account can read it there."""
+        path = f"{self.file(kind)}.change"
+        write(path, text, self.file(kind))
+        return path
 
-    def rebuilding(self, roster: str, store: str) -> list[str]:
-        """The words that give a store a roster. A commit syncs as often as the service's do; once
-        is not said, for a desk of before 0.17.0 does not know the option."""
-        base, sync = self.settings.base, self.settings.sync
-        often = [] if sync == "once" else ["--sync", sync]
-        return [self.desk, "rebuild", roster, base, store, *often]
+    def put(self, kind: str, text: bytes) -> None:
+        """The file, in its place."""
+        os.replace(self.stage(kind, text), self.file(kind))
+        synced(os.path.dirname(self.file(kind)))
 
-    def rebuild(self, text: bytes, journal: Journal) -> None:
-        """(The lock is the rebuild's, too: if this program is killed, the next one waits.)"""
-        words = self.rebuilding(self.stage(text), self.settings.store)
-        served.run(words, keep=(journal.lock,), owner=self.settings.store)
+    def reload(self) -> None:
+        served.run(["systemctl", "reload", self.service])
 
-    def put(self, text: bytes) -> None:
-        """The roster, in its place."""
-        os.replace(self.stage(text), self.roster)
-        synced(os.path.dirname(self.roster))
+    def digest(self, kind: str, path: str) -> str:
+        """The digest that /v1/count names."""
+        if kind == "roster":
+            return served.file_digest(path)
+        return digest(served.run([self.desk, "check", path]).encode())
 
-    def start(self, text: bytes) -> None:
-        """Starts the service, and waits until it answers with the roster's digest."""
-        with suppress(Failed):
-            # (systemd starts a unit only so often in a while, and counts anew from here)
-            self.systemctl("reset-failed")
-        self.systemctl("start")
-        until = time.monotonic() + PATIENCE
-        while (found := served.serves(self.settings.address)) is None:
-            if time.monotonic() > until:
-                raise Failed(f"the desk does not answer at {self.settings.address}")
-            time.sleep(0.2)
-        if found != digest(text):
-            raise Failed(f"a desk of another roster answers at {self.settings.address}")
+    def counted(self) -> Count:
+        found = served.counted(self.settings.address)
+        if found is None:
+            raise Failed(f"the desk does not answer at {self.settings.address}: start it first")
+        return found
 
 
-def hosts_of(text: bytes) -> set[str]:
-    return set(read_toml(text).value["hosts"])
+def text_of(path: str) -> bytes:
+    with open(path, "rb") as file:
+        return file.read()
 
 
 def people_of(text: bytes) -> set[str]:
     return set(read_toml(text).value["people"])
 
 
-def scratch(folder: str) -> tempfile.TemporaryDirectory[str]:
-    return tempfile.TemporaryDirectory(prefix="scratch-", dir=folder)
+# ---- what another roster changes
 
 
-def recorded(desk: Desk, folder: str) -> bytes:
-    """The roster that the store has, whatever the file says."""
-    with scratch(folder) as room:
-        return served.recorded(served.copy_store(desk.settings.store, room))
+def scratch() -> tempfile.TemporaryDirectory[str]:
+    """A folder for a copy of the store. What runs that were killed have left goes first."""
+    for name in os.listdir(tempfile.gettempdir()):
+        path = os.path.join(tempfile.gettempdir(), name)
+        if (left := LEFT.fullmatch(name)) and not os.path.exists(f"/proc/{left[1]}"):
+            if os.lstat(path).st_uid == os.geteuid():
+                shutil.rmtree(path, ignore_errors=True)
+    return tempfile.TemporaryDirectory(prefix=f"desk-change-{os.getpid()}-")
 
 
-def compare(desk: Desk, new: bytes, folder: str, now: str) -> Compared:
-    """What a roster changes, over a copy of the store: the desk itself takes it there."""
+def audit(desk: Desk, roster: str, copy: str, told: bytes, more: list[str]) -> Audit:
+    """What desk-audit tells by a roster: of the messages alone, which is quick; where the roster
+    does not admit them all, of the copy of the store, which the desk itself gives that roster."""
     base = desk.settings.base
-    with scratch(folder) as room:
+    found = served.audit_messages(desk.audit, roster, base, told, more)
+    if found is None:
+        served.run([desk.desk, "rebuild", roster, base, copy])
+        found = served.audit_store(desk.audit, roster, base, copy, more)
+    return found
+
+
+def audits(desk: Desk, rosters: list[str], copy: str, told: bytes, now: str) -> list[Audit]:
+    """What is told by each roster: about the names with a window from now on, if these are the same
+    for all, else about every name."""
+    found = [audit(desk, it, copy, told, ["--from", now]) for it in rosters]
+    if any(served.names(it) != served.names(found[0]) for it in found):
+        found = [audit(desk, it, copy, told, []) for it in rosters]
+    return found
+
+
+def compare(desk: Desk, new: bytes, now: str) -> Compared:
+    """What a roster changes, over a copy of the store that is thrown away. The desk serves on."""
+    with scratch() as room:
         copy = served.copy_store(desk.settings.store, room)
         old, told = served.recorded(copy), served.messages(copy)
         paths = [os.path.join(room, name) for name in ("old.toml", "new.toml")]
         for path, text in zip(paths, (old, new), strict=True):
             with open(path, "wb") as file:
                 file.write(text)
-        began = time.monotonic()
-        rebuilt = served.copy_of(copy, os.path.join(room, "rebuilt.db"))
-        served.run(desk.rebuilding(paths[1], rebuilt))
-        took = time.monotonic() - began
-        questions = [(paths[0], copy), (paths[1], rebuilt)]
-        before, after = served.audits(desk.audit, base, questions, told, now)
-    found = changes.compare(before, after, now, people_of(new))
-    return Compared(now, old, digest(told), found, sorted(hosts_of(old) - hosts_of(new)), took)
+        before, after = audits(desk, paths, copy, told, now)
+    return Compared(now, old, digest(told), changes.compare(before, after, now, people_of(new)))
+
+
+def same_again(desk: Desk, new: bytes, shown: Compared) -> None:
+    """Refuses where the messages that came meanwhile make the change another one."""
+    again = compare(desk, new, shown.now)
+    if again.old != shown.old:
+        raise Failed("somebody else has changed the roster meanwhile: look again")
+    if again.found != shown.found:
+        raise Failed("what came meanwhile makes it another change: look again")
+
+
+# ---- the change
 
 
 @contextmanager
-def ended_by_signals() -> Iterator[None]:
-    """A signal that would end the program is a fault, from which it goes back."""
-
-    def end(number: int, _: object) -> None:
-        raise Ended(f"it was ended by {signal.Signals(number).name}")
-
-    before = {it: signal.signal(it, end) for it in SIGNALS}
+def only_one(desk: Desk) -> Iterator[None]:
+    """One program at a time changes the files of this desk."""
+    folder = os.path.dirname(desk.file("roster"))
+    lock = os.open(folder, os.O_RDONLY | os.O_DIRECTORY)
+    until = time.monotonic() + LOCKED_FOR
+    while True:
+        try:
+            fcntl.flock(lock, fcntl.LOCK_EX | fcntl.LOCK_NB)
+            break
+        except BlockingIOError:
+            if time.monotonic() > until:
+                os.close(lock)
+                raise Failed(f"another change is under way (it has {folder} locked)") from None
+            time.sleep(0.1)
     try:
         yield
     finally:
-        for it, handler in before.items():
-            signal.signal(it, handler)
+        os.close(lock)
 
 
 @contextmanager
@@ -165,147 +196,84 @@ def without_signals() -> Iterator[None]:
             signal.signal(it, handler)
 
 
-def enough_room(desk: Desk, folder: str) -> None:
-    """Whether the disks have room for a backup and for the rebuild's log."""
-    size = sum(os.path.getsize(path) for path in served.parts(desk.settings.store))
-    for path in (folder, os.path.dirname(desk.settings.store)):
-        if shutil.disk_usage(path).free < 3 * size + (1 << 20):
-            raise Failed(f"the disk of {path} has no room for three copies of the store")
+def enough_room(desk: Desk, new: bytes) -> None:
+    """Whether the disks have room for the text: in its place, in the history and in the store."""
+    for path in (desk.file("roster"), desk.file("base"), desk.settings.store):
+        if shutil.disk_usage(os.path.dirname(path)).free < 4 * len(new) + ROOM:
+            raise Failed(f"the disk of {path} has no room for it")
 
 
-def back_up(desk: Desk, pending: Pending) -> None:
-    """A copy of the store and its log, while nobody serves it."""
-    served.copy_store(desk.settings.store, pending.folder)
-    for path in served.parts(pending.path("desk.db")):
-        synced(path)
-    synced(pending.folder)
-    write(pending.path("backed-up"), b"")
+def settle(desk: Desk, count: Count) -> Line:
+    """What is served is the last line of the history, also after a change that was cut off."""
+    last = desk.history.last()
+    if last is not None and last[1:] == count[1:]:
+        return last
+    return write_served(desk, Line("", count.roster, count.base), "what the desk serves")
 
 
-def same_again(desk: Desk, pending: Pending, new: bytes, shown: Compared) -> None:
-    """Refuses where the messages that came meanwhile make the change another one."""
-    with scratch(os.path.dirname(pending.folder)) as room:
-        # (the backup stays as it is: asking merges a store's log)
-        copy = served.copy_store(pending.path("desk.db"), room)
-        told = served.messages(copy)
-        if digest(told) == shown.messages:
-            return
-        base, store = desk.settings.base, desk.settings.store
-        questions = [(pending.path("old.toml"), copy), (pending.path("new.toml"), store)]
-        before, after = served.audits(desk.audit, base, questions, told, shown.now)
-    if changes.compare(before, after, shown.now, people_of(new)) != shown.found:
-        raise Failed("what came meanwhile makes it another change: look again")
+def write_served(desk: Desk, line: Line, why: str) -> Line:
+    """What is served is written into the history."""
+    roster, base = (served_file(desk, kind, getattr(line, kind)) for kind in KINDS)
+    return desk.history.write(roster, base, ["by=desk-change-roster", f"why={why}"])
 
 
-def dated(desk: Desk, journal: Journal, pending: Pending, new: bytes) -> Pending:
-    """The roster by a moment since which it is served: no desk is served in between."""
-    if pending.copy and os.path.exists(pending.copy):
-        return pending
-    at = stamp_of(int(time.time()))
-    found = journal.put(pending._replace(copy=os.path.join(desk.rosters, f"{at}.toml")))
-    os.makedirs(desk.rosters, exist_ok=True)
-    write(found.copy, new, desk.roster)
-    return found
+def served_file(desk: Desk, kind: str, wanted: str) -> str:
+    """A file with what is served: the one that it is read from, or the one of the history."""
+    if desk.digest(kind, desk.file(kind)) == wanted:
+        return desk.file(kind)
+    path = desk.history.path_of(kind, wanted)
+    if path is None:
+        raise Failed(f"the {kind} that the desk serves is in no file: reload the service first")
+    return path
 
 
-def change(desk: Desk, journal: Journal, new: bytes, shown: Compared) -> Pending:
-    """Stops the desk, gives its store the roster, and starts it; on any fault it goes back."""
-    enough_room(desk, journal.folder)
-    with ended_by_signals():
-        pending = journal.begin(stamp_of(int(time.time())), shown.old, new)
-        try:
-            desk.systemctl("stop")
-            back_up(desk, pending)
-            desk.rebuild(new, journal)
-            same_again(desk, pending, new, shown)
-            pending = journal.put(pending._replace(stage="agreed"))
-            go_on(desk, journal, pending, new)
-        except Exception as fault:
-            with without_signals():
-                try:
-                    # (nothing is pending where it had come to its end)
-                    begun = journal.pending() or pending._replace(stage="started")
-                    go_back(desk, journal, begun)
-                except Exception as worse:
-                    raise Halfway(f"{fault}; and it does not go back: {worse}") from None
-            raise
-    return pending
-
-
-def go_on(desk: Desk, journal: Journal, pending: Pending, new: bytes) -> None:
-    """The new roster in its place, once the store has it, and the desk is started."""
-    desk.put(new)
-    pending = dated(desk, journal, pending, new)
-    journal.put(pending._replace(stage="started"))
-    desk.start(new)
-    journal.end()
-
-
-def text_of(path: str) -> bytes:
-    with open(path, "rb") as file:
-        return file.read()
-
-
-def go_back(desk: Desk, journal: Journal, pending: Pending) -> None:
-    """The old roster and the store as it was, with what came since, and the desk is started."""
-    old = text_of(pending.path("old.toml"))
-    is_untouched = pending.stage == "begun" and not os.path.exists(pending.path("backed-up"))
-    if is_untouched and text_of(desk.roster) == old:
-        desk.start(old)
-        journal.end()
-        return
-    is_started = "started" in pending.stage
-    pending = journal.put(pending._replace(stage="back, started" if is_started else "back"))
-    desk.systemctl("stop")
-    try:
-        if recorded(desk, journal.folder) != old:
-            desk.rebuild(old, journal)
-    except Failed as fault:
-        bring_back(desk, pending, fault)
-    desk.put(old)
-    if pending.copy and os.path.exists(pending.copy):
-        os.unlink(pending.copy)
-    desk.start(old)
-    journal.end()
-
-
-def bring_back(desk: Desk, pending: Pending, fault: Failed) -> None:
-    """The backup in the store's place: never once the new desk may have taken messages."""
-    if "started" in pending.stage or not os.path.exists(pending.path("backed-up")):
-        raise fault
-    store = desk.settings.store
-    held = os.stat(store if os.path.exists(store) else os.path.dirname(store))
-    with scratch(pending.folder) as room:
-        copy = served.copy_store(pending.path("desk.db"), room)
-        # (any question merges the log, so that one file is the whole store)
-        words = [desk.desk, "review", pending.path("old.toml"), desk.settings.base, copy]
-        served.run([*words, stamp_of(int(time.time()))])
-        fresh = f"{store}.back"
-        if os.path.lexists(fresh):
-            os.unlink(fresh)
-        kind = os.O_WRONLY | os.O_CREAT | os.O_EXCL | os.O_NOFOLLOW
-        with open(os.open(fresh, kind, 0o600), "wb") as file, open(copy, "rb") as source:
-            shutil.copyfileobj(source, file)
-            os.fchown(file.fileno(), held.st_uid, held.st_gid)
-            file.flush()
-            os.fsync(file.fileno())
-    os.replace(fresh, store)
-    if os.path.exists(f"{store}-wal"):
-        os.unlink(f"{store}-wal")
-    synced(os.path.dirname(store))
-
-
-def repair(desk: Desk, journal: Journal, pending: Pending) -> bool:
-    """Ends a change that was stopped halfway. Whether the desk has the new roster then."""
-    new = text_of(pending.path("new.toml"))
+def change(desk: Desk, kind: str, new: bytes, words: list[str]) -> Line:
+    """The history has it, the file has it, and the desk takes it; or all is as before."""
+    enough_room(desk, new)
+    count = desk.counted()
     with without_signals():
-        desk.systemctl("stop")
-        if pending.stage in ("agreed", "started"):
-            try:
-                if recorded(desk, journal.folder) == new:
-                    go_on(desk, journal, pending, new)
-                    return True
-            except Exception:  # whatever it is, the old state is the other way out
-                pass
-        go_back(desk, journal, journal.pending() or pending)
-    return False
+        before = settle(desk, count)
+        staged = desk.stage(kind, new)
+        wanted = desk.digest(kind, staged)
+        other = {it: served_file(desk, it, getattr(count, it)) for it in KINDS if it != kind}
+        old = history.read(served_file(desk, kind, getattr(count, kind)))
+        paths = other | {kind: staged}
+        try:
+            line = desk.history.write(paths["roster"], paths["base"], words)
+            desk.put(kind, new)
+            desk.reload()
+            wait(desk, kind, wanted, line)
+        except (Failed, OSError) as fault:
+            go_back(desk, kind, old, before, str(fault))
+            raise
+    return line
+
+
+def wait(desk: Desk, kind: str, wanted: str, line: Line) -> None:
+    """Until the desk says that it serves the new one, or the history that it does not."""
+    until = time.monotonic() + desk.patience
+    while True:
+        count = served.counted(desk.settings.address)
+        if count is not None and getattr(count, kind) == wanted:
+            return
+        last = desk.history.last() or line
+        if last.moment > line.moment and count is not None and count[1:] == last[1:]:
+            raise Failed(f"the {kind} stays: {desk.history.reason(last.moment)}")
+        if time.monotonic() > until:
+            said = f"the desk does not say that it has the new {kind}"
+            raise Halfway(f"{said} (journalctl -u {desk.service})")
+        time.sleep(0.1)
+
+
+def go_back(desk: Desk, kind: str, old: bytes, before: Line, why: str) -> None:
+    """The old text in its place, and in the history, for the desk has not taken the new one."""
+    count = served.counted(desk.settings.address)
+    if count is None:
+        raise Halfway(f"{why}; and the desk does not answer")
+    if count[1:] != before[1:]:
+        raise Halfway(f"{why}; and the desk serves another {kind} than before")
+    try:
+        desk.put(kind, old)
+        write_served(desk, before, " ".join(why.split()))
+    except (Failed, OSError) as worse:
+        raise Halfway(f"{why}; and it does not go back: {worse}") from None

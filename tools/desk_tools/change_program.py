@@ -1,151 +1,236 @@
-"""The program `desk-change-roster`."""
+"""The program `desk-change-roster`; `desk-change-base` is the same one over a base."""
 
 from __future__ import annotations
 
 import argparse
 import os
+import pwd
+import re
 import sys
 import time
 
-from desk_tools import change, changes, evidence, lint, served
-from desk_tools.change import Compared, Desk, Ended, Halfway
+from desk_tools import base_words, change, changes, desks, evidence, lint, renaming
+from desk_tools import roster_words, served
+from desk_tools.change import Compared, Desk, Halfway
+from desk_tools.desks import Machines
 from desk_tools.found import Parser, visible
-from desk_tools.journal import Journal
+from desk_tools.history import Line
 from desk_tools.judge import NoDesk, program
 from desk_tools.schema import NoJsonschema
-from desk_tools.served import Failed, digest
+from desk_tools.served import Failed
 from steelnewt_client.moments import stamp_of
 
 DONE, NOT_CHANGED, REFUSED, HALFWAY = 0, 1, 2, 3
-KEPT = "/var/lib/desk-change-roster"
+# what a roster or a base may have at most, with room for a fault to be named
+MOST = 16 << 20
+TEXT = re.compile(r"[^\x00-\x1f\x7f]{1,500}")
 
 
-def parser() -> argparse.ArgumentParser:
+def text_word(said: str) -> str:
+    """A line that is kept beside the change."""
+    if not TEXT.fullmatch(said):
+        raise argparse.ArgumentTypeError("it has to be one line of at most 500 characters")
+    return said
+
+
+def parser(kind: str) -> argparse.ArgumentParser:
     found = Parser(
-        "desk-change-roster",
-        description="Changes the roster of a running desk: all of it, or nothing.",
-        epilog="Exit status: 0 the desk has the roster, 1 nothing was changed, 2 it is refused"
-        " or failed and all is as before, 3 it failed and a person has to look.",
+        f"desk-change-{kind}",
+        description=f"Changes the {kind} of a running desk: all of it, or nothing.",
+        epilog=f"Exit status: 0 the desk has the {kind}, 1 nothing was changed, 2 it is refused"
+        " or failed and all is as before, 3 it is not known yet, or not on each desk: run it again.",
     )
-    found.add_argument("roster", metavar="NEW_ROSTER", help="the new roster")
+    found.add_argument(kind, metavar=f"NEW_{kind.upper()}", help=f"the new {kind}; - is the input")
     found.add_argument("--yes", action="store_true", help="ask nobody")
-    said = "with --yes: also where rights come back that were taken away"
-    found.add_argument("--give-back", action="store_true", help=said)
+    if kind == "roster":
+        said = "with --yes: also where rights come back that were taken away"
+        found.add_argument("--give-back", action="store_true", help=said)
+        said = "one person's: what the old name has open is revoked"
+        found.add_argument("--rename", action="append", default=[], metavar="OLD=NEW", help=said)
     found.add_argument("--show", action="store_true", help="show what changes, and change nothing")
+    add_reasons(found)
     said = "the settings of the service"
     found.add_argument("--conf", default=served.CONF, metavar="FILE", help=said)
     found.add_argument("--service", default="desk", metavar="UNIT", help="its unit (desk)")
-    said = "a copy of each roster, by the moment since which it is served"
-    found.add_argument("--rosters", default="/etc/desk/rosters", metavar="DIR", help=said)
-    said = "where the old roster and a backup of the store are kept"
-    found.add_argument("--keep", default=KEPT, metavar="DIR", help=said)
     found.add_argument("--desk", metavar="PROGRAM", help="the program desk (the one on the path)")
+    said = "change it on these machines, by ssh as root: all are asked first"
+    found.add_argument("--desks", nargs="+", default=[], metavar="MACHINE", help=said)
+    said = "the command that reaches them (ssh)"
+    found.add_argument("--ssh", default="ssh -o BatchMode=yes", metavar="COMMAND", help=said)
     return found
 
 
-def checked(name: str) -> bytes:
-    """A roster's text, by desk-lint: faults end it, and warnings are shown."""
-    with open(name, "rb") as file:
-        text = file.read()
-    looked = lint.look_at_roster(name, text, time.strftime("%Y%m%d", time.gmtime()))
-    sys.stdout.write(looked.as_text())
-    if looked.faults:
-        raise Failed("the desk would refuse the new roster")
+def add_reasons(found: argparse.ArgumentParser) -> None:
+    """What is kept beside the change, for auditors."""
+    said = "why it is changed"
+    found.add_argument("--why", type=text_word, metavar="TEXT", help=said)
+    found.add_argument("--ticket", type=text_word, metavar="TEXT", help="under which ticket")
+    said = "who approved it; may be given again"
+    found.add_argument(
+        "--approved-by", type=text_word, action="append", default=[], metavar="NAME", help=said
+    )
+    said = "who changes it (you)"
+    found.add_argument("--by", type=text_word, default=account(), metavar="NAME", help=said)
+
+
+def account() -> str:
+    """Who runs this."""
+    name = pwd.getpwuid(os.getuid()).pw_name
+    return os.environ.get("SUDO_USER") or name
+
+
+def reasons(said: argparse.Namespace) -> list[str]:
+    """The words of the history."""
+    found = {"by": [said.by], "why": [said.why], "ticket": [said.ticket]}
+    found["approved-by"] = said.approved_by
+    return [f"{word}={it}" for word, texts in found.items() for it in texts if it]
+
+
+def text_of(path: str) -> bytes:
+    with open(0 if path == "-" else path, "rb", closefd=path != "-") as file:
+        text = file.read(MOST + 1)
+    if len(text) > MOST:
+        raise Failed(f"{path} has more than 16 MiB")
     return text
 
 
-def show(found: Compared) -> None:
+def checked(name: str, text: bytes) -> None:
+    """A roster's text, by desk-lint: faults end it, and warnings are shown."""
+    looked = lint.look_at_roster(name, text, time.strftime("%Y%m%d", time.gmtime()))
+    sys.stdout.write(visible_lines(looked.as_text()))
+    if looked.faults:
+        raise Failed("the desk would refuse the new roster")
+
+
+def show(found: Compared, new: bytes) -> None:
     """What changes, for a person who says yes or no."""
-    print(f"From {found.now} on, with the new roster:")
+    print("The new roster:")
+    sys.stdout.write(visible_lines("\n".join(roster_words.lines(found.old, new)) or "as before"))
+    for one, other in roster_words.two_names(found.old, new):
+        said = f"{one} and {other}: the one gets what the other loses. If they are one person,"
+        print(visible(f"{said} add --rename {one}={other}: each could approve what the other asks"))
+    print(f"From {found.now} on, with it:")
     sys.stdout.write(visible_lines(changes.text(found.found)))
-    for host in found.hosts_gone:
-        print(f"{host} leaves the roster: it gets no file, so remove its /etc/sudoers.d/desk")
-    print(f"(the rebuild of a copy took {found.seconds:.1f} seconds)")
 
 
 def visible_lines(text: str) -> str:
     return "".join(f"{visible(line)}\n" for line in text.splitlines())
 
 
-def agreed(said: argparse.Namespace, found: Compared) -> bool:
+def agreed(said: argparse.Namespace, kind: str, is_back: bool) -> bool:
     """Whether somebody says yes."""
-    is_back = changes.is_back(found.found)
     if said.yes and is_back and not said.give_back:
         print("Rights come back: --yes alone does not give them. Add --give-back, or ask nobody.")
         return False
     if said.yes:
         return True
-    asks = "Rights come back. Change the roster" if is_back else "Change the roster"
-    print(f"{asks} and restart the desk? [y/N] ", end="", flush=True)
+    if getattr(said, kind) == "-":
+        raise Failed(f"the new {kind} is the input, so nobody is asked: add --yes")
+    asks = f"Rights come back. Change the {kind}" if is_back else f"Change the {kind}"
+    print(f"{asks}? [y/N] ", end="", flush=True)
     return sys.stdin.readline().strip().lower() in ("y", "yes")
 
 
 def desk_of(said: argparse.Namespace) -> Desk:
     found, settings = program(said.desk), served.settings(said.conf)
     if settings.store == served.NO_STORE:
-        why = f"its roster needs no rebuild: write {settings.roster}, and restart {said.service}"
-        raise Failed(f"{said.conf}: the desk has no store, so {why}")
-    return Desk(
-        settings=settings,
-        service=said.service,
-        rosters=said.rosters,
-        desk=found,
-        audit=evidence.program_beside(found),
-    )
+        why = f"write its files, and reload {said.service}"
+        raise Failed(f"{said.conf}: the desk has no store, so nothing of it is kept: {why}")
+    return Desk(settings, said.service, found, evidence.program_beside(found))
 
 
-def mended(desk: Desk, journal: Journal) -> None:
-    """Ends a change that was stopped halfway, before another one is looked at."""
-    pending = journal.pending()
-    if pending is None:
-        return
-    try:
-        is_new = change.repair(desk, journal, pending)
-    except (Failed, OSError) as fault:
-        raise Halfway(f"a change that was stopped halfway: {fault}") from None
-    which = "new" if is_new else "old"
-    print(f"A change was stopped halfway: it is repaired, and the desk has its {which} roster.")
+def is_there(desk: Desk, kind: str, new: bytes) -> bool:
+    """Whether the desk serves it, and its file has it."""
+    if not os.path.exists(desk.file(kind)) or change.text_of(desk.file(kind)) != new:
+        return False
+    count = served.counted(desk.settings.address)
+    return count is not None and getattr(count, kind) == desk.digest(kind, desk.file(kind))
 
 
-def is_there(desk: Desk, journal: Journal, new: bytes) -> bool:
-    """Whether the desk is served with that roster, and its file and its store have it."""
-    return (
-        os.path.exists(desk.roster)
-        and change.text_of(desk.roster) == new
-        and served.serves(desk.settings.address) == digest(new)
-        and change.recorded(desk, journal.folder) == new
-    )
-
-
-def followed(said: argparse.Namespace) -> int:
-    """The change, from its words on."""
-    new = checked(said.roster)
-    desk = desk_of(said)
-    journal = Journal(said.keep)
-    if not said.show:
-        mended(desk, journal)
-    if is_there(desk, journal, new):
-        print("The desk has this roster.")
-        return DONE
-    found = change.compare(desk, new, journal.folder, stamp_of(int(time.time())))
-    show(found)
-    if said.show or not agreed(said, found):
+def changed_roster(said: argparse.Namespace, desk: Desk, new: bytes) -> int:
+    """The roster, from what it changes on."""
+    found = change.compare(desk, new, stamp_of(int(time.time())))
+    show(found, new)
+    renames = [renaming.pair(it, found.old, new) for it in said.rename]
+    if said.show or not agreed(said, "roster", changes.is_back(found.found)):
         print("Nothing was changed.")
         return DONE if said.show else NOT_CHANGED
-    pending = change.change(desk, journal, new, found)
-    print(f"The desk serves the new roster, {digest(new)[:16]}. The old one and a backup of the")
-    print(f"store are in {pending.folder}.")
+    change.same_again(desk, new, found)
+    for old_name, new_name in renames:
+        renaming.revoke_open(desk, old_name, new_name, found.old)
+    return told(desk, change.change(desk, "roster", new, reasons(said)), "roster")
+
+
+def changed_base(said: argparse.Namespace, desk: Desk, new: bytes) -> int:
+    """The base, from what it changes on."""
+    sys.stdout.write(visible_lines(base_words.text(desk, new)))
+    if said.show or not agreed(said, "base", False):
+        print("Nothing was changed.")
+        return DONE if said.show else NOT_CHANGED
+    return told(desk, change.change(desk, "base", new, reasons(said)), "base")
+
+
+def told(desk: Desk, line: Line, kind: str) -> int:
+    print(f"The desk serves the new {kind}, {getattr(line, kind)[:16]}. What it was, and why it was")
+    print(f"changed, is in {os.path.join(desk.history.folder, line.moment)}.")
     return DONE
 
 
-def main(words: list[str] | None = None) -> int:
-    said = parser().parse_args(words)
+def on_each(said: argparse.Namespace, kind: str) -> int:
+    """On each of several desks: what it changes is shown there, and somebody is asked here."""
+    there = Machines(said, kind, reasons(said), text_of(getattr(said, kind)))
+    found = there.ask_all()
+    for name, it in found.items():
+        desks.show(name, it)
+    lacking = [name for name, it in found.items() if not there.has(it)]
+    if not lacking:
+        print(f"Each desk has this {kind}.")
+        return DONE
+    is_back = any("\nGIVEN BACK" in it.out for it in found.values())
+    if said.show or not agreed(said, kind, is_back):
+        print("Nothing was changed.")
+        return DONE if said.show else NOT_CHANGED
+    sys.stdout.flush()
+    there.change_all(lacking, *(["--give-back"] if is_back else []))
+    print(f"Each desk has the new {kind}.")
+    return DONE
+
+
+CHANGED = {"roster": changed_roster, "base": changed_base}
+
+
+def followed(said: argparse.Namespace, kind: str) -> int:
+    """The change, from its words on."""
+    new = text_of(getattr(said, kind))
+    if kind == "roster":
+        checked(said.roster, new)
+    desk = desk_of(said)
+    if not said.show:
+        with change.only_one(desk):
+            return changed(said, kind, desk, new)
+    return changed(said, kind, desk, new)
+
+
+def changed(said: argparse.Namespace, kind: str, desk: Desk, new: bytes) -> int:
+    if is_there(desk, kind, new):
+        print(f"The desk has this {kind}.")
+        return DONE
+    return CHANGED[kind](said, desk, new)
+
+
+def main() -> int:
+    return changing("roster")
+
+
+def changing(kind: str) -> int:
+    """The program that changes a roster, or a base."""
+    said = parser(kind).parse_args()
     status = REFUSED
     try:
-        return followed(said)
+        return on_each(said, kind) if said.desks else followed(said, kind)
     except Halfway as fault:
-        why, status = f"{fault}. Run it again, or see the backup in {said.keep}", HALFWAY
-    except (Failed, NoDesk, evidence.Failed, Ended) as fault:
+        why, status = f"{fault}: run it again", HALFWAY
+    except (Failed, NoDesk) as fault:
         why = f"{fault}: all is as before"
     except NoJsonschema:
         why = "it needs Debian's package python3-jsonschema: all is as before"
@@ -155,5 +240,5 @@ def main(words: list[str] | None = None) -> int:
         why = f"a program says something else than is expected: {fault}: all is as before"
     except KeyboardInterrupt:
         why = "all is as before"
-    print(f"desk-change-roster: {visible(why)}", file=sys.stderr)
+    print(f"desk-change-{kind}: {visible(why)}", file=sys.stderr)
     return status

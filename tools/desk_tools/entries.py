@@ -18,8 +18,17 @@ class Words:
     is_narrow: bool = False
 
     def add(self, negated: bool, word: str, meant: list[tuple[bool, str]] | None = None) -> None:
+        if meant is None:
+            self.take_out(word)
         self.words.append(f"{'!' if negated else ''}{word}")
         self.meant += [(sign != negated, name) for sign, name in meant or [(False, word)]]
+
+    def take_out(self, word: str) -> None:
+        """Takes out a word that comes again: the last one of it says all that it says."""
+        for said, negated in ((word, False), (f"!{word}", True)):
+            if said in self.words:
+                self.words.remove(said)
+                self.meant.remove((negated, word))
 
     def named(self) -> frozenset[str] | None:
         """All whom it may mean; None where that may be anyone."""

@@ -13,6 +13,8 @@ from collections.abc import Iterator
 from dataclasses import dataclass, field
 from typing import Any, NamedTuple
 
+from desk_tools import history
+from desk_tools.served import Failed
 from desk_tools.toml_text import read as read_toml
 from desk_tools.use import GIVEN
 from steelnewt_client.messages import canonical
@@ -21,7 +23,6 @@ from steelnewt_client.places import place
 
 NAMESPACE = "desk-evidence"
 MANIFEST = "SHA256SUMS"
-DATED = re.compile(r"(\d{14}Z)\.toml")
 REFUSED = re.compile(r"line (\d+): (.*)")
 COLUMNS = "roster who no target host commands from until approvers used".split()
 ABOUT = """\
@@ -54,10 +55,6 @@ and who signed it: ssh-keygen -Y verify -f SIGNERS -I WHO -n desk-evidence \\
 Statuses = dict[tuple[str, int, str], str]
 
 
-class Failed(Exception):
-    """Why there is no evidence."""
-
-
 class Period(NamedTuple):
     """A roster, since when it was served, and its part of the time."""
 
@@ -73,17 +70,31 @@ def read(path: str) -> bytes:
 
 
 def periods(folder: str, first: str, last: str) -> list[Period]:
-    """The rosters that were served in that time; a file's name is the moment since which."""
-    dated = sorted(found[1] for it in os.listdir(folder) if (found := DATED.fullmatch(it)))
-    if not dated or dated[0] > first:
-        raise Failed(f"{folder}: it has no roster YYYYMMDDHHMMSSZ.toml of {first} or before")
+    """The rosters that were served in that time, by the desk's history. (A change of the base alone
+    is a moment there, too, with the same roster.)"""
+    found = history.lines(folder)
+    dated = [it for at, it in enumerate(found) if at == 0 or it.roster != found[at - 1].roster]
+    if not dated or dated[0].moment > first:
+        raise Failed(f"{folder}: its moments name no roster of {first} or before")
     served: list[Period] = []
-    for at, after in zip(dated, [*dated[1:], None], strict=True):
-        end = last if after is None else min(last, stamp_of(seconds(after) - 1))
-        if at <= last and first <= end:
-            text = read(os.path.join(folder, f"{at}.toml"))
-            served.append(Period(at, text, max(at, first), end))
+    for it, after in zip(dated, [*dated[1:], None], strict=True):
+        end = last if after is None else min(last, stamp_of(seconds(after.moment) - 1))
+        if it.moment <= last and first <= end:
+            text = kept(folder, it)
+            served.append(Period(it.moment, text, max(it.moment, first), end))
     return served
+
+
+def kept(folder: str, line: history.Line) -> bytes:
+    """The roster of a moment, which is the one that its line names."""
+    path = os.path.join(folder, line.moment, history.FILES["roster"])
+    try:
+        text = history.read(path)
+    except FileNotFoundError:
+        raise Failed(f"{path} is not there: bring it back from where it was carried") from None
+    if hashlib.sha256(text).hexdigest() != line.roster:
+        raise Failed(f"{path} is not the roster that {folder}/moments names")
+    return text
 
 
 @dataclass

@@ -8,9 +8,10 @@ import sys
 import tempfile
 
 from desk_tools import evidence
-from desk_tools.evidence import Evidence, Failed, Period, periods, read
+from desk_tools.evidence import Evidence, Period, periods, read
 from desk_tools.found import Parser, visible
 from desk_tools.judge import NoDesk, program
+from desk_tools.served import Failed
 from steelnewt_client.places import place
 
 MADE, FAILED = 0, 2
@@ -35,7 +36,7 @@ def parser() -> argparse.ArgumentParser:
     found.add_argument("--messages", required=True, metavar="FILE", help="all messages, one a line")
     found.add_argument("--base", required=True, metavar="BASE", help="the base policy")
     rosters = found.add_mutually_exclusive_group(required=True)
-    rosters.add_argument("--rosters", metavar="FOLDER", help="rosters, each named MOMENT.toml")
+    rosters.add_argument("--rosters", metavar="FOLDER", help="the desk's history")
     rosters.add_argument("--roster", metavar="ROSTER", help="the roster of the whole time")
     said = "a log of sudo's, or a folder of logs (may be given again)"
     found.add_argument("--log", action="append", default=[], metavar="[HOST=]LOG", help=said)

@@ -14,6 +14,7 @@ from dataclasses import dataclass, field
 from typing import NamedTuple
 
 from desk_tools.cvtsudoers import BadSudoers
+from desk_tools.site import LINKED
 
 # getent: it answers, and it knows none of that name
 ANSWERS, KNOWS_NONE = 0, 2
@@ -109,6 +110,12 @@ class Machine:
         """The triples of a netgroup; None where there is none."""
         return triples(run_getent("netgroup", "--", name).stdout)
 
+    def linked(self, path: str) -> str | None:
+        """The folder of a path that is a link here: it is the one of that name below /usr."""
+        found = LINKED.match(path)
+        is_link = found is not None and os.path.realpath(found[0]) == f"/usr{found[0]}"
+        return found[0] if found and is_link else None
+
 
 class Copy(Machine):
     """Another machine, by a copy of its /etc."""
@@ -128,6 +135,10 @@ class Copy(Machine):
 
     def netgroup(self, name: str) -> list[Triple] | None:
         """(Of a copy nobody can be asked.)"""
+        return None
+
+    def linked(self, path: str) -> str | None:
+        """(Nor does a copy of /etc have it.)"""
         return None
 
 

@@ -6,15 +6,14 @@ import argparse
 import difflib
 import os
 import sys
-import tempfile
 import time
 
-from desk_tools import change, change_program, evidence, people, people_settings, served
+from desk_tools import change, change_program, people, people_settings, served
 from desk_tools.change_program import visible_lines
 from desk_tools.directory import Unsure, unseen
 from desk_tools.found import Parser, visible
-from desk_tools.journal import write
 from desk_tools.judge import NoDesk
+from desk_tools.putting import write
 from desk_tools.roster_faults import is_day
 from desk_tools.roster_text import CannotEdit
 from desk_tools.schema import NoJsonschema
@@ -60,11 +59,9 @@ def grants(said: argparse.Namespace, new: bytes) -> None:
     if not os.path.exists(settings.store):
         print(f"(there is no store {settings.store} here: which grants change is not known)")
         return
-    said.service = said.rosters = ""
-    desk = change_program.desk_of(said)
-    now = stamp_of(int(time.time()))
-    found = change.compare(desk, new, tempfile.gettempdir(), now)
-    change_program.show(found)
+    said.service = ""
+    found = change.compare(change_program.desk_of(said), new, stamp_of(int(time.time())))
+    change_program.show(found, new)
 
 
 def is_served(said: argparse.Namespace) -> bool:
@@ -109,7 +106,7 @@ def main(words: list[str] | None = None) -> int:
         found.error("--on: a day is yyyymmdd")
     try:
         return followed(said)
-    except (Unsure, CannotEdit, Failed, NoDesk, evidence.Failed) as fault:
+    except (Unsure, CannotEdit, Failed, NoDesk) as fault:
         why = str(fault)
     except NoJsonschema:
         why = "it needs Debian's package python3-jsonschema"

@@ -6,14 +6,15 @@ import hashlib
 import json
 import os
 import shlex
-import shutil
 import sqlite3
 import subprocess
+import time
 from collections.abc import Sequence
 from contextlib import closing
 from typing import Any, NamedTuple
 
 from steelnewt_client.desk import BadAddress, Desk, Silent
+from steelnewt_client.stores import TICK, copy_once
 
 CONF = "/etc/desk/serve.conf"
 NO_STORE = "-"
@@ -25,7 +26,7 @@ DEFAULTS = {
     "ADDR": "unix:/run/desk/desk.sock",
     "SYNC": "once",
 }
-READINGS = 20
+READINGS = 50
 ANSWERS_IN = 60.0  # seconds: it reads all its messages to count them
 
 
@@ -76,13 +77,20 @@ def desk_at(address: str) -> Desk:
     return Desk(address if is_socket else f"http://{address}", patience=ANSWERS_IN)
 
 
-def serves(address: str) -> str | None:
-    """The digest of the roster with which a desk answers there; None where none answers."""
+class Count(NamedTuple):
+    """How many messages a desk has, and the digests of its roster and of its base."""
+
+    messages: int
+    roster: str
+    base: str
+
+
+def counted(address: str) -> Count | None:
+    """What a desk says there of itself; None where none answers."""
     try:
-        _, roster, _ = desk_at(address).count()
+        return Count(*desk_at(address).count())
     except (BadAddress, Silent):
         return None
-    return roster
 
 
 def parts(store: str) -> list[str]:
@@ -91,22 +99,15 @@ def parts(store: str) -> list[str]:
 
 
 def copy_store(store: str, folder: str) -> str:
-    """Copies a store that may be written to: two readings in a row that are the same are what it
-    was at one moment."""
+    """A copy of a store that may be written to, as it was at one moment."""
     if not os.path.exists(store):
         raise Failed(f"there is no store {store}: start the desk first")
     target = os.path.join(folder, "desk.db")
     for _ in range(READINGS):
-        before = parts(store)
-        copies = [target + path.removeprefix(store) for path in before]
-        for path, copy in zip(before, copies, strict=True):
-            shutil.copyfile(path, copy)
-        read_again = [file_digest(path) for path in before]
-        if parts(store) == before and read_again == [file_digest(copy) for copy in copies]:
+        if copy_once(store, target):
             return target
-        for path in parts(target):
-            os.unlink(path)
-    raise Failed(f"the store is written to without a pause: {store}")
+        time.sleep(TICK)
+    raise Failed(f"the store is merged with its log without a pause: {store}")
 
 
 def rows(copy: str, question: str) -> list[bytes]:
@@ -131,7 +132,7 @@ def messages(copy: str) -> bytes:
     return b"".join(it + b"\n" for it in rows(copy, "SELECT body FROM messages ORDER BY body"))
 
 
-def run(words: Sequence[str], keep: tuple[int, ...] = (), owner: str | None = None) -> str:
+def run(words: Sequence[str], owner: str | None = None, **environment: str) -> str:
     """What a program prints; with `owner`, as the account that owns that file. (What is typed at
     the terminal does not end it.)"""
     account: dict[str, Any] = {}
@@ -143,9 +144,9 @@ def run(words: Sequence[str], keep: tuple[int, ...] = (), owner: str | None = No
             words,
             stdin=subprocess.DEVNULL,
             capture_output=True,
-            pass_fds=keep,
             start_new_session=True,
             check=False,
+            env=os.environ | environment,
             **account,
         )
     except OSError as fault:
@@ -157,42 +158,28 @@ def run(words: Sequence[str], keep: tuple[int, ...] = (), owner: str | None = No
     return str(ran.stdout.decode("utf-8", "replace"))
 
 
-def copy_of(copy: str, target: str) -> str:
-    """A copy of a copy of a store."""
-    for path in parts(copy):
-        shutil.copyfile(path, target + path.removeprefix(copy))
-    return target
-
-
 def names(told: dict[str, Any]) -> set[tuple[str, int]]:
     return {(it["by"], it["no"]) for it in told["names"]}
 
 
-def audits(
-    program: str, base: str, questions: list[tuple[str, str]], told: bytes, now: str
-) -> list[dict[str, Any]]:
-    """What desk-audit tells of stores with these messages, each with its roster: about the names
-    with a window from now on, if these are the same for all, else about every name."""
-    since = ["--from", now]
-    found = [audit(program, roster, base, store, told, since) for roster, store in questions]
-    if any(names(it) != names(found[0]) for it in found):
-        found = [audit(program, roster, base, store, told, []) for roster, store in questions]
-    return found
-
-
-def audit(
-    program: str, roster: str, base: str, store: str, told: bytes, more: list[str]
-) -> dict[str, Any]:
-    """What desk-audit tells of a store with these messages.
-
-    It is asked about the messages alone, which is quick. It leaves out those that the roster does
-    not admit, so then it is asked about the store."""
+def audit_messages(
+    program: str, roster: str, base: str, told: bytes, more: list[str]
+) -> dict[str, Any] | None:
+    """What desk-audit tells of these messages; None where the roster does not admit them all."""
     words = [program, roster, base, "-", "--json", *more]
     ran = subprocess.run(words, input=told, capture_output=True, check=False)
-    if ran.returncode == 0 and not ran.stderr:
-        found = json.loads(ran.stdout)
-    else:
-        found = json.loads(run([program, roster, base, store, "--json", *more]))
+    return as_audit(ran.stdout) if ran.returncode == 0 and not ran.stderr else None
+
+
+def audit_store(
+    program: str, roster: str, base: str, store: str, more: list[str]
+) -> dict[str, Any]:
+    """What desk-audit tells of a store that has this roster."""
+    return as_audit(run([program, roster, base, store, "--json", *more]))
+
+
+def as_audit(said: str | bytes) -> dict[str, Any]:
+    found = json.loads(said)
     if not isinstance(found, dict):
         raise Failed("desk-audit prints something else than is expected")
     return found

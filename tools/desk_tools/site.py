@@ -1,10 +1,13 @@
 """A roster without faults, as the desk reads it: who holds what on which day, and what a ceiling admits (docs/ROSTER.md)."""
 
+import re
 from typing import Any, NamedTuple
 
 FIRST, LAST = "19700101", "20991231"
 # last components that are directories everywhere (hier(7))
 FOLDERS = set("bin boot etc games home include lib lib32 lib64 libexec local opt sbin share src srv tmp usr var".split())
+# folders of the root that are links into /usr on today's hosts
+LINKED = re.compile(r"/(?:s?bin|lib(?:32|64|x32)?)(?=/)")
 
 
 class Command(NamedTuple):

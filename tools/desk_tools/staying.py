@@ -25,6 +25,10 @@ def settle(entries: list[Entry], sudoers: Sudoers) -> None:
     """Marks each rule that a later one takes along. (From the last to the first: what is taken
     takes along, too.)"""
     texts = {id(it): commands(it.item, sudoers) for it in entries}
+    mixed = {id(it) for it in entries if denies_within(it.item, sudoers)}
+
+    def clash(one: Entry, other: Entry) -> bool:
+        return id(one) in mixed or id(other) in mixed or differ(one, other)
 
     def meet(one: Entry, other: Entry) -> bool:
         are_same = may_be_same(one.users, other.users) and may_be_same(one.hosts, other.hosts)
@@ -36,7 +40,7 @@ def settle(entries: list[Entry], sudoers: Sudoers) -> None:
         later = entries[place]
         if later.is_elsewhere or later.is_kept() and not later.leaves_out():
             continue
-        earlier = [it for it in entries[:place] if not it.is_elsewhere and differ(it, later)]
+        earlier = [it for it in entries[:place] if not it.is_elsewhere and clash(it, later)]
         if later.is_kept():
             freer = [it for it in earlier if is_freer(it, later) and meet(it, later)]
             if freer:
@@ -53,6 +57,14 @@ def differ(one: Entry, other: Entry) -> bool:
     if one.is_denied or other.is_denied:
         return one.is_denied != other.is_denied
     return said(one) != said(other)
+
+
+def denies_within(item: dict[str, Any], sudoers: Sudoers) -> bool:
+    """Whether it is an alias that denies something of what it names."""
+    held = sudoers.aliases[COMMAND].get(item.get("cmndalias", ""))
+    return held is not None and any(
+        inner.get("negated", False) or denies_within(inner, sudoers) for inner in held.items
+    )
 
 
 def is_freer(one: Entry, other: Entry) -> bool:

@@ -13,7 +13,7 @@ from desk_tools.entries import Entry, Words
 from desk_tools.hosts_meant import Hosts
 from desk_tools.machine import Machine, Triple
 from desk_tools.schema import has_form
-from desk_tools.site import FIRST, LAST
+from desk_tools.site import FIRST, LAST, command
 from desk_tools.sudo_settings import OPTIONS, unsaid_tag
 from desk_tools.sudo_text import shown, target_groups
 from desk_tools.sudoers import ALIAS_KEYS, ALIASES, Place, Sudoers
@@ -201,7 +201,7 @@ class Translator:
         for item in held:
             negated, name = bool(item.get("negated")), item.get("cmndalias")
             if name is None:
-                found.add(negated, command_words(place, item))
+                found.add(negated, self.by_its_own_name(place, command_words(place, item)))
                 if program := any_arguments(item):
                     said = (
                         f"{shown(item)} is {program} in the base: sudo takes both for any arguments"
@@ -212,6 +212,17 @@ class Translator:
             else:
                 raise Unsaid(place, name, "no alias")
         return found
+
+    def by_its_own_name(self, place: Place, words: str) -> str:
+        """A program's path below /usr where its folder is a link into that: sudo compares what they
+        are. (Other hosts than the file's own may have two folders.)"""
+        folder = self.machine.linked(words) if self.hosts.one else None
+        is_file = command(words).kind == "file" and has_form(f"/usr{words}", "command")
+        if folder is None or not is_file:
+            return words
+        said = f"{words} is /usr{words} in the base: {folder} is a link to /usr{folder} here"
+        self.note(place, said)
+        return f"/usr{words}"
 
     def marks(self, entry: Entry) -> str:
         """The bounds of a command, and NOPASSWD, if no other tag or option of it counts."""

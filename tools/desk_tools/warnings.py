@@ -1,7 +1,6 @@
 """What is lawful in a roster and surely not meant."""
 
 import os
-import re
 import tomllib
 from collections.abc import Iterator
 from functools import cache
@@ -9,13 +8,20 @@ from typing import Any
 
 from desk_tools.found import Warning, dotted
 from desk_tools.held import Held, Span, day, joined
-from desk_tools.site import LAST, Command, Site, command, seems_directory, without_slash
+from desk_tools.site import (
+    LAST,
+    LINKED,
+    Command,
+    Site,
+    command,
+    seems_directory,
+    without_slash,
+)
 from desk_tools.toml_text import Document, Path
 
 MOST_DAYS = 4
 MOST_OTHERS = 8
 MANY_HOSTS = 5
-LINKED = re.compile(r"/(?:s?bin|lib(?:32|64|x32)?)/")
 TABLE = os.path.join(os.path.dirname(os.path.abspath(__file__)), "runs_others.toml")
 
 
@@ -33,7 +39,7 @@ def real_path(text: str) -> str | None:
     if found is None:
         return None
     return (
-        f"{found[0]} is a link to /usr{found[0]} on today's hosts, and sudo compares the file and its "
+        f"{found[0]}/ is a link to /usr{found[0]}/ on today's hosts, and sudo compares the file and its "
         f"last name: it also allows /usr{text.split(' ')[0]}, which is the path to write"
     )
 

@@ -4,8 +4,10 @@ what the old file gives (tests/common/sudo_peer.py says how sudo is asked).
 
 The files are wideners.py's, each of which once had a base that gave more, and random ones: with
 comments, continuations, included files of all modes and owners, Defaults of every scope, netgroups,
-digests and negations. Where desk-import makes no base, it has to refuse the file by name, with its
-line. never_wider.py RANDOM [SEED]; DESK_IMPORT names another desk-import.
+digests and negations. About the random ones, `sudo -l` is asked a third of the questions: it sees no
+tag. For the others the user runs the command: without a password, with one, and with a variable of
+the user's own; and the command starts another. Where desk-import makes no base, it has to refuse the
+file by name, with its line. never_wider.py RANDOM [SEED]; DESK_IMPORT names another desk-import.
 """
 
 import collections
@@ -14,10 +16,12 @@ import platform
 import random
 import re
 import shutil
+import socket
 import subprocess
 import sys
 import tempfile
 from collections.abc import Callable
+from typing import NamedTuple
 
 ROOT = os.path.dirname(os.path.dirname(os.path.dirname(os.path.abspath(__file__))))
 sys.path[:0] = [os.path.join(ROOT, "tools"), ROOT]
@@ -39,11 +43,43 @@ NOBODY = 65534
 # another zone than the host's: no time is the same in both
 ZONE = "EAST-13:30"
 AT = "2026-01-05 09:30:00"
-# what sudo asks of PAM is no matter here
-NO_PAM = "Defaults !pam_acct_mgmt, !pam_session, !pam_setcred\n"
+# what sudo asks of PAM is no matter here; and a library sees what a command starts, since sudo waits
+# for ever where the kernel does not let it trace the command
+NO_PAM = "Defaults !pam_acct_mgmt, !pam_session, !pam_setcred, intercept_type=dso\n"
+PATIENCE = 600
 VERDICT = re.compile(r"^(/.*?:[0-9]+): (?:kept|in part|gone|not for this host): ", re.MULTILINE)
 END = (" entry\n", " entries\n")  # of the report
 REFUSAL = re.compile(r"desk-import: (sudo cannot read it: )?/[\w./*-]+:[0-9]+(:[0-9]+)?: \S.*\n")
+# how sudo is asked: by `sudo -l -U`, and by who runs it without a password, with one, and with a
+# variable, too
+LIST, RUN, KNOWS, SET = "list", "run", "knows", "set"
+WAYS = (LIST, LIST, RUN, KNOWS, KNOWS, SET)
+PAM = "auth sufficient pam_permit.so\n"  # whoever is asked for a password knows it
+LOGS = "/var/log"  # sudo's logs of what a command reads and writes are below
+
+
+class Question(NamedTuple):
+    """What sudo is asked."""
+
+    user: str
+    host: str
+    target: str
+    command: tuple[str, ...]
+    way: str = LIST
+    group: str = ""
+
+
+class Answer(NamedTuple):
+    """Whether sudo allows the command, and the kinds of its logs."""
+
+    is_allowed: bool
+    logged: frozenset[str] = frozenset()
+
+    def is_more(self, other: "Answer") -> bool:
+        """Whether somebody may do more, or the same with less of a log."""
+        if self.is_allowed and other.is_allowed:
+            return not self.logged >= other.logged
+        return self.is_allowed
 
 
 class Machine:
@@ -61,6 +97,13 @@ class Machine:
         self.append("nsswitch.conf", "netgroup: files\n")
         for name, text in odd_sudoers.DATABASES.items():
             self.write(f"/etc/{name}", text)
+        for name in odd_sudoers.FILES:
+            self.append(f"srv/{name}", "/bin/true\n")
+        self.write("/etc/pam.d/sudo", PAM)
+        self.logs = os.path.join(folder, "logs")
+        os.mkdir(self.logs)
+        sudo_peer.bind(self.logs, LOGS)
+        self.host = socket.gethostname()
         self.programs = {name: desk.tool(name) for name in ("sudo", "faketime", "setpriv")}
 
     def append(self, name: str, text: str) -> None:
@@ -73,7 +116,8 @@ class Machine:
 
     def clear(self) -> None:
         sudo_peer.clear()
-        subprocess.run(["umount", "/etc"], check=True)
+        for place in ("/etc", LOGS):
+            subprocess.run(["umount", place], check=True)
 
     def furnish(self, text: str, files: dict[str, File]) -> None:
         """The sudoers file, and those that it includes."""
@@ -137,24 +181,38 @@ class Machine:
         who = [self.programs["setpriv"], f"--reuid={NOBODY}", f"--regid={NOBODY}", "--clear-groups"]
         return [*who, f"{tools}/desk-import", "--desk", f"{self.folder}/desk"]
 
-    def allows(self, it: Widener, words: tuple[str, ...]) -> bool:
-        """Whether sudo allows it, by the files that are there."""
-        user, host, target, *command = words
-        asked = [self.programs["sudo"], "-n", "-u", target]
-        if it.is_run:
-            asked += [*(["-g", it.group] if it.group else []), "--", *command]
-            asked = [self.programs["setpriv"], f"--reuid={user}", "--init-groups", *asked]
-        else:
+    def answer(self, it: Question) -> Answer:
+        """What sudo says, by the files that are there."""
+        asked = [self.programs["sudo"], "-u", it.target]
+        if it.way == LIST:
             asked = [self.programs["faketime"], "-f", AT, *asked]
-            asked += ["-l", "-U", user, "-h", host, "--", *command]
-        answer = subprocess.run(
-            asked,
+            return Answer(self.ran([*asked, "-l", "-U", it.user, "-h", it.host, "--", *it.command]))
+        # (-k: nobody is remembered)
+        asked += ["-k", *(["-n"] if it.way == RUN else []), *(["-g", it.group] if it.group else [])]
+        asked += ["A=1"] if it.way == SET else ["--"]
+        asked = [self.programs["setpriv"], f"--reuid={it.user}", "--init-groups", *asked]
+        socket.sethostname(it.host)
+        is_allowed = self.ran([*asked, *it.command])
+        socket.sethostname(self.host)
+        return Answer(is_allowed, self.logged())
+
+    def ran(self, words: list[str]) -> bool:
+        ran = subprocess.run(
+            words,
             stdin=subprocess.DEVNULL,
             capture_output=True,
             check=False,
+            timeout=PATIENCE,
             env={"PATH": "/usr/sbin:/usr/bin:/sbin:/bin", "TZ": "UTC", "LC_ALL": "C"},
         )
-        return answer.returncode == 0
+        return ran.returncode == 0
+
+    def logged(self) -> frozenset[str]:
+        """The kinds of what was logged of a command, whose log is taken away."""
+        found = frozenset(name for _, _, names in os.walk(self.logs) for name in names)
+        for name in os.listdir(self.logs):
+            shutil.rmtree(os.path.join(self.logs, name))
+        return found
 
 
 class Run:
@@ -163,7 +221,7 @@ class Run:
         self.count: collections.Counter[str] = collections.Counter()
         self.wrong: list[str] = []
 
-    def case(self, it: Widener, questions: Callable[[str], list[tuple[str, ...]]]) -> bool:
+    def case(self, it: Widener, questions: Callable[[str], list[Question]]) -> bool:
         """Whether the base of a case, with what stays on the host before it, gives just what its
         file gives, by some questions about it."""
         self.machine.furnish(it.text, it.files)
@@ -188,21 +246,24 @@ class Run:
             return False
         return True
 
-    def is_same(self, it: Widener, new: str, asked: list[tuple[str, ...]]) -> bool:
-        more = NO_PAM if it.is_run else ""
+    def is_same(self, it: Widener, new: str, asked: list[Question]) -> bool:
+        more = NO_PAM if any(one.way != LIST for one in asked) else ""
         self.machine.furnish(more + new, {})
         if not self.machine.accepts():
             self.wrong.append(f"{it.name}: visudo refuses it\n{it.text}--\n{new}--")
             return False
-        after = [self.machine.allows(it, words) for words in asked]
+        after = [self.machine.answer(one) for one in asked]
         self.machine.furnish(more + it.text, it.files)
-        before = [self.machine.allows(it, words) for words in asked]
+        before = [self.machine.answer(one) for one in asked]
         self.count["asked"] += len(asked)
-        self.count["allowed"] += sum(after)
+        for way in dict.fromkeys(WAYS):
+            held = [ans.is_allowed for one, ans in zip(asked, after) if one.way == way]
+            self.count[f"allowed, {way}"] += sum(held)
+        self.count["logged"] += sum(bool(ans.logged) for ans in after)
         shown = f"{it.name}\n{it.text}{it.files or ''}\n--\n{new}--"
         rows = list(zip(asked, before, after))
-        self.wrong += [f"WIDENED: {words}: {shown}" for words, old, is_new in rows if is_new > old]
-        self.wrong += [f"LOST: {words}: {shown}" for words, old, is_new in rows if is_new < old]
+        self.wrong += [f"WIDENED: {one}: {shown}" for one, old, ans in rows if ans.is_more(old)]
+        self.wrong += [f"LOST: {one}: {shown}" for one, old, ans in rows if old.is_more(ans)]
         return before == after
 
     def unnamed(self, path: str, report: str) -> list[str]:
@@ -222,16 +283,26 @@ class Run:
             return
         for host, it in cases.items():
             rest = self.machine.stays(os.path.join(self.machine.rest, host))
-            asked = [(user, host, *more) for user, _, *more in questions(rng, ran.stdout, it.text)]
+            asked = [one._replace(host=host) for one in questions(rng, ran.stdout, it.text)]
             self.is_same(it, rest + ran.stdout, asked)
             for place in self.unnamed(f"{SUDOERS}-{host}", ran.stderr):
                 self.wrong.append(f"UNNAMED: {place}: {ran.stderr}")
 
 
-def questions(rng: random.Random, base: str, text: str) -> list[tuple[str, ...]]:
+def question(rng: random.Random, text: str) -> Question:
+    user, host, target, *command = odd_sudoers.question(rng, text)
+    return Question(user, host, target, tuple(command), rng.choice(WAYS))
+
+
+def questions(rng: random.Random, base: str, text: str) -> list[Question]:
     """Some of the words of the base's rules, and some of the file's."""
-    found = [odd_sudoers.question(rng, base) for _ in range(ASKED)] if base else []
-    return found + [odd_sudoers.question(rng, text) for _ in range(ASKED // 2)]
+    found = [question(rng, base) for _ in range(ASKED)] if base else []
+    return found + [question(rng, text) for _ in range(ASKED // 2)]
+
+
+def named_question(it: Widener) -> Question:
+    user, host, target, *command = it.asks
+    return Question(user, host, target, tuple(command), RUN if it.is_run else LIST, it.group)
 
 
 def inside(count: int, seed: int = 53) -> int:
@@ -240,8 +311,8 @@ def inside(count: int, seed: int = 53) -> int:
         machine = Machine(folder)
         run = Run(machine)
         for it in WIDENERS:
-            asks = it.asks
-            is_right = run.case(it, lambda _: [asks])  # noqa: B023
+            asked = [named_question(it)]
+            is_right = run.case(it, lambda _: asked)  # noqa: B023
             failed += not is_right
             print(f"{'ok' if is_right else 'WIDENED'}: {it.name}")
         named, run.count = run.count, collections.Counter()
@@ -257,7 +328,8 @@ def inside(count: int, seed: int = 53) -> int:
     print("\n".join(run.wrong))
     print(f"{len(WIDENERS)} named files: {dict(named)}; {failed} failed")
     print(f"{count} random files: {dict(run.count)}; {len(run.wrong)} wrong in all")
-    is_idle = count > 0 and not (run.count["allowed"] and run.count["by the base"])
+    needed = ("by the base", *(f"allowed, {way}" for way in WAYS))
+    is_idle = count > 0 and not all(run.count[it] for it in needed)
     return 1 if run.wrong or failed or is_idle else 0
 
 
@@ -267,5 +339,5 @@ if __name__ == "__main__":
     if os.geteuid() != 0:
         sys.exit("this needs root: sudo -l answers for another user only to root")
     again = [sys.executable, os.path.abspath(__file__), "--inside", *sys.argv[1:]]
-    words = [desk.tool("unshare"), "--mount", "--propagation", "private", *again]
+    words = [desk.tool("unshare"), "--mount", "--uts", "--propagation", "private", *again]
     sys.exit(subprocess.run(words, check=False).returncode)

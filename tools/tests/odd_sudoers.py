@@ -54,7 +54,7 @@ ODD_TARGETS = ("%ops", "#2002", "+net", "Op", "UNKNOWN", '"ALL"')
 FLAGS = ("authenticate", "noexec", "intercept", "setenv", "sudoedit_follow", "log_input", "log_output")
 TAGS = (
     *(f"{tag}: " for tag in "NOPASSWD PASSWD NOEXEC EXEC SETENV NOSETENV INTERCEPT NOINTERCEPT".split()),
-    *(f"{tag}: " for tag in "FOLLOW NOFOLLOW LOG_INPUT NOLOG_OUTPUT MAIL NOMAIL".split()),
+    *(f"{tag}: " for tag in "FOLLOW NOFOLLOW LOG_INPUT LOG_OUTPUT NOLOG_OUTPUT MAIL NOMAIL".split()),
     "CWD=/ ", "NOTAFTER=2026010509Z ", "NOTBEFORE=2026010510Z ", "NOTBEFORE=2026010510 ", "TIMEOUT=60 ",
 )  # fmt: skip
 MODES = ((0o666, 0, 0), (0o664, 0, 2001), (0o440, 2001, 0), (0o464, 0, 0), (0o777, 0, 0))
@@ -70,6 +70,14 @@ def chosen(rng: random.Random, words: tuple[str, ...], odd: tuple[str, ...], mos
     return ", ".join(found)
 
 
+def marks(rng: random.Random) -> str:
+    """A tag or an option, and often NOPASSWD, so that something runs without a password."""
+    mark = rng.choice(TAGS) if rng.random() < 0.4 else ""
+    free = "NOPASSWD: " if rng.random() < 0.3 else ""
+    # (sudo takes an option in front of the tags alone)
+    return mark + free if "=" in mark else free + mark
+
+
 def rule(rng: random.Random) -> str:
     users = chosen(rng, (*USERS, "root", "ALL", "ALL", "%wheel", "%ops", "%empty", "#2002", "U0"), ODD_USERS)
     hosts = chosen(rng, (*HOST_WORDS, "ALL", "ALL", "ALL", "H0"), ODD_HOSTS, 2)
@@ -79,9 +87,8 @@ def rule(rng: random.Random) -> str:
         groups = rng.choice(("", "", "", " : op", " : !op"))
         # (no `()`: it means whoever asks, and for `sudo -l -U` that is root)
         target = rng.choice(("", "", f"({targets}{groups}) ", f"({targets}) ", "(: op) "))
-        tag = rng.choice(TAGS) if rng.random() < 0.3 else ""
         words = (*COMMANDS, "ALL", "ALL", "/srv/bin/", "/srv/bin/ls -l", '/srv/bin/ls ""', "C0", "C1")
-        parts.append(f"{target}{tag}{chosen(rng, words, ODD_COMMANDS, 2)}")
+        parts.append(f"{target}{marks(rng)}{chosen(rng, words, ODD_COMMANDS, 2)}")
     return f"{users} {hosts} = {', '.join(parts)}"
 
 
@@ -126,7 +133,8 @@ def random_lines(rng: random.Random) -> list[str]:
     for _ in range(rng.choice((0, 1, 2))):
         lines.insert(rng.randrange(len(lines) + 1), rng.choice(COMMENTS))
     for _ in range(rng.choice((0, 0, 0, 1, 1, 2))):
-        lines.insert(rng.randrange(len(lines) + 1), rng.choice((*DEFAULTS, scoped_flag(rng))))
+        line = scoped_flag(rng) if rng.random() < 0.5 else rng.choice(DEFAULTS)
+        lines.insert(rng.randrange(len(lines) + 1), line)
     return lines
 
 

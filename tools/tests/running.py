@@ -14,14 +14,14 @@ from typing import Any
 
 from conftest import ROOT
 
-from desk_tools import served
+from desk_tools import history, served
 from desk_tools.evidence import program_beside
 from steelnewt_client.messages import canonical
 from tests.common.calling import call_words
 
-PROGRAM = os.path.join(ROOT, "tools", "desk-change-roster")
+PROGRAM = os.path.join(ROOT, "tools", "desk-change-")
 RELAY = os.path.join(ROOT, "relays", "desk-relay")
-PATIENCE = 120.0
+PATIENCE = 900.0  # seconds: the machine may be busy
 SETTINGS = """\
 desk = "unix:{folder}/desk.sock"
 relay = "chat"
@@ -30,23 +30,6 @@ outbox = "{folder}/outbox.db"
 zone = "UTC"
 [ssh]
 keys = "{folder}/keys"
-"""
-# the program desk, before or behind whose rebuild of the store the one that asks is killed
-WRAPPER = """\
-#!/bin/bash
-when=$(cat "$ROOM/kill-rebuild" 2> /dev/null)
-if [ "$1" != rebuild ] || [ "${4#*store/}" = "$4" ]; then exec "$REAL" "$@"; fi
-echo "${*:5}" > "$ROOM/rebuilt"
-if [ "$when" = fail ]; then rm "$ROOM/kill-rebuild"; echo "K4 Storage" >&2; exit 2; fi
-if [ "$when" = spoil ]; then
-    rm "$ROOM/kill-rebuild"
-    echo "no database at all" > "$4"
-    echo "F1 FileFailed" >&2
-    exit 2
-fi
-if [ "$when" = before ]; then rm "$ROOM/kill-rebuild"; kill -KILL $PPID; fi
-"$REAL" "$@" || exit
-if [ "$when" = behind ]; then rm "$ROOM/kill-rebuild"; kill -KILL $PPID; fi
 """
 
 
@@ -64,17 +47,18 @@ class Running:
     def __init__(self, folder: Path, desk: str) -> None:
         self.folder, self.real = folder, desk
         for name in ("bin", "etc", "store"):
-            (folder / name).mkdir()
+            (folder / name).mkdir(exist_ok=True)
         (folder / "store").chmod(0o700)
         self.roster = folder / "etc" / "roster.toml"
         shutil.copy(os.path.join(ROOT, "examples", "roster.toml"), self.roster)
         shutil.copy(os.path.join(ROOT, "examples", "site.sudo"), folder / "etc" / "base.sudo")
         shutil.copy(os.path.join(ROOT, "tools", "tests", "systemctl.sh"), folder / "bin/systemctl")
         self.desk = folder / "bin" / "desk"
-        self.desk.write_text(WRAPPER)
+        self.desk.symlink_to(desk)
         (folder / "bin" / "desk-audit").symlink_to(program_beside(desk))
-        for name in ("systemctl", "desk"):
-            (folder / "bin" / name).chmod(0o755)
+        for name in ("desk-change-roster", "desk-change-base"):
+            (folder / "bin" / name).symlink_to(os.path.join(ROOT, "tools", name))
+        (folder / "bin" / "systemctl").chmod(0o755)
         self.conf = folder / "etc" / "serve.conf"
         self.conf.write_text(
             f"ROSTER={self.roster}\nBASE={folder}/etc/base.sudo\nSTORE={folder}/store/desk.db\n"
@@ -120,7 +104,12 @@ class Running:
         return self.ask("GET", "/v1/messages").splitlines()
 
     def serves(self) -> str | None:
-        return served.serves(self.address)
+        """The digest of the roster that it is served with."""
+        found = served.counted(self.address)
+        return found and found.roster
+
+    def said(self) -> str:
+        return (self.folder / "desk.log").read_text()
 
     # ---- the change
 
@@ -134,30 +123,35 @@ class Running:
         path.write_text(text)
         return path
 
-    def words(self, roster: Path, *more: str) -> list[str]:
-        found = [PROGRAM, str(roster), "--conf", str(self.conf), "--desk", str(self.desk)]
-        found += ["--rosters", f"{self.folder}/rosters", "--keep", f"{self.folder}/kept"]
-        return [*found, *more]
+    def words(self, roster: Path, *more: str, kind: str = "roster") -> list[str]:
+        found = [f"{PROGRAM}{kind}", str(roster), "--conf", str(self.conf)]
+        return [*found, "--desk", str(self.desk), *more]
 
     def change(
-        self, roster: Path, *more: str, given: str = ""
+        self, new: Path, *more: str, given: str = "", kind: str = "roster"
     ) -> subprocess.CompletedProcess[str]:
         return subprocess.run(
-            self.words(roster, *more),
+            self.words(new, *more, kind=kind),
             env=self.environment,
             input=given,
             capture_output=True,
             text=True,
-            timeout=300,
+            timeout=PATIENCE,
             check=False,
         )
 
-    def pending(self) -> bool:
-        return (self.folder / "kept" / "pending.json").exists()
+    def moments(self) -> list[history.Line]:
+        return history.lines(str(self.folder / "store" / "history"))
 
-    def dated(self) -> list[str]:
-        folder = self.folder / "rosters"
-        return [it.read_text() for it in sorted(folder.iterdir())] if folder.is_dir() else []
+    def rosters(self) -> list[str]:
+        """The rosters of the history, in their order."""
+        folder = self.folder / "store" / "history"
+        return [(folder / it.moment / "roster.toml").read_text() for it in self.moments()]
+
+    def reasons(self) -> list[str]:
+        """The words of the last change."""
+        folder = self.folder / "store" / "history" / self.moments()[-1].moment
+        return (folder / "change").read_text().splitlines()
 
     # ---- the relay
 
@@ -177,7 +171,7 @@ class Running:
             stdin=subprocess.DEVNULL,
             capture_output=True,
             text=True,
-            timeout=180,
+            timeout=PATIENCE,
             check=False,
         )
 

@@ -3,6 +3,7 @@
 from __future__ import annotations
 
 import csv
+import hashlib
 import json
 import os
 import subprocess
@@ -47,6 +48,16 @@ def bytes_of(folder: str) -> dict[str, bytes]:
     return found
 
 
+def dated(folder: Path, texts: dict[str, str]) -> None:
+    """A history of these rosters, all with one base, as a desk keeps it."""
+    lines = ""
+    for moment, text in texts.items():
+        (folder / moment).mkdir(exist_ok=True)
+        (folder / moment / "roster.toml").write_text(text)
+        lines += f"{moment} {hashlib.sha256(text.encode()).hexdigest()} {'0' * 64}\n"
+    (folder / "moments").write_text(lines)
+
+
 @pytest.fixture
 def evidence(desk: str, tmp_path: Path) -> Make:
     """Makes a folder of the examples, with these words besides."""
@@ -55,9 +66,8 @@ def evidence(desk: str, tmp_path: Path) -> Make:
     with open(os.path.join(EXAMPLES, "roster.toml"), encoding="utf-8") as file:
         text = file.read()
     # at half past nine bob loses his duty
-    (rosters / "20250101000000Z.toml").write_text(text)
-    (rosters / f"{CHANGED}.toml").write_text(text.replace('bob = ["approve-db"]', "bob = []"))
-    (rosters / "20270101000000Z.toml").write_text("later")
+    without = text.replace('bob = ["approve-db"]', "bob = []")
+    dated(rosters, {"20250101000000Z": text, CHANGED: without, "20270101000000Z": "later"})
 
     def make(
         name: str, *words: str, messages: str = "audited.messages", span: tuple[str, str] = SPAN
@@ -158,7 +168,7 @@ def test_what_is_refused(evidence: Make, tmp_path: Path) -> None:
     (tmp_path / "there").mkdir()
     for name, words, span, said in (
         ("there", (), SPAN, "it is there already"),
-        ("a", (), ("20240101000000Z", SPAN[1]), "it has no roster"),
+        ("a", (), ("20240101000000Z", SPAN[1]), "its moments name no roster"),
         ("a", (), (SPAN[1], SPAN[0]), "UNTIL is before FROM"),
         ("a", ("--base", "/nowhere"), SPAN, "/nowhere"),
         ("a", ("--log", "/nowhere"), SPAN, "/nowhere"),
@@ -193,12 +203,11 @@ def test_a_roster_hides_no_run_after_a_revocation(evidence: Make, tmp_path: Path
     """A roster that came after a revocation tells what ran under it, whether it would have let the
     grant be or not."""
     rosters, log = tmp_path / "rosters", f"db1={EXAMPLES}/used.log"
-    text = (rosters / "20250101000000Z.toml").read_text()
+    text = (rosters / "20250101000000Z" / "roster.toml").read_text()
     late = [("ann", 7, "20260105103112Z")]
     for no, bob in enumerate(('bob = ["approve-db"] # still', "bob = []")):
         changed = text.replace('bob = ["approve-db"]', bob)
-        (rosters / f"{CHANGED}.toml").unlink(missing_ok=True)
-        (rosters / "20260105103100Z.toml").write_text(changed)
+        dated(rosters, {"20250101000000Z": text, "20260105103100Z": changed})
         folder, ran = evidence(str(no), "--log", log)
         assert ran.returncode == 0, ran
         found = bytes_of(folder)
@@ -213,8 +222,8 @@ def test_a_roster_hides_no_run_after_a_revocation(evidence: Make, tmp_path: Path
 
 def test_a_roster_of_toml_1_1(evidence: Make, tmp_path: Path) -> None:
     """A table may stand over several lines: a desk takes it, and so does the second reading."""
-    path = tmp_path / "rosters" / "20250101000000Z.toml"
-    path.write_text(newer(path.read_text()))
+    path = tmp_path / "rosters" / "20250101000000Z" / "roster.toml"
+    dated(tmp_path / "rosters", {"20250101000000Z": newer(path.read_text())})
     folder, ran = evidence("made", "--log", f"db1={EXAMPLES}/used.log")
     assert ran.returncode == 0, ran
     found = bytes_of(folder)
@@ -222,3 +231,15 @@ def test_a_roster_of_toml_1_1(evidence: Make, tmp_path: Path) -> None:
     said = b"the statuses are the same\nall messages are told\n"
     assert found["20250101000000Z/comparison"] == said
     assert b"ann 7 granted " in found["20250101000000Z/second"]
+
+
+def test_a_history_that_does_not_fit(evidence: Make, tmp_path: Path) -> None:
+    """A roster that was carried away, and one that is another than its line names, are named."""
+    path = tmp_path / "rosters" / CHANGED / "roster.toml"
+    path.write_text(path.read_text() + "# more\n")
+    _, ran = evidence("made")
+    assert ran.returncode == 2 and "is not the roster that" in ran.stderr, ran
+    path.unlink()
+    folder, ran = evidence("made")
+    assert ran.returncode == 2 and "bring it back" in ran.stderr, ran
+    assert not os.path.exists(folder)

@@ -10,11 +10,12 @@ import subprocess
 import sys
 import time
 from collections.abc import Callable
+from itertools import product
 from pathlib import Path
 
 import pytest
 
-from desk_tools import comparing, machine, sudo_settings
+from desk_tools import comparing, machine
 from tests.common import others_sudoers
 from conftest import ROOT, Run
 
@@ -86,6 +87,14 @@ def made(imports: Run, desk: str, folder: Path, tmp_path: Path) -> Make:
         ("ALL, !%wheel ALL = /bin/ls\n", "ALL, !ann, !bob db1 = (root) /bin/ls\n"),
         ("ann ALL = ALL\n%ops ALL = !/bin/ls\n", "ann db1 = (root) ALL\nkim db1 = (root) !/bin/ls\n"),
         ("Defaults runas_default=op\nann ALL = /bin/ls\n", "ann db1 = (op) /bin/ls\n"),
+        # a name that comes again in a list: its last word counts
+        ("ann, ann, %wheel ALL = /bin/ls\n", "ann, bob db1 = (root) /bin/ls\n"),
+        ("User_Alias A = bob, %wheel, kim, !bob\nA ALL = ALL\n", "User_Alias DESK_A = ann, kim, !bob\nDESK_A db1 = (root) ALL\n"),
+        ("ann ALL = (op, root, !op, op) ALL\n", "ann db1 = (root, op) ALL\n"),
+        (
+            "Cmnd_Alias A = /bin/a, !/bin/b, /bin/a *\nCmnd_Alias B = A, !A, /bin/b\nann ALL = B\n",
+            "Cmnd_Alias DESK_A = !/bin/b, /bin/a\nCmnd_Alias DESK_B = DESK_A, !DESK_A, /bin/b\nann db1 = (root) DESK_B\n",
+        ),
         # sudo takes `*` alone for any arguments and for none
         ("ann ALL = /opt/d/x *\n", "ann db1 = (root) /opt/d/x\n"),
         ("ann ALL = ALL, !/opt/d/x *\n", "ann db1 = (root) ALL\nann db1 = (root) !/opt/d/x\n"),
@@ -190,6 +199,8 @@ LS = "ALL ALL = /bin/ls\n"
         ("ann ALL = ALL\n", "ann ALL = sudoedit /etc/motd", True),
         ("ann ALL = /usr/bin/tail -f /var/log/messages\n", "ann ALL = !/usr/bin/tail *mess*", True),
         ("Cmnd_Alias C = /bin/a, /bin/ls\nann ALL = C\n", "ann ALL = NOEXEC: /bin/ls", True),
+        # (an alias may deny something of what it names)
+        ("Cmnd_Alias C = /bin/a, !ALL\nann ALL = C\n", "ann ALL = (:adm) /bin/ls", True),
         # other people, hosts or commands, or the same said
         (LS, "ann ALL = NOEXEC: /bin/kill", False),
         ("bob ALL = /bin/ls\n", "ann ALL = NOEXEC: /bin/ls", False),
@@ -212,27 +223,37 @@ def test_what_stays_takes_an_earlier_rule_along(
     assert f"sudoers:{line}: {'gone' if is_taken else 'kept'}: " in "\n".join(said)
 
 
-SCOPES = ("", ":ann", "@db1", ">root", "!/usr/bin/id")
-WALK = [
-    (flag, is_on, scope, sign)
-    for flag in sudo_settings.TAGS
-    for is_on in (True, False)
-    for scope in SCOPES
-    for sign in ("", "!", None)
-]
+# sudoers(5): the tags that set a flag of a command and take it away, and what it is by itself
+FLAGS = {
+    "authenticate": ("PASSWD", "NOPASSWD", True),
+    "noexec": ("NOEXEC", "EXEC", False),
+    "intercept": ("INTERCEPT", "NOINTERCEPT", False),
+    "setenv": ("SETENV", "NOSETENV", False),
+    "sudoedit_follow": ("FOLLOW", "NOFOLLOW", False),
+    "log_input": ("LOG_INPUT", "NOLOG_INPUT", False),
+    "log_output": ("LOG_OUTPUT", "NOLOG_OUTPUT", False),
+}
+# (no Defaults line sets these, and they change no right)
+TAGS = [tag for yes, no, _ in FLAGS.values() for tag in (yes, no)] + ["MAIL", "NOMAIL"]
+SCOPES = ("", f":{', '.join(map(str.lower, TAGS))}", "@db1", ">root", "!/usr/bin/id")
 
 
-def test_each_tag_beside_each_defaults() -> None:
-    """A tag is left out of a base only where the command means the same without it."""
-    for flag, is_on, scope, sign in WALK:
-        tag = sudo_settings.TAGS[flag]
-        settings = [] if sign is None else [(flag, not sign)]
-        unsaid = sudo_settings.unsaid_tag(flag, is_on, settings, False)
-        is_same = is_on == tag.is_on and (sign is None or (not sign) == tag.is_on)
-        if flag == "send_mail" or (flag == "authenticate" and not is_on):
-            assert unsaid is None
-        else:
-            assert unsaid == (None if is_same else tag.yes if is_on else tag.no), (flag, is_on, scope, sign)
+@pytest.mark.parametrize(("scope", "sign"), [("", None), *product(SCOPES, ("", "!"))])
+def test_each_tag_beside_each_defaults(made: Make, scope: str, sign: str | None) -> None:
+    """A command is in the base without its tag only where it means the same so; each tag is the
+    rule of a person of its own."""
+    lines = [f"Defaults{scope} {sign}{flag}\n" for flag in FLAGS if sign is not None]
+    lines += [f"{tag.lower()} ALL = {tag}: /usr/bin/id\n" for tag in TAGS]
+    base, said = made("".join(lines))
+    kept = {"MAIL": "", "NOMAIL": "", "NOPASSWD": "NOPASSWD: "}
+    for yes, no, is_on in FLAGS.values():
+        if sign is None or (sign == "") == is_on:
+            kept[yes if is_on else no] = ""
+    wanted = [f"{tag.lower()} db1 = (root) {kept[tag]}/usr/bin/id" for tag in TAGS if tag in kept]
+    assert base.splitlines() == wanted, said
+    for tag in TAGS:
+        why = f"    stays on the host: /usr/bin/id: {tag}: "
+        assert any(it.startswith(why) for it in said) == (tag not in kept), (tag, said)
 
 
 LONG = f" {'y' * 64}" * 15
@@ -480,11 +501,11 @@ def test_netgroups_are_asked(imports: Run, desk: str, tmp_path: Path, monkeypatc
     getent.chmod(0o755)
     monkeypatch.setenv("PATH", f"{getent.parent}:{os.environ['PATH']}")
     source = tmp_path / "sudoers"
-    source.write_text("+net ALL = /bin/a\nann +net = /bin/b\nbob +other = /bin/c\n")
+    source.write_text("+net ALL = /opt/a\nann +net = /opt/b\nbob +other = /opt/c\n")
     ran = imports("--desk", desk, "--host", f"db1={source}")
-    assert ran.stdout == "eve, kim db1 = (root) /bin/a\nann db1 = (root) /bin/b\n"
-    assert "    lost: /bin/c: +other: no netgroup of that name is listed" in ran.stderr
-    source.write_text("Defaults !use_netgroups\n+net ALL = /bin/a\n")
+    assert ran.stdout == "eve, kim db1 = (root) /opt/a\nann db1 = (root) /opt/b\n"
+    assert "    lost: /opt/c: +other: no netgroup of that name is listed" in ran.stderr
+    source.write_text("Defaults !use_netgroups\n+net ALL = /opt/a\n")
     assert imports("--desk", desk, "--host", f"db1={source}").stdout == ""
 
 
@@ -507,7 +528,7 @@ def test_hosts_of_a_list(made: Make, tmp_path: Path) -> None:
     (tmp_path / "hosts").write_text("10.0.0.1 db1.example.org db1\n10.0.0.2 DB2\n192.0.2.7 web1\n")
     words = ("--all-hosts", "--host-list", str(tmp_path / "hosts"))
     text = "ann 10.0.0.0/24, !db1.example.org = /bin/a\nann db[12] = /bin/b\nbob 203.0.113.0/24 = ALL\n"
-    assert made(text, *words)[0] == "ann db1, db2, !db1 = (root) /bin/a\nann db1, db2 = (root) /bin/b\n"
+    assert made(text, *words)[0] == "ann db2, !db1 = (root) /bin/a\nann db1, db2 = (root) /bin/b\n"
     assert made(text, *words[1:])[0] == "ann db1 = (root) /bin/b\n"
     assert made(text)[0] == "ann db1 = (root) /bin/b\n"
 
@@ -535,6 +556,47 @@ def test_aliases_have_a_prefix(made: Make) -> None:
     names = re.findall(r"User_Alias (\w+) ", base)
     assert len({*names}) == 2 and all(it.startswith("DESK_A") and len(it) <= 32 for it in names)
     assert made("User_Alias U = ann\nU ALL = ALL\n", "--prefix", "OURS_")[0].startswith("User_Alias OURS_U = ann")
+
+
+def test_the_linter_takes_what_is_made(made: Make, lint: Run, desk: str, tmp_path: Path) -> None:
+    """The linter had a warning for each alias of such a base."""
+    base = tmp_path / "base.sudo"
+    base.write_text(made("User_Alias A = ann\nCmnd_Alias B = /usr/bin/id\nA ALL = B, /usr/bin/du\n")[0])
+    said = lint("--desk", desk, "--strict", str(base))
+    assert (said.returncode, said.stdout) == (0, ""), said
+
+
+LINKS = """\
+ann ALL = /bin/ls, NOPASSWD: !/sbin/fdisk -l /dev/sda, /bin/, (op) /usr/bin/id
+bob ALL = /bin/less -*, /binary/x
+"""
+
+
+def test_a_folder_that_is_a_link(imports: Run, lint: Run, desk: str, tmp_path: Path) -> None:
+    """A program below /bin has its own name in the base: the linter warned of each."""
+    if not os.path.islink("/bin"):
+        pytest.skip("/bin is no link here")
+    source, base, rest = (tmp_path / name for name in ("sudoers", "base.sudo", "rest"))
+    source.write_text(LINKS)
+    ran = imports("--desk", desk, "--host", f"db1={source}", "--rest", str(rest))
+    found = ran.stdout.splitlines()
+    assert found == [
+        "ann db1 = (root) /usr/bin/ls",
+        "ann db1 = (root) NOPASSWD: !/usr/sbin/fdisk -l /dev/sda",
+        "ann db1 = (root) NOPASSWD: /bin/",
+        "ann db1 = (op) NOPASSWD: /usr/bin/id",
+        "bob db1 = (root) /binary/x",
+    ], ran
+    note = f"{source}:1: note: /bin/ls is /usr/bin/ls in the base: /bin is a link to /usr/bin here"
+    assert note in ran.stderr.splitlines()
+    assert rest.read_text().splitlines()[1:] == ["bob ALL = /bin/less -*"]
+    base.write_text("".join(f"{line}\n" for line in found if not line.endswith("/")))
+    assert "real-path" not in lint("--desk", desk, "--json", str(base)).stdout
+    # (other hosts may have two folders)
+    (tmp_path / "etc").mkdir()
+    (tmp_path / "etc" / "sudoers").write_text(LINKS)
+    for words in ((str(source), "--all-hosts"), ("--host", f"db1={tmp_path}/etc")):
+        assert " = (root) /bin/ls\n" in imports("--desk", desk, *words).stdout
 
 
 def test_a_copy_of_another_hosts_etc(made: Make, folder: Path) -> None:

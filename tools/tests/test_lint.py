@@ -415,6 +415,65 @@ def test_faults_of_a_base(lint: Run, desk: str, tmp_path: Path) -> None:
     assert all(it["expected"] for it in found["faults"])
 
 
+MISLED = [
+    # a wrong line, and the words that are named, each with what to do
+    ("Cmnd_Alias pg = /usr/bin/psql", {"pg": "write the alias's name in capitals: it has capitals, digits and _ alone"}),
+    (
+        "dba db* = (postgres) /usr/bin/psql *",
+        {"db*": "list the hosts", "/usr/bin/psql *": "write the program alone: it may have any arguments, or none"},
+    ),
+    ("ann web[0-9] = ALL", {"web[0-9]": "list the hosts"}),
+    ("ann db1 = ALL : web[12] = ALL", {"web[12]": "list the hosts"}),
+    ("Host_Alias PROD = db1, web?", {"web?": "list the hosts"}),
+    ("Host_Alias PROD = db1, web1.example.com", {"web1.example.com": "write the short name of the host"}),
+    ("ann ALL = /usr/bin/id,\\ \n  /usr/bin/du", {"\\": "no blank stands behind it at the end of a line"}),
+    ("ann ALL = ALL #1 rule", {"#1": "write a blank behind the # of a comment"}),
+    ("ann ALL = (#1000) ALL", {"#1000": "write the user's name"}),
+    # a line of which all was repeated
+    ("ann = /usr/bin/id", {"ann": "name the hosts, or ALL, behind the user"}),
+    ("ann ALL /usr/bin/id", {"ann ALL /usr/bin/id": "write it as USERS HOSTS = COMMANDS"}),
+    ("ann ALL = NOPASSWD: id, /usr/bin/w", {"id": "write the command's full path"}),
+    ("ann ALL = (root) bin/id -u", {"bin/id": "write the command's full path"}),
+    ("ann ALL = NOPASSWD /usr/bin/id", {"NOPASSWD": "a tag has a : behind it"}),
+    ("ann ALL = /usr/bin/id NOPASSWD:", {"NOPASSWD:": "write the tag before its command"}),
+    ("ann ALL = /usr/bin/id a=b", {"a=b": "write a backslash before each : and = of an argument"}),
+    ("ann ALL = /usr/bin/id a:b", {"a:b": "write a backslash before each : and = of an argument"}),
+    ("ann ALL = ! /usr/bin/id", {"!": "no blank stands behind it"}),
+    ("ann ALL = /usr/bin/id,", {",": "take it out, or write what comes behind it"}),
+    ("ann ALL = (root /usr/bin/id", {"(root /usr/bin/id": "close it with a ) behind the target"}),
+    ("ann ALL = /usr/bin/id, id, /usr/bin/id -u", {"id": "write the command's full path"}),
+    # each word that is at fault, and none beside it
+    ("ann, %a, %b ALL = /usr/bin/id", {"%a": "name the group's users, or write an alias of them", "%b": "name the group's users, or write an alias of them"}),
+    ("A ALL = B, /usr/bin/id", {"A": "define the alias on a line above, in its kind", "B": "define the alias on a line above, in its kind"}),
+]
+
+
+@pytest.mark.parametrize(("line", "said"), MISLED, ids=[it[0].partition("\n")[0] for it in MISLED])
+def test_the_words_of_a_line_of_a_base(
+    lint: Run, desk: str, tmp_path: Path, line: str, said: dict[str, str]
+) -> None:
+    """The word that is wrong is named, and not one beside it or the whole line."""
+    base = tmp_path / "b.sudo"
+    base.write_text(f"kim ALL = /usr/bin/id\n{line}\n")
+    ran = lint("--desk", desk, "--json", str(base))
+    (found,) = json.loads(ran.stdout)["files"]
+    assert {it["value"]: it["expected"] for it in found["faults"]} == said
+    assert {it["line"] for it in found["faults"]} == {2}
+
+
+def test_a_comma_that_is_missing(lint: Run, desk: str, tmp_path: Path) -> None:
+    base = tmp_path / "b.sudo"
+    base.write_text(
+        "Cmnd_Alias SITE_C = /usr/bin/id /usr/sbin/du, /usr/bin/cat /var/log/messages\n"
+        "ann ALL = SITE_C, /usr/bin/id -u /usr/local/bin/x, /usr/bin/du /usr/bin/\n"
+    )
+    found = re.findall(r":(\d+): warning: (.*): sudo takes (\S+) for an arg", lint("--desk", desk, str(base)).stdout)
+    assert found == [
+        ("1", "/usr/bin/id /usr/sbin/du", "/usr/sbin/du"),
+        ("2", "/usr/bin/id -u /usr/local/bin/x", "/usr/local/bin/x"),
+    ]
+
+
 def test_warnings_of_a_base(lint: Run, desk: str, tmp_path: Path) -> None:
     base = tmp_path / "base"
     base.write_text("User_Alias A = ann\n \\\nUser_Alias SITE_B = bob\nA ALL = /bin/ls, \\\n  /lib/x/\n# /bin/no\n")

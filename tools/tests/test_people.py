@@ -17,7 +17,7 @@ import pytest
 
 from desk_tools import people_settings
 from desk_tools.calendars import Named, on_call
-from desk_tools.directory import Ldap, Unsure, unseen
+from desk_tools.directory import Ldap, Unsure
 from desk_tools.roster_text import Days
 from conftest import ROOT
 from running import until
@@ -237,12 +237,14 @@ class Room:
         self.roster.write_text(ROSTER)
         (folder / "serve.conf").write_text(f"STORE={folder}/desk.db\nROSTER={folder}/none\n")
 
-    def run(self, settings: str, *more: str) -> subprocess.CompletedProcess[str]:
+    def run(
+        self, settings: str, *more: str, before: tuple[str, ...] = ()
+    ) -> subprocess.CompletedProcess[str]:
         (self.folder / "people.toml").write_text(settings)
         words = [os.path.join(ROOT, "tools", "desk-roster"), str(self.roster), "--on", TODAY]
         words += ["--people", f"{self.folder}/people.toml", "--conf", f"{self.folder}/serve.conf"]
         return subprocess.run(
-            [*words, "--desk", self.desk, *more],
+            [*before, *words, "--desk", self.desk, *more],
             capture_output=True,
             text=True,
             timeout=300,
@@ -606,10 +608,17 @@ def test_the_grants_that_change(room: Room, directory: Directory, desk: str) -> 
     assert ran.returncode == 2 and "the desk is served with this file" in ran.stderr, ran
 
 
-def test_whom_getent_does_not_see(tmp_path: Path) -> None:
-    """A directory lists nobody by default (sssd, winbind)."""
-    switch = tmp_path / "nsswitch.conf"
+def test_whom_getent_does_not_see(room: Room) -> None:
+    """A directory lists nobody by default (sssd, winbind): the program says so, and it does not
+    where files have all."""
+    if os.geteuid() != 0:
+        assert not os.environ.get("WHOLE"), "this needs root: it binds a file over one of /etc"
+        pytest.skip("this needs root: it binds a file over one of /etc")
+    switch = room.folder / "nsswitch.conf"
+    script = f'mount --bind {switch} /etc/nsswitch.conf && exec "$@"'
+    before = ("unshare", "--mount", "--propagation", "private", "sh", "-c", script, "sh")
     for text, is_told in (("passwd: files\ngroup: files\n", False), ("passwd: files sss\n", True)):
         switch.write_text(text)
-        said = unseen("ops", str(switch))
-        assert (said is not None and "first group" in said) == is_told
+        ran = room.run('[duties.operate-db]\ngetent = "root"\n', "--many", before=before)
+        said = "whoever has root as their first group, and is not listed by `getent passwd`"
+        assert (said in ran.stderr, ran.returncode) == (is_told, 1), ran

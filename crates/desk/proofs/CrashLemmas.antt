@@ -4,7 +4,7 @@ use Rattle.messages.specs.declared.message.Message.{Message}
 use Rattle.store_tables.specs.Sets.{SameSet}
 use Rattle.desk_store.specs.Left.{Left, IsAsKept, IsDeskOf, IsNothingOrFresh, IsOldDeskOf, IsReplacedOrNot, LeavesOnly}
 use Rattle.desk_store.proofs.SameLeft.{same_left, same_old_left}
-use Rattle.desk.specs.Crash.{IsLeftByOpening, IsLeftByRebuilding}
+use Rattle.desk.specs.Crash.{IsLeftByOpening, IsLeftByRebuilding, IsLeftByTaking}
 
 -- ---- opening
 
@@ -52,3 +52,9 @@ leaves_same MayLeave r s S T roster set leaves left may = same_left r s S T left
 pub of_roster : (MayLeave : Left → Type 0) (r s : List ℕ) (S : Message → Type 0)
     → s ≡ r → LeavesOnly MayLeave (IsDeskOf s S) → LeavesOnly MayLeave (IsDeskOf r S)
 of_roster MayLeave r s S roster = leaves_same MayLeave r s S S roster (λ m. (λ h. h, λ h. h))
+
+-- the desk as it was, or with the other roster's text, each under another name
+pub taken_or_not : (a a' b b' : List ℕ) (S : Message → Type 0) (left : Left) → a ≡ a' → b ≡ b' → IsDeskOf a S left ⊎ IsDeskOf b S left
+    → IsLeftByTaking a' b' S left
+taken_or_not a a' b b' S left first second (inl was) = inl (same_left a' a S S left first (λ m. (λ h. h, λ h. h)) was)
+taken_or_not a a' b b' S left first second (inr new) = inr (same_left b' b S S left second (λ m. (λ h. h, λ h. h)) new)

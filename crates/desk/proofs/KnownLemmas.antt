@@ -124,18 +124,19 @@ known_looked : (S : Message → Type 0) → ((m : Message) → S m → IsMessage
 known_looked S messages Old Kept more it = (it.0, it.1, more it.0 (λ m there. messages m ((it.1 m).1 there)) it.2)
 
 -- and all that holds of a desk still holds, once what is known was looked at
-pub desk_looked_at : {Fits Desk Durable Live Up Was : Type 0} {now was text : List ℕ} {Old Kept : List Message → Type 0} (S : Message → Type 0)
+pub desk_looked_at : {Fits Desk Durable Live Digests Up Was : Type 0} {now was text : List ℕ} {Old Kept : List Message → Type 0} (S : Message → Type 0)
     → ((m : Message) → S m → IsMessage m) → ((set : List Message) → ((m : Message) → Contains set m → IsMessage m) → Old set → Kept set)
     → Fits → (Up → Desk) → (Up → now ≡ was) → (Was → was ≡ text) → (Up → Was) → (Up → Durable)
-    → (Up → (set : List Message) × Lists S set × Old set) → Live
-    → Fits × (Up → Desk) × (Up → now ≡ text) × (Up → Durable) × (Up → (set : List Message) × Lists S set × Kept set) × Live
-desk_looked_at {Old = Old} {Kept = Kept} S messages more fits desk same was before durable known live = (
+    → (Up → (set : List Message) × Lists S set × Old set) → Live → Digests
+    → Fits × (Up → Desk) × (Up → now ≡ text) × (Up → Durable) × (Up → (set : List Message) × Lists S set × Kept set) × Live × Digests
+desk_looked_at {Old = Old} {Kept = Kept} S messages more fits desk same was before durable known live digests = (
   fits,
   desk,
   λ up. same up ∙ was (before up),
   durable,
   λ up. known_looked S messages Old Kept more (known up),
   live,
+  digests,
 )
 
 -- and something is known only where something was known
@@ -163,3 +164,14 @@ pub up_where_counted : (Clean Up : Type 0) (known : Option Known) (count : Optio
 up_where_counted Clean Up None count n live nothing is =
     let wrong : ◌≡◌ {A = Option ℕ} (Some n) None = sym is ∙ nothing refl in absurd cc
 up_where_counted Clean Up (Some k) count n live nothing is = live
+
+-- what is known of a set of messages is known of the same set under another roster
+pub known_under : (f g : RosterFields Cmnd) (Up Later : Type 0) (S T : Message → Type 0) (old new : Option Known) → IsKnown f Up S old
+    → (Later → Up) → (Later → SameSet S T) → ((set : List Message) → IfSome old (IsKnownIn f set) → IfSome new (IsKnownIn g set))
+    → (old ≡ None → new ≡ None) → IsKnown g Later T new
+known_under f g Up Later S T None None known was same still nothing = tt
+known_under f g Up Later S T None (Some k) known was same still nothing =
+    let wrong : ◌≡◌ {A = Option Known} (Some k) None = nothing refl in absurd cc
+known_under f g Up Later S T (Some k) None known was same still nothing = tt
+known_under f g Up Later S T (Some k) (Some l) known was same still nothing = λ later.
+    let it = known (was later) in (it.0, lists_still S T it.0 (same later) it.1, still it.0 it.2)

@@ -63,3 +63,8 @@ no_storage faults.TooLong (Err e) is = λ storage. absurd cc
 no_storage faults.NotCanonical (Err e) is = λ storage. absurd cc
 no_storage faults.BadField (Err e) is = λ storage. absurd cc
 no_storage faults.NoMemory (Err e) is = λ storage. absurd cc
+
+-- a keeper's error is a want
+pub is_want : (error : KeeperError) (e : Refusal) → e ≡ refusal_of_error error → IsWant e
+is_want errors.Storage e is = inr is
+is_want errors.NoMemory e is = inl is

@@ -29,6 +29,11 @@ pub record IsLeftByRebuilding (Empty Desk Old : Type 0)
   pub desk : Desk → IsDeskOf recorded S left ⊎ IsDeskOf text S left
   pub old : Old → IsOldDeskOf recorded S left ⊎ IsDeskOf text S left
 
+-- While an open desk takes another roster: the whole desk as it was, or whole with the new roster's
+-- text and the messages that it had.
+abbrev pub IsLeftByTaking : (recorded text : List ℕ) → (S : Message → Type 0) → Left → Type 0
+IsLeftByTaking recorded text S left = IsDeskOf recorded S left ⊎ IsDeskOf text S left
+
 -- An opening commits only the making of a desk, by a keeper that was up and kept no part of a desk:
 -- a whole desk of the roster's text, with no message.
 abbrev pub IsMadeByOpening : (Up Empty : Type 0) → (text : List ℕ) → Left → Type 0

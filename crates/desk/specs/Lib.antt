@@ -1,5 +1,6 @@
 -- what a desk is, how it is opened and rebuilt, and what it answers to deliveries
 pub mod State
+pub mod Digests
 pub mod Refusals
 pub mod Serving
 pub mod Opening

@@ -41,16 +41,19 @@ pub struct Desk<K: Keeper> {
     pub(crate) alloc: Global,
     pub(crate) roster: Roster,
     pub(crate) base: Base,
+    /// The digests of the roster and the base, once they were asked for.
+    pub(crate) digests: Option<String>,
     pub(crate) keeper: K,
     pub(crate) known: Option<Known>,
     pub(crate) reader: MessageReader,
 }
 
 impl<K: Keeper> Model for Desk<K> {
-    ghost use Rattle.std.specs.Prelude.{◌≡◌};
+    ghost use Rattle.std.specs.Prelude.{◌≡◌, IfSome, string_bytes};
     ghost use Rattle.grants.specs.Bases.{FitsBase};
     ghost use Rattle.desk_store.specs.Left.{IsDeskOf, LeavesOnly};
     ghost use Rattle.desk.specs.private.Known.{IsKnown, IsKnownOfUp};
+    ghost use Rattle.desk.specs.Digests.{digests_text};
     ghost use Rattle.desk.specs.State.{DeskState};
 
     ghost Value = { DeskState K };
@@ -61,7 +64,8 @@ impl<K: Keeper> Model for Desk<K> {
         × (K.is_up d.keeper → K.roster d.keeper ≡ d.roster.text) × (K.is_up d.keeper
         → LeavesOnly (K.may_leave d.keeper) (IsDeskOf (K.roster d.keeper) (K.holds d.keeper)))
         × IsKnown d.roster.says (K.is_up d.keeper) (K.holds d.keeper) d.known
-        × IsKnownOfUp (K.is_clean d.keeper) (K.is_up d.keeper) d.known };
+        × IsKnownOfUp (K.is_clean d.keeper) (K.is_up d.keeper) d.known
+        × IfSome d.digests (λ text. string_bytes text ≡ digests_text d.roster.text d.base) };
 }
 
 impl<K: Keeper> Desk<K> {
@@ -132,6 +136,7 @@ impl<K: Keeper> Desk<K> {
                 alloc,
                 roster,
                 base: Base::new(base),
+                digests: None,
                 keeper,
                 known: known_at_first(alloc, origin),
                 reader: MessageReader::new(alloc),
@@ -330,12 +335,14 @@ impl<K: Keeper> Desk<K> {
             alloc: _,
             roster,
             base,
+            digests,
             keeper,
             known,
             reader,
         } = self;
         drop(reader);
         drop(known);
+        drop(digests);
         drop(base);
         drop(roster);
         keeper

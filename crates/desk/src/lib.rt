@@ -7,6 +7,7 @@ mod answer_laws;
 mod counting;
 mod delivery;
 mod desk;
+mod digests;
 mod holdings;
 pub mod laws;
 mod loading;
@@ -18,6 +19,7 @@ mod refusal;
 mod reopening;
 mod run_laws;
 mod stopping;
+mod taking;
 mod texts;
 
 pub use ack::Ack;

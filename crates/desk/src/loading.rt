@@ -165,6 +165,20 @@ pub(crate) fn with_count(known: Option<Known>, count: usize) -> Option<Known>
     Some(known)
 }
 
+/// What is known of the messages under another roster. The suspects depend on the roster, so they
+/// are dropped, and the next report looks for them anew.
+pub(crate) fn under_another(known: Option<Known>) -> Option<Known>
+    ensures still { (f g : RosterFields AnyCmnd) (set : List AnyMessage)
+        → IfSome known (IsKnownIn f set) → IfSome result (IsKnownIn g set) }
+    ensures nothing { known ≡ None → result ≡ None }
+{
+    let Some(mut known) = known else {
+        return None;
+    };
+    known.suspects = None;
+    Some(known)
+}
+
 /// How many messages there are, if they were counted.
 pub(crate) fn count_of(known: &Option<Known>) -> Option<usize>
     ensures counted { (f : RosterFields AnyCmnd) (set : List AnyMessage)

@@ -129,6 +129,7 @@ impl<K: Keeper> Desk<K> {
                 alloc,
                 roster,
                 base: Base::new(base),
+                digests: None,
                 keeper,
                 known: None,
                 reader: MessageReader::new(alloc),

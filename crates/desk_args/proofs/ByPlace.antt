@@ -174,10 +174,12 @@ said program words (Rebuild places) all is =
     subst (λ ws. list_all is_operand ws ≡ true → IsCommandLine (program ∷ ws) (Rebuild places)) (sym same)
     (λ operands. line program (codes "rebuild") (nth 6) (places.roster ∷ places.base ∷ store ∷ []) _ (Rebuild places)
     (rebuilds places.roster places.base store operands) (refl, placed_at _ places store says refl refl refl refl)) all
-said program words (Serve places addr requests) all is =
-    let (store, text, says, listens, same, none) = is in
-    subst (λ ws. list_all is_operand ws ≡ true → IsCommandLine (program ∷ ws) (Serve places addr requests)) (sym same)
-    (λ operands. subst (λ r. IsCommandLine (program ∷ codes "serve" ∷ places.roster ∷ places.base ∷ store ∷ text ∷ []) (Serve places addr r)) (sym none)
-    (line program (codes "serve") (nth 7) (places.roster ∷ places.base ∷ store ∷ text ∷ []) _ (Serve places addr None)
+said program words (Serve places addr questions requests) all is =
+    let (store, text, says, listens, same, alone, none) = is in
+    subst (λ ws. list_all is_operand ws ≡ true → IsCommandLine (program ∷ ws) (Serve places addr questions requests)) (sym same)
+    (λ operands. subst (λ r. IsCommandLine (program ∷ codes "serve" ∷ places.roster ∷ places.base ∷ store ∷ text ∷ []) (Serve places addr questions r))
+    (sym none)
+    (subst (λ q. IsCommandLine (program ∷ codes "serve" ∷ places.roster ∷ places.base ∷ store ∷ text ∷ []) (Serve places addr q None)) (sym alone)
+    (line program (codes "serve") (nth 7) (places.roster ∷ places.base ∷ store ∷ text ∷ []) _ (Serve places addr None None)
     (serves places.roster places.base store text operands)
-    (refl, placed_at _ places store says refl refl refl refl, (text, refl, listens), refl))) all
+    (refl, placed_at _ places store says refl refl refl refl, (text, refl, listens), refl, refl)))) all

@@ -4,7 +4,8 @@ use Rattle.std.proofs.lemmas.Bool.{cases_Bool}
 use Rattle.std.specs.Str.Parse.{digits_value}
 use Rattle.clap.specs.Words.{Row, Text, first_of}
 use Rattle.sudo_words.specs.Moment.{IsStamp}
-use Rattle.desk_args.specs.CommandLine.{HasCount, HasMomentIfGiven, HasOption, HasSync, is_count}
+use Rattle.desk_args.specs.CommandLine.{HasAddressIfGiven, HasCount, HasMomentIfGiven, HasOption, HasSync, SaysAddress, is_count}
+use Rattle.desk_args.specs.declared.task.Address.{Address}
 use Rattle.desk_args.specs.declared.task.Sync.{Sync}
 use Rattle.desk_args.specs.declared.task.Sync.TheVariants.{Once, Twice}
 
@@ -69,6 +70,25 @@ moment_given id rows text is None has =
 moment_given id rows text is (Some n) has =
     let both : ◌≡◌ {A = Option Text} (Some has.0) (Some text) = sym has.1 ∙ is in
     let same : has.0 ≡ text = cc in (n, refl, subst (λ (t : Text). IsStamp t n) same has.2)
+
+-- ---- an option whose value is an address
+
+pub no_address : (id : Text) (rows : List Row) → first_of id rows ≡ None → (a : Option Address) → HasAddressIfGiven id rows a
+    → ◌≡◌ {A = Option Address} None a
+no_address id rows none None has = refl
+no_address id rows none (Some a) has =
+    let both : ◌≡◌ {A = Option Text} None (Some has.0) = sym none ∙ has.1 in
+    absurd cc
+
+-- the address that is given
+pub address_given : (id : Text) (rows : List Row) (text : Text) → first_of id rows ≡ Some text → (a : Option Address) → HasAddressIfGiven id rows a
+    → (b : Address) × (a ≡ Some b) × SaysAddress text b
+address_given id rows text is None has =
+    let both : ◌≡◌ {A = Option Text} (Some text) None = sym is ∙ has in
+    absurd cc
+address_given id rows text is (Some b) has =
+    let both : ◌≡◌ {A = Option Text} (Some has.0) (Some text) = sym has.1 ∙ is in
+    let same : has.0 ≡ text = cc in (b, refl, subst (λ (t : Text). SaysAddress t b) same has.2)
 
 -- ---- the option that says how often a commit syncs
 

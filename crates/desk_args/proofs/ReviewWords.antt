@@ -20,4 +20,4 @@ no_review rows none (Deliver places relay) says = apart (codes "deliver") refl s
 no_review rows none (Print places host after) says = apart (codes "print") refl says.0
 no_review rows none (Review places at) says = none at says.2
 no_review rows none (Rebuild places) says = apart (codes "rebuild") refl says.0
-no_review rows none (Serve places addr requests) says = apart (codes "serve") refl says.0
+no_review rows none (Serve places addr questions requests) says = apart (codes "serve") refl says.0

@@ -101,10 +101,12 @@ review = on_desk (codes "review") (codes "AT")
 abbrev pub rebuild : App
 rebuild = with_rule (with_wanted (new_app (codes "rebuild")) place_args) sync
 
--- `serve ROSTER BASE STORE ADDR [--sync SYNC] [--requests REQUESTS]`
+-- `serve ROSTER BASE STORE ADDR [--sync SYNC] [--requests REQUESTS] [--questions QUESTIONS]`
 abbrev pub serve : App
-serve = with_rule (on_desk (codes "serve") (codes "ADDR"))
-    (optional (codes "REQUESTS") (codes "requests"))
+serve =
+    with_rule (with_rule (on_desk (codes "serve") (codes "ADDR"))
+    (optional (codes "REQUESTS") (codes "requests")))
+    (optional (codes "QUESTIONS") (codes "questions"))
 
 -- the command with these commands under it as well
 abbrev pub with_subcommands : App → List App → App
@@ -263,6 +265,11 @@ SaysNoAddress text = (addr : Address) → SaysAddress text addr → ⊥
 abbrev pub HasAddress : Text → List Row → Address → Type 0
 HasAddress id rows addr = (text : Text) × HasValue id rows text × SaysAddress text addr
 
+-- the option's value says to listen there as well, or it is left out
+abbrev pub HasAddressIfGiven : Text → List Row → Option Address → Type 0
+HasAddressIfGiven id rows None = first_of id rows ≡ None
+HasAddressIfGiven id rows (Some addr) = HasAddress id rows addr
+
 -- ---- what the line says
 
 -- the command of this name, with its values, says the job
@@ -283,9 +290,11 @@ SaysJob (Some line) (Print places host after) =
 SaysJob (Some line) (Review places at) =
     (line.0 ≡ codes "review") × ArePlaces line.1 places × HasMoment (codes "AT") line.1 at
 SaysJob (Some line) (Rebuild places) = (line.0 ≡ codes "rebuild") × ArePlaces line.1 places
-SaysJob (Some line) (Serve places addr requests) =
+SaysJob (Some line) (Serve places addr questions requests) =
     (line.0 ≡ codes "serve") × ArePlaces line.1 places
-    × HasAddress (codes "ADDR") line.1 addr × HasCount (codes "REQUESTS") line.1 requests
+    × HasAddress (codes "ADDR") line.1 addr
+    × HasAddressIfGiven (codes "QUESTIONS") line.1 questions
+    × HasCount (codes "REQUESTS") line.1 requests
 
 -- By clap's rules the words are a command of the program, without a fault, and their values say the
 -- job.
@@ -347,6 +356,7 @@ pub data HasBadPlace (rows : List Row) : Type 0 where
 -- one of the values of `serve` is not of its form
 pub data HasBadServing (rows : List Row) : Type 0 where
   bad_addr : HasBadAddress (codes "ADDR") rows → HasBadServing rows
+  bad_questions : HasBadAddress (codes "QUESTIONS") rows → HasBadServing rows
   bad_requests : HasBadWord is_count (codes "REQUESTS") rows → HasBadServing rows
 
 -- the command is one on a desk

@@ -17,7 +17,7 @@ paths_of (Deliver places relay) = places.roster ∷ places.base ∷ []
 paths_of (Print places host after) = places.roster ∷ places.base ∷ []
 paths_of (Review places at) = places.roster ∷ places.base ∷ []
 paths_of (Rebuild places) = places.roster ∷ places.base ∷ []
-paths_of (Serve places addr requests) = places.roster ∷ places.base ∷ []
+paths_of (Serve places addr questions requests) = places.roster ∷ places.base ∷ []
 
 -- the first path, and the second if there is one
 abbrev pub listed : FilePaths → List Text

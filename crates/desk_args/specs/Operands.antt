@@ -53,6 +53,7 @@ SaysByPlace words (Review places at) =
 SaysByPlace words (Rebuild places) =
     (store : Text) × SaysPlace store places
     × (words ≡ codes "rebuild" ∷ places.roster ∷ places.base ∷ store ∷ [])
-SaysByPlace words (Serve places addr requests) =
+SaysByPlace words (Serve places addr questions requests) =
     (store text : Text) × SaysPlace store places × SaysAddress text addr
-    × (words ≡ codes "serve" ∷ places.roster ∷ places.base ∷ store ∷ text ∷ []) × (requests ≡ None)
+    × (words ≡ codes "serve" ∷ places.roster ∷ places.base ∷ store ∷ text ∷ [])
+    × (questions ≡ None) × (requests ≡ None)

@@ -62,9 +62,14 @@ const PRINT_OPTIONS: [(&str, &str, &str); 2] = [
 ];
 
 /// The options of `serve`.
-const SERVE_OPTIONS: [(&str, &str, &str); 2] = [
+const SERVE_OPTIONS: [(&str, &str, &str); 3] = [
     SYNC,
     ("REQUESTS", "requests", "End after so many connections"),
+    (
+        "QUESTIONS",
+        "questions",
+        "An address for questions alone, without messages",
+    ),
 ];
 
 /// The arguments that `rebuild` wants.

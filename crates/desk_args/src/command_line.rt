@@ -19,8 +19,8 @@ use crate::command::parsed;
 use crate::fault::JobFault;
 use crate::task::{Job, Places};
 use crate::values::{
-    address, args, count_if_given, moment, moment_if_given, store, sync_if_given, text, word,
-    word_if_given,
+    address, address_if_given, args, count_if_given, moment, moment_if_given, store, sync_if_given,
+    text, word, word_if_given,
 };
 use clap::ArgMatches;
 use std::alloc::Global;
@@ -208,11 +208,13 @@ fn serve(alloc: Global, matches: &ArgMatches<'_>) -> Result<Job, JobFault>
     ensures usage { IfErr result (λ e. IsUsage e → ⊥) }
 {
     let requests = count_if_given(matches, "REQUESTS")?;
+    let questions = address_if_given(alloc, matches, "QUESTIONS")?;
     let addr = address(alloc, matches, "ADDR")?;
     let places = places(alloc, matches)?;
     Ok(Job::Serve {
         places,
         addr,
+        questions,
         requests,
     })
 }

@@ -52,7 +52,19 @@ pub fn serves_at_socket()
           base = codes "base.sudo";
           store = stores.File (codes "desk.db");
           sync = Once;
-        }) (Unix (codes "/run/desk/desk.sock")) None) }
+        }) (Unix (codes "/run/desk/desk.sock")) None None) }
+{}
+
+/// `desk serve roster.toml base.sudo desk.db unix:/run/desk/desk.sock --questions unix:/run/q.sock`
+pub fn serves_questions_apart()
+    ensures { IsCommandLine (codes "desk" ∷ codes "serve" ∷ codes "roster.toml" ∷ codes "base.sudo"
+        ∷ codes "desk.db" ∷ codes "unix:/run/desk/desk.sock" ∷ codes "--questions"
+        ∷ codes "unix:/run/q.sock" ∷ []) (jobs.Serve (record {
+          roster = codes "roster.toml";
+          base = codes "base.sudo";
+          store = stores.File (codes "desk.db");
+          sync = Once;
+        }) (Unix (codes "/run/desk/desk.sock")) (Some (Unix (codes "/run/q.sock"))) None) }
 {}
 
 /// `desk deliver roster.toml base.sudo desk.db web --sync twice`

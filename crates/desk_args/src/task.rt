@@ -103,6 +103,8 @@ pub enum Job {
         places: Places,
         /// Where to listen.
         addr: Address,
+        /// Where to listen for questions alone; without it, nowhere.
+        questions: Option<Address>,
         /// How many connections are served; without it, as many as come.
         requests: Option<u64>,
     },

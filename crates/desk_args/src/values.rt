@@ -6,9 +6,10 @@ ghost use Rattle.std.specs.List.{list_all};
 ghost use Rattle.std.specs.Str.Parse.{digits_value};
 ghost use Rattle.clap.specs.Words.{found_of, rows_of};
 ghost use Rattle.sudo_words.specs.Word.{is_arg};
-ghost use Rattle.desk_args.specs.CommandLine.{HasAddress, HasBadAddress, HasBadMoment, HasBadSync};
-ghost use Rattle.desk_args.specs.CommandLine.{HasBadWord, HasBadWords, HasCount, HasMoment};
-ghost use Rattle.desk_args.specs.CommandLine.{HasMomentIfGiven, HasOption, HasSome, HasStore};
+ghost use Rattle.desk_args.specs.CommandLine.{HasAddress, HasAddressIfGiven, HasBadAddress};
+ghost use Rattle.desk_args.specs.CommandLine.{HasBadMoment, HasBadSync, HasBadWord, HasBadWords};
+ghost use Rattle.desk_args.specs.CommandLine.{HasCount, HasMoment, HasMomentIfGiven, HasOption};
+ghost use Rattle.desk_args.specs.CommandLine.{HasSome, HasStore};
 ghost use Rattle.desk_args.specs.CommandLine.{HasSync, HasValue, HasWord, HasWords, SaysSync};
 ghost use Rattle.desk_args.specs.CommandLine.{is_count, is_digits, given_values};
 ghost use Rattle.desk_args.specs.Faults.{IsUsage};
@@ -183,6 +184,28 @@ pub fn address(alloc: Global, matches: &ArgMatches<'_>, id: &str) -> Result<Addr
     ensures usage { IfErr result (λ e. IsUsage e → ⊥) }
 {
     read_address(alloc, value(matches, id))
+}
+
+/// Where to listen as well, by the value of an option, or none where it is left out.
+pub fn address_if_given(
+    alloc: Global,
+    matches: &ArgMatches<'_>,
+    id: &str,
+) -> Result<Option<Address>, JobFault>
+    ensures found { IfOk result (HasAddressIfGiven id.now (rows_of (found_of matches.now))) }
+    ensures only { (a : Option Listened) → HasAddressIfGiven id.now
+        (rows_of (found_of matches.now)) a → MatchResult result (λ r. r ≡ a) (λ e. e ≡ NoMemory) }
+    ensures word { IfErr result
+        (λ e. e ≡ BadWord → HasBadAddress id.now (rows_of (found_of matches.now))) }
+    ensures usage { IfErr result (λ e. IsUsage e → ⊥) }
+{
+    match matches.get_str(id) {
+        Some(text) => match read_address(alloc, text) {
+            Ok(addr) => Ok(Some(addr)),
+            Err(fault) => Err(fault),
+        },
+        None => Ok(None),
+    }
 }
 
 /// The value of an argument that has one, a moment's canonical text.

@@ -2,7 +2,7 @@
 use Rattle.std.proofs.Common.{◌≡◌, ◌⊎◌, ◌&&◌, ◌||◌, ℕ, Bool, true, false, cond, Option, Some, None, List, [], ◌∷◌, map}
 use Rattle.std.proofs.Common.{refl, sym, ap, ◌∙◌, subst, inl, inr}
 use Rattle.std.specs.List.{Contains, list_any}
-use Rattle.std.specs.Prelude.{filter}
+use Rattle.std.specs.Prelude.{filter, is_some}
 use Rattle.std.proofs.lemmas.Bool.{and_from, and_parts}
 use Rattle.std.proofs.lemmas.Bool.Decides.{Decides-eqb}
 use Rattle.std.proofs.lemmas.Slice.Eq.{bytes_eq-Decides}
@@ -21,13 +21,13 @@ use Rattle.outcomes.proofs.Orders.{behind_each, same_lists}
 use Rattle.outcomes.proofs.SetLemmas.{one_outcome}
 use Rattle.grants.specs.declared.outcome.Status.{Status}
 use Rattle.grants.specs.declared.outcome.Status.TheVariants.{Disputed, Lapsed, Refused, Waiting, Void, Granted}
-use Rattle.findings.specs.Picks.{all, has_host_among, has_person_of, has_span, has_span_of, is_told, is_whole}
+use Rattle.findings.specs.Picks.{after, all, has_host_among, has_person_of, has_span, has_span_of, is_open, is_told, is_whole, told_at}
 use Rattle.findings.specs.declared.entry.AuditEntry.{AuditEntry}
 use Rattle.findings.specs.declared.entry.About.{About}
 use Rattle.findings.specs.declared.pick.Pick.{Pick}
 use Rattle.findings.proofs.OneDocument.{Parts, one_document, parts_of}
 use Rattle.desk_audit.specs.Audit.{IsAudit, TellsName}
-use Rattle.desk_audit.specs.Documents.{AreOfName, IsAuditText, IsNameText, is_named}
+use Rattle.desk_audit.specs.Documents.{AreOfName, IsAuditText, IsNameText, IsOpenText, is_named}
 use Rattle.desk_audit.specs.Told.{TellsMessages}
 use Rattle.desk_audit.proofs.AuditLemmas.{EntryPrecedes}
 use Rattle.desk_audit.proofs.ListLemmas.{from_mapped, to_mapped}
@@ -113,13 +113,22 @@ span_same pick a b (Some Refused) requests verdicts = ap (list_any (λ (q : Requ
 span_same pick a b (Some Waiting) requests verdicts = ap (list_any (λ (q : RequestFields). has_span pick q.from q.until)) requests
 span_same pick a b (Some Void) requests verdicts = ap (list_any (λ (q : RequestFields). has_span pick q.from q.until)) requests
 
+span_alike : (pick : Pick) (x y : AuditEntry) → parts_of x ≡ parts_of y → has_span_of pick x.about x.status ≡ has_span_of pick y.about y.status
+span_alike pick x y same =
+    ap (λ (s : Option Status). has_span_of pick x.about s) (ap (λ (p : Parts). p.status) same)
+    ∙ span_same pick x.about y.about y.status (ap (λ (p : Parts). p.requests) same) (ap (λ (p : Parts). p.verdicts) same)
+
+open_alike : (at : ℕ) (x y : AuditEntry) → parts_of x ≡ parts_of y → is_open at x ≡ is_open at y
+open_alike at x y same =
+    ap (λ (s : Option Status). is_some s && has_span_of (after at) x.about x.status) (ap (λ (p : Parts). p.status) same)
+    ∙ ap (λ (b : Bool). is_some y.status && b) (span_alike (after at) x y same)
+
 told_alike : (pick : Pick) (x y : AuditEntry) → parts_of x ≡ parts_of y → is_told pick x ≡ is_told pick y
 told_alike pick x y same =
     let requests : x.about.requests.items ≡ y.about.requests.items = ap (λ (p : Parts). p.requests) same in
     let verdicts : x.about.verdicts.items ≡ y.about.verdicts.items = ap (λ (p : Parts). p.verdicts) same in
     let by : x.name.by ≡ y.name.by = ap (λ (p : Parts). p.name.by) same in
-    let span : has_span_of pick x.about x.status ≡ has_span_of pick y.about y.status =
-    ap (λ (s : Option Status). has_span_of pick x.about s) (ap (λ (p : Parts). p.status) same) ∙ span_same pick x.about y.about y.status requests verdicts in
+    let span = span_alike pick x y same in
     let host : has_host_among pick x.about.requests.items ≡ has_host_among pick y.about.requests.items = ap (has_host_among pick) requests in
     let person : has_person_of pick x.name.by x.about.verdicts.items ≡ has_person_of pick y.name.by y.about.verdicts.items =
     ap (λ (n : List ℕ). has_person_of pick n x.about.verdicts.items) by ∙ ap (has_person_of pick y.name.by) verdicts in
@@ -149,6 +158,11 @@ pub one_audit_text : (f : RosterFields Cmnd) (set : List Message) (pick : Pick) 
 one_audit_text f set pick s t x y =
     one_document f pick (filter (is_told pick) x.entries) (filter (is_told pick) y.entries) s t
     (filter_same (is_told pick) (told_alike pick) x.entries y.entries (one_audit f set x.entries y.entries x.audit y.audit)) x.document y.document
+
+pub one_open_text : (f : RosterFields Cmnd) (set : List Message) (at : ℕ) (s t : List ℕ) → IsOpenText f set at s → IsOpenText f set at t → s ≡ t
+one_open_text f set at s t x y =
+    one_document f (told_at at) (filter (is_open at) x.entries) (filter (is_open at) y.entries) s t
+    (filter_same (is_open at) (open_alike at) x.entries y.entries (one_audit f set x.entries y.entries x.audit y.audit)) x.document y.document
 
 -- ---- one name
 

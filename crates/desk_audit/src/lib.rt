@@ -13,7 +13,7 @@ mod entry;
 mod gathering;
 mod one_name;
 
-pub use as_json::{document, document_of};
+pub use as_json::{document, document_of, open_document};
 pub use entry::audit;
 pub use findings::{
     About, AuditEntry, Effect, Pick, Question, WordsFault, asked_by, counts, json, text,

@@ -231,7 +231,7 @@ module _ (files : List (List ℕ)) (k : AroundJob) (Same : Type 0) (input err : 
   same_job (Decide name invocation) = record { kept = same; told = nothing_said err }
   same_job (Beyond a b scope) = record { kept = same; told = nothing_said err }
   same_job (Rebuild places) = record { kept = same; told = nothing_said err }
-  same_job (Serve places addr requests) = record { kept = same; told = nothing_said err }
+  same_job (Serve places addr questions requests) = record { kept = same; told = nothing_said err }
   same_job (Deliver places relay) = same_delivered places relay
   same_job (Print places host moment) = same_printed places host moment
   same_job (Review places at) = same_reviewed places at
@@ -255,7 +255,7 @@ module _ (k : AroundJob) (input before after : Option (List ℕ)) (status : Exit
   said_before (Beyond a b scope) files is = nothing is.1
   said_before (Deliver places relay) files is = nothing is.1
   said_before (Rebuild places) files is = nothing is.1
-  said_before (Serve places addr requests) files is = absurd is
+  said_before (Serve places addr questions requests) files is = absurd is
   said_before (Print places host moment) [] is = absurd is
   said_before (Print places host moment) (a ∷ []) is = absurd is
   said_before (Print places host moment) (a ∷ b ∷ rest) is =

@@ -81,7 +81,7 @@ IsAnswer (Review places at) files k input status text said =
 IsAnswer (Rebuild places) files k input status text said =
     OfFiles files (λ roster base. OverDesk roster base k
     (λ f b. RebuildsDesk (held k.before) k.after.holds k.up status text)) × (said ≡ [])
-IsAnswer (Serve places addr requests) files k input status text said = ⊥
+IsAnswer (Serve places addr questions requests) files k input status text said = ⊥
 
 -- The job over these files, what is kept and this input has an answer.
 abbrev pub HasAnswer : Job → (files : List (List ℕ)) → AroundJob → (input : Option (List ℕ))
@@ -144,7 +144,7 @@ IsCause (Review places at) files k input reason =
     CauseOfFiles files (λ roster base. EndsReviewing roster base places.store k) reason
 IsCause (Rebuild places) files k input reason =
     CauseOfFiles files (λ roster base. EndsRebuilding roster base k) reason
-IsCause (Serve places addr requests) files k input reason = reason ≡ FileFailed
+IsCause (Serve places addr questions requests) files k input reason = reason ≡ FileFailed
 
 -- the job may be refused for such a reason
 abbrev pub HasCause : Job → (files : List (List ℕ)) → AroundJob → (input : Option (List ℕ))

@@ -11,6 +11,7 @@ use Rattle.roster.specs.Faults.{IsLeastFault, IsRosterText}
 use Rattle.roster.specs.declared.fault.RosterFault.{RosterFault}
 use Rattle.roster.specs.declared.fault.RosterFault.TheVariants as faults
 use Rattle.grants.specs.Bases.{FitsBase}
+use Rattle.desk.specs.Refusals.{IsWant}
 use Rattle.desk.specs.declared.refusal.Refusal.{Refusal}
 use Rattle.desk.specs.declared.refusal.Refusal.TheVariants as desk
 use Rattle.desk_commands.specs.Kept.{AroundJob}
@@ -102,6 +103,17 @@ EndsWith roster_file base_file Ends (reasons.Desk refusal) = Ends refusal
 abbrev pub EndsMaking : (roster_file base_file : List ℕ) → AroundJob → JobRefusal → Type 0
 EndsMaking roster_file base_file k reason =
     EndsWith roster_file base_file (EndsOpening roster_file base_file k) reason
+
+-- Why an open desk does not take the roster of the file: the file's fault, or want of memory or of
+-- the storage.
+abbrev pub EndsTakingFile : List ℕ → JobRefusal → Type 0
+EndsTakingFile file reasons.FileFailed = ⊥
+EndsTakingFile file reasons.BadWord = ⊥
+EndsTakingFile file reasons.NoMemory = ⊥
+EndsTakingFile file (reasons.Roster fault) = IsRosterFault file fault
+EndsTakingFile file (reasons.Policy fault) = ⊥
+EndsTakingFile file (reasons.Beyond fault) = ⊥
+EndsTakingFile file (reasons.Desk refusal) = IsWant refusal
 
 -- ---- over what a keeper keeps
 

@@ -19,7 +19,7 @@ mod telling;
 pub use desk_args::{
     Address, ExitStatus, Job, JobFault, Places, Store, Sync, Text, code, job, paths, show,
 };
-pub use opening::open_over;
+pub use opening::{open_over, take_file};
 pub use refusal::JobRefusal;
 pub use running::{finish, run};
 pub use telling::refuse;

@@ -1,10 +1,13 @@
 //! Opening a desk over the bytes of its files and what a keeper keeps.
 
-ghost use Rattle.std.specs.Prelude.{◌≡◌, IfErr, IfOk, MatchResult};
+ghost use Rattle.std.specs.Prelude.{◌≡◌, ◌⊎◌, IfErr, IfOk, MatchResult, OnErr, OnOk};
 ghost use Rattle.sudo_policy.specs.Spelling.{Spells};
+ghost use Rattle.desk_store.specs.Left.{AddsOnly, IsCommitted, IsDeskOf, LeavesOnly};
 ghost use Rattle.desk_store.specs.Serves.{Serves};
 ghost use Rattle.desk_store.specs.Sets.{SameSet};
-ghost use Rattle.desk_commands.specs.Files.{EndsMaking, AreFilesOf, IsRosterFile, IsRosterFault};
+ghost use Rattle.desk.specs.Crash.{IsLeftByTaking};
+ghost use Rattle.desk_commands.specs.Files.{AreFilesOf, EndsMaking, EndsTakingFile, IsRosterFault};
+ghost use Rattle.desk_commands.specs.Files.{IsRosterFile};
 ghost use Rattle.desk_commands.specs.Kept.{held_in, keeps_by, kept_by};
 ghost use Rattle.desk_commands.specs.Leaving.{WasOpened};
 ghost use Rattle.desk_commands.specs.Rebuilding.{EndsRebuilding};
@@ -101,5 +104,46 @@ pub fn rebuild_over<K: Keeper>(
             Err((refusal, keeper)) => Err((JobRefusal::Desk(refusal), keeper)),
         },
         Err(refusal) => Err((refusal, keeper)),
+    }
+}
+
+/// Has the desk take the roster that the file holds, and go on with it over its base and its
+/// messages.
+///
+/// A file that holds no roster is refused before the desk is asked. After a refusal the desk has
+/// the roster that it had. Whenever the call ends, a crash leaves the whole desk as it was, or the
+/// whole desk with the file's bytes as its roster's text; after Ok only the latter.
+pub fn take_file<K: Keeper>(
+    alloc: Global,
+    desk: &mut Desk<K>,
+    file: &[u8],
+) -> Result<(), JobRefusal>
+    ensures taken { OnOk result (IsRosterFile file.now desk.new.roster.says) }
+    ensures recorded { OnOk result (desk.new.roster.text ≡ file.now) }
+    ensures kept { OnErr result (desk.new.roster ≡ desk.old.roster) }
+    ensures base { desk.new.base ≡ desk.old.base }
+    ensures held { K.is_up desk.new.keeper
+        → OnOk result (SameSet (K.holds desk.old.keeper) (K.holds desk.new.keeper)) }
+    ensures unchanged { K.is_up desk.new.keeper
+        → OnErr result (K.is_same desk.old.keeper desk.new.keeper) }
+    ensures err { IfErr result (EndsTakingFile file.now) }
+    ensures live { K.is_clean desk.new.keeper → OnOk result (K.is_up desk.new.keeper) }
+    // Where the file holds no roster, nothing was done.
+    ensures crash { K.is_up desk.old.keeper → K.is_clean desk.new.keeper
+        → (desk.new ≡ desk.old) ⊎ LeavesOnly (K.may_leave desk.new.keeper)
+        (IsLeftByTaking desk.old.roster.text file.now (K.holds desk.old.keeper)) }
+    ensures leaves { K.is_clean desk.new.keeper
+        → AddsOnly (K.may_leave desk.old.keeper) (K.may_leave desk.new.keeper)
+        (IsCommitted (K.is_up desk.old.keeper) file.now (K.holds desk.old.keeper)) }
+    ensures lasting { K.is_up desk.old.keeper → K.is_clean desk.new.keeper
+        → OnOk result (LeavesOnly (K.may_leave desk.new.keeper)
+        (IsDeskOf file.now (K.holds desk.old.keeper))) }
+{
+    match roster_of(alloc, file) {
+        Ok(roster) => match desk.take_roster(roster) {
+            Ok(()) => Ok(()),
+            Err(refusal) => Err(JobRefusal::Desk(refusal)),
+        },
+        Err(fault) => Err(JobRefusal::Roster(fault)),
     }
 }

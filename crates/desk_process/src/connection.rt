@@ -5,8 +5,8 @@ use crate::socket::Stream;
 use desk::{Desk, Keeper};
 use mio::{Interest, Registry, Token};
 use relay_http::{
-    Counted, ExchangeBuffer, HttpResponse, Outgoing, Received, Receiving, Reception, Routes,
-    Sending, ServeFault,
+    Counted, ExchangeBuffer, HttpResponse, Offered, Outgoing, Received, Receiving, Reception,
+    Routes, Sending, ServeFault,
 };
 use std::alloc::Global;
 use std::io::{self, ErrorKind, Read};
@@ -195,8 +195,14 @@ impl Peer {
 }
 
 impl Connection {
-    /// A connection that was just accepted, after so many others.
-    pub(crate) fn new(alloc: Global, stream: Stream, arrival: u64, now: u64) -> Connection {
+    /// A connection that was just accepted at a socket with these routes, after so many others.
+    pub(crate) fn new(
+        alloc: Global,
+        stream: Stream,
+        offered: Offered,
+        arrival: u64,
+        now: u64,
+    ) -> Connection {
         let peer = Peer {
             stream,
             due: now.saturating_add(TO_RECEIVE),
@@ -204,7 +210,7 @@ impl Connection {
             came: now,
             watched: None,
         };
-        peer.at(Stage::Receiving(Receiving::new(alloc)))
+        peer.at(Stage::Receiving(Receiving::new(alloc, offered)))
     }
 
     /// The millisecond at which the connection is let go.

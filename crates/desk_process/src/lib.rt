@@ -1,7 +1,7 @@
 //! A job as the process does it: over its files, its database, its standard streams and its
 //! sockets.
 //!
-//! What one exchange of the service does is proved in `relay_http`. Here are the listener, the
+//! What one exchange of the service does is proved in `relay_http`. Here are the listeners, the
 //! connections that wait for their turn, the limits of time, and what is said on the standard
 //! error.
 #![tactic(auto)]
@@ -12,13 +12,16 @@ mod changing;
 mod connection;
 mod files;
 mod listener;
+mod listening;
 mod log;
+mod orders;
 mod ready;
 mod service;
 mod serving;
 mod socket;
 mod stores;
 mod streams;
+mod taking;
 mod trouble;
 mod working;
 

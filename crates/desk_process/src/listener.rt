@@ -1,51 +1,79 @@
 //! Listening, and what is said as a service begins and ends.
 
-use crate::log::Log;
+use crate::listening::Listening;
+use crate::log::{Log, Serving};
 use crate::service::{End, Service, events};
 use crate::socket::{At, listen};
 use crate::trouble::Trouble;
 use desk::{Desk, Keeper};
 use desk_commands::Address;
+use relay_http::Offered;
 use std::{fmt, io};
 
-/// What is served, as a line.
+/// What the words of the command line say about a service.
 #[derive(Clone, Copy)]
-struct Serving<'a> {
-    roster: &'a str,
-    messages: Option<usize>,
+pub(crate) struct Words<'a> {
+    /// The path of the roster's file.
+    pub(crate) roster: &'a str,
+    /// Where the service listens.
+    pub(crate) addr: &'a Address,
+    /// Where it listens for questions alone, if anywhere.
+    pub(crate) questions: Option<&'a Address>,
+    /// How many connections the service takes; without a number, as many as come.
+    pub(crate) requests: Option<u64>,
 }
 
-impl fmt::Display for Serving<'_> {
+/// Who can reach an address and a port with these routes, as a line.
+#[derive(Clone, Copy)]
+struct Warning<'a> {
+    at: &'a At<'a>,
+    offered: Offered,
+}
+
+/// What is said of a place once the service listens there, as a line.
+#[derive(Clone, Copy)]
+struct Listens<'a> {
+    at: &'a At<'a>,
+    offered: Offered,
+}
+
+impl fmt::Display for Listens<'_> {
     fn fmt<W: fmt::Write>(&self, f: &mut fmt::Formatter<W>) -> fmt::Result {
-        match self.messages {
-            Some(messages) => write!(f, "serving {messages} messages, roster {}", self.roster),
-            None => write!(
-                f,
-                "serving messages that were not counted, roster {}",
-                self.roster
-            ),
+        match self.offered {
+            Offered::All => write!(f, "listening {}", self.at),
+            Offered::Questions => write!(f, "listening at {} for questions", self.at),
         }
     }
 }
 
-/// Who can reach an address and a port, as a line.
-#[derive(Clone, Copy)]
-struct Warning<'a>(&'a At<'a>);
-
 impl fmt::Display for Warning<'_> {
     fn fmt<W: fmt::Write>(&self, f: &mut fmt::Formatter<W>) -> fmt::Result {
-        if self.0.is_loopback() {
-            return write!(
-                f,
-                "WARNING: EVERY ACCOUNT OF THIS MACHINE CAN POST AT {} AS ANY RELAY AND READ EVERY FILE, AND TAKE THE PORT WHILE NOBODY LISTENS",
-                self.0
-            );
+        if self.at.is_loopback() {
+            return match self.offered {
+                Offered::All => write!(
+                    f,
+                    "WARNING: EVERY ACCOUNT OF THIS MACHINE CAN POST AT {} AS ANY RELAY AND READ EVERY FILE, AND TAKE THE PORT WHILE NOBODY LISTENS",
+                    self.at
+                ),
+                Offered::Questions => write!(
+                    f,
+                    "WARNING: EVERY ACCOUNT OF THIS MACHINE CAN READ EVERY FILE AT {}, AND TAKE THE PORT WHILE NOBODY LISTENS",
+                    self.at
+                ),
+            };
         }
-        write!(
-            f,
-            "WARNING: {} IS NOT LOOPBACK. WHOEVER REACHES IT CAN POST AS ANY RELAY AND READ EVERY FILE",
-            self.0
-        )
+        match self.offered {
+            Offered::All => write!(
+                f,
+                "WARNING: {} IS NOT LOOPBACK. WHOEVER REACHES IT CAN POST AS ANY RELAY AND READ EVERY FILE",
+                self.at
+            ),
+            Offered::Questions => write!(
+                f,
+                "WARNING: {} IS NOT LOOPBACK. WHOEVER REACHES IT CAN READ EVERY FILE",
+                self.at
+            ),
+        }
     }
 }
 
@@ -67,11 +95,6 @@ impl fmt::Display for Ended<'_> {
     }
 }
 
-/// How many messages the desk has, where memory and the storage allow counting them.
-fn count<K: Keeper>(desk: &mut Desk<K>) -> Option<usize> {
-    desk.count().ok()
-}
-
 /// The text of the address, without the `unix:` before a path.
 fn text_of(addr: &Address) -> &str {
     match addr {
@@ -85,40 +108,75 @@ fn failed(rt: &HostRuntime, addr: &Address, error: io::Error) -> Trouble {
     Trouble::of_system(rt.alloc(), text_of(addr), error)
 }
 
-/// Serves the desk at the address, `HOST:PORT` with port 0 for any free one, or `unix:` and a path.
-/// The service takes so many connections; without a number, as many as come. The exchanges are made
-/// one after the other, each once its request is there.
-///
-/// The service prints `listening` and the address, once it listens there. On the standard error it
-/// says what it serves, with the digest of the roster; a warning where the address has a port; each
-/// 503 that is answered; each connection that is let go before its response is out; and why it
-/// ended. The service ends once the desk's storage is shut after a failure, since the desk would
-/// answer nothing any more. It fails where it cannot listen at the address, where nothing can be
-/// printed, and where a connection cannot be accepted though no other is open.
-pub(crate) fn serve_at<K: Keeper>(
+/// Has the service listen at the address with these routes, and tells where that is.
+fn listen_as<'a>(
     rt: &HostRuntime,
-    desk: &mut Desk<K>,
-    roster: &str,
-    addr: &Address,
-    requests: Option<u64>,
-) -> Result<End, Trouble> {
+    service: &mut Service,
+    addr: &'a Address,
+    offered: Offered,
+) -> Result<At<'a>, Trouble> {
     let (listener, at) = listen(rt, addr).map_err(|error| failed(rt, addr, error))?;
-    let mut events = events(rt).map_err(|error| failed(rt, addr, error))?;
-    let mut service = Service::new(rt, listener, requests.unwrap_or(u64::MAX)).map_err(
-        |error| failed(rt, addr, error),
-    )?;
-    let mut log = Log::new(rt);
-    println!(rt; "listening {at}").map_err(|error| Trouble::of_system(
+    let socket = Listening::new(rt, listener, offered).map_err(|error| failed(rt, addr, error))?;
+    service
+        .listen_at(socket)
+        .map_err(|error| failed(rt, addr, error))?;
+    Ok(at)
+}
+
+/// Prints where the service listens, and warns where that has a port.
+fn tell(rt: &HostRuntime, log: &mut Log, at: &At<'_>, offered: Offered) -> Result<(), Trouble> {
+    let listens = Listens { at, offered };
+    println!(rt; "{listens}").map_err(|error| Trouble::of_system(
         rt.alloc(),
         "standard output",
         error,
     ))?;
     if at.has_port() {
-        log.say(rt, &Warning(&at));
+        log.say(rt, &Warning { at, offered });
     }
-    let messages = count(desk);
-    log.say(rt, &Serving { roster, messages });
-    let served = service.run(rt, desk, &mut log, &mut events);
+    Ok(())
+}
+
+/// Serves the desk at the address, `HOST:PORT` with port 0 for any free one, or `unix:` and a
+/// path; and at another such address for questions alone, if there is one: no message is taken
+/// there. The service takes so many connections; without a number, as many as come. The exchanges
+/// are made one after the other, each once its request is there.
+///
+/// The service prints `listening` and the address, and a line for the other address, once it
+/// listens at both. On the standard error it says what it serves, with the digest of the roster, at
+/// first and once the desk takes another roster; why the desk takes none; a warning where an
+/// address has a port; each 503 that is answered; each connection that is let go before its
+/// response is out; and why it ended. The service ends once the desk's storage is shut after a
+/// failure, since the desk would answer nothing any more. It fails where it cannot listen at an
+/// address, where nothing can be printed, and where a connection cannot be accepted though no other
+/// is open.
+pub(crate) fn serve_at<K: Keeper>(
+    rt: &HostRuntime,
+    desk: &mut Desk<K>,
+    roster: &str,
+    words: Words<'_>,
+) -> Result<End, Trouble> {
+    let Words {
+        addr,
+        questions,
+        requests,
+        ..
+    } = words;
+    let mut events = events(rt).map_err(|error| failed(rt, addr, error))?;
+    let requests = requests.unwrap_or(u64::MAX);
+    let mut service = Service::new(rt, requests).map_err(|error| failed(rt, addr, error))?;
+    let at = listen_as(rt, &mut service, addr, Offered::All)?;
+    let asked_at = match questions {
+        Some(addr) => Some(listen_as(rt, &mut service, addr, Offered::Questions)?),
+        None => None,
+    };
+    let mut log = Log::new(rt);
+    tell(rt, &mut log, &at, Offered::All)?;
+    if let Some(at) = &asked_at {
+        tell(rt, &mut log, at, Offered::Questions)?;
+    }
+    log.say(rt, &Serving::now(desk, roster));
+    let served = service.run(rt, desk, words.roster, &mut log, &mut events);
     log.say(rt, &Ended(&served));
     served.map_err(|error| failed(rt, addr, error))
 }

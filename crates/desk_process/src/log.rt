@@ -1,7 +1,7 @@
 //! What the service says on its standard error.
 
 use crate::ready::Ready;
-use desk::Refusal;
+use desk::{Desk, Keeper, Refusal};
 use http::StatusCode;
 use mio::Interest;
 use std::fmt::{self, Display};
@@ -42,6 +42,37 @@ impl Answered {
 impl fmt::Display for Answered {
     fn fmt<W: fmt::Write>(&self, f: &mut fmt::Formatter<W>) -> fmt::Result {
         write!(f, "answered {}", self.0)
+    }
+}
+
+/// What is served, as a line.
+#[derive(Clone, Copy)]
+pub(crate) struct Serving<'a> {
+    roster: &'a str,
+    messages: Option<usize>,
+}
+
+impl<'a> Serving<'a> {
+    /// What the desk serves now: how many messages it has, where memory and the storage allow
+    /// counting them, and the digest of its roster, which is given.
+    pub(crate) fn now<K: Keeper>(desk: &mut Desk<K>, roster: &'a str) -> Serving<'a> {
+        Serving {
+            roster,
+            messages: desk.count().ok(),
+        }
+    }
+}
+
+impl fmt::Display for Serving<'_> {
+    fn fmt<W: fmt::Write>(&self, f: &mut fmt::Formatter<W>) -> fmt::Result {
+        match self.messages {
+            Some(messages) => write!(f, "serving {messages} messages, roster {}", self.roster),
+            None => write!(
+                f,
+                "serving messages that were not counted, roster {}",
+                self.roster
+            ),
+        }
     }
 }
 

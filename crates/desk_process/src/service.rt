@@ -1,13 +1,15 @@
 //! The connections of a service, and whose turn it is.
 
 use crate::connection::{Buffers, Connection, Next, Peer, Step};
-use crate::log::{Answered, Log};
-use crate::ready::Ready;
-use crate::socket::{Listener, Stream};
+use crate::listening::Listening;
+use crate::log::{Answered, Log, Serving};
+use crate::orders::{MOST_READ, Orders};
+use crate::socket::Stream;
+use crate::taking::{Stays, take};
 use desk::{Desk, Keeper, Refusal};
 use mio::event::Events;
-use mio::{Interest, Poll, Token};
-use relay_http::{HttpResponse, Received, Routes, ServeFault};
+use mio::{Poll, Token};
+use relay_http::{HttpResponse, Offered, Received, Routes, ServeFault};
 use std::alloc::{AllocFailed, Global};
 use std::collections::VecDeque;
 use std::io::{self, ErrorKind};
@@ -17,8 +19,8 @@ use sudo_words::Moment;
 /// The most connections that are kept at once.
 const MOST_CONNECTIONS: usize = 4_096;
 
-/// The most connections that are accepted in one turn, the most questions that are answered, and
-/// the most connections that are read once more before one is let go.
+/// The most connections that are accepted at one socket in one turn, the most questions that are
+/// answered, and the most connections that are read once more before one is let go.
 const MOST_AT_ONCE: usize = 64;
 
 /// The milliseconds after which no further question is answered in one turn.
@@ -34,8 +36,14 @@ const TO_LINGER: u64 = 10;
 /// The milliseconds that responses still have to go out, once the storage is shut.
 const TO_END: u64 = 500;
 
-/// The token of the listener. The token of a connection is its place.
-const LISTENER: Token = Token(MOST_CONNECTIONS);
+/// The most sockets that are listened at.
+const MOST_SOCKETS: usize = 2;
+
+/// The token of the orders, behind those of the sockets.
+const ORDERS: Token = Token(MOST_CONNECTIONS + MOST_SOCKETS);
+
+/// The places that whole requests at a socket for questions leave to messages.
+const KEPT_FOR_MESSAGES: usize = 64;
 
 /// The places of the connections whose requests are whole, each kind in the order in which they
 /// came.
@@ -67,15 +75,17 @@ enum Storage {
     Shut { end_at: u64 },
 }
 
-/// A listener with its connections.
+/// The sockets that are listened at, with their connections.
 #[derive(Drop)]
 pub(crate) struct Service {
     poll: Poll,
-    listener: Listener,
-    /// Whether a peer waits to be accepted.
-    waiting: Ready,
+    /// In the order in which they are accepted from. The poll's token of a socket is its place
+    /// here behind all places of connections, and that of a connection its place.
+    sockets: Vec<Listening>,
     routes: Routes,
     buffers: Buffers,
+    /// The orders of whoever started the service, if it takes orders.
+    orders: Option<Orders>,
     places: Vec<Option<Connection>>,
     queues: RequestQueues,
     /// The places of the connections whose responses went out since the last wait. The poll tells
@@ -87,8 +97,6 @@ pub(crate) struct Service {
     open: usize,
     /// How many connections are still to be accepted.
     left: u64,
-    /// Whether more peers may wait to be accepted.
-    more_wait: bool,
     began: Instant,
     /// The milliseconds that exchanges took, which count against no peer.
     busy: u64,
@@ -137,35 +145,45 @@ impl RequestQueues {
 }
 
 impl Service {
-    /// A service that accepts so many connections.
-    pub(crate) fn new(
-        rt: &HostRuntime,
-        mut listener: Listener,
-        requests: u64,
-    ) -> io::Result<Service> {
+    /// A service that accepts so many connections, and listens nowhere yet.
+    pub(crate) fn new(rt: &HostRuntime, requests: u64) -> io::Result<Service> {
         let poll = Poll::new(rt)?;
-        listener.watch(poll.registry(), LISTENER)?;
-        let waiting = Ready::new(rt, listener.descriptor(), Interest::READABLE)?;
+        let orders = Orders::of(rt);
+        if let Some(orders) = &orders {
+            orders.watch(poll.registry(), ORDERS)?;
+        }
         let (Ok(routes), Ok(buffers)) = (Routes::new(rt.alloc()), Buffers::new(rt.alloc())) else {
             return Err(io::Error::from(ErrorKind::OutOfMemory));
         };
         Ok(Service {
             poll,
-            listener,
-            waiting,
+            sockets: Vec::new(rt.alloc()),
             routes,
             buffers,
+            orders,
             places: Vec::new(rt.alloc()),
             queues: RequestQueues::new(rt.alloc()),
             lingering: VecDeque::new(rt.alloc()),
             arrivals: 0,
             open: 0,
             left: requests,
-            more_wait: false,
             began: Instant::now(rt)?,
             busy: 0,
             storage: Storage::Answers,
         })
+    }
+
+    /// Has the service listen at one more socket.
+    pub(crate) fn listen_at(&mut self, mut socket: Listening) -> io::Result<()> {
+        let at = self.sockets.len();
+        if at >= MOST_SOCKETS {
+            return Err(io::Error::from(ErrorKind::InvalidInput));
+        }
+        socket.watch(self.poll.registry(), Token(MOST_CONNECTIONS + at))?;
+        match self.sockets.push(socket) {
+            Ok(()) => Ok(()),
+            Err(_) => Err(io::Error::from(ErrorKind::OutOfMemory)),
+        }
     }
 
     /// The milliseconds since the beginning in which no exchange ran.
@@ -304,6 +322,59 @@ impl Service {
         Ok(())
     }
 
+    /// Has the desk take the roster that an order names, and says what is served then, or why the
+    /// roster stays.
+    fn obey<K: Keeper>(
+        &mut self,
+        rt: &HostRuntime,
+        desk: &mut Desk<K>,
+        log: &mut Log,
+        path: &str,
+        order: &[u8],
+    ) -> io::Result<()> {
+        let began = Instant::now(rt)?;
+        let taken = take(rt, desk, path, order);
+        self.busy = self.busy.saturating_add(millis(began.elapsed(rt)?));
+        match &taken {
+            Ok(digest) => log.say(rt, &Serving::now(desk, digest.as_str())),
+            Err(why) => {
+                log.say(rt, &Stays { path, why });
+                if why.is_of_storage() {
+                    let now = self.now(rt)?;
+                    self.doubt(now);
+                }
+            }
+        }
+        Ok(())
+    }
+
+    /// Reads what has come of orders, and obeys each order that is whole. Where no more can come,
+    /// or none can be read, the service awaits no orders from then on.
+    fn take_orders<K: Keeper>(
+        &mut self,
+        rt: &HostRuntime,
+        desk: &mut Desk<K>,
+        log: &mut Log,
+        path: &str,
+    ) -> io::Result<()> {
+        let Some(mut orders) = self.orders.take() else {
+            return Ok(());
+        };
+        let mut bytes = [0u8; MOST_READ];
+        let Some(count) = orders.read(rt, &mut bytes) else {
+            let _ = orders.unwatch(self.poll.registry());
+            return Ok(());
+        };
+        for byte in bytes.iter().take(count) {
+            if let Some(order) = orders.push(rt.alloc(), *byte) {
+                self.obey(rt, desk, log, path, order.as_slice())?;
+            }
+        }
+        orders.watch_again(self.poll.registry(), ORDERS)?;
+        self.orders = Some(orders);
+        Ok(())
+    }
+
     /// Has the desk asked soon whether it still answers.
     fn doubt(&mut self, now: u64) {
         if let Storage::Answers = self.storage {
@@ -429,9 +500,16 @@ impl Service {
         false
     }
 
-    /// Takes up a connection that was just accepted. Where there is no place for it, the slowest is
-    /// let go.
-    fn admit(&mut self, rt: &HostRuntime, log: &mut Log, stream: Stream, now: u64) {
+    /// Takes up a connection that was just accepted at a socket with these routes. Where there is
+    /// no place for it, the slowest is let go.
+    fn admit(
+        &mut self,
+        rt: &HostRuntime,
+        log: &mut Log,
+        stream: Stream,
+        offered: Offered,
+        now: u64,
+    ) {
         self.left = self.left.saturating_sub(1);
         let place = match self.free_place() {
             Some(at) => Some(at),
@@ -444,7 +522,8 @@ impl Service {
             log.say(rt, &ServeFault::NoMemory);
             return;
         };
-        self.put(at, Connection::new(rt.alloc(), stream, self.arrivals, now));
+        let connection = Connection::new(rt.alloc(), stream, offered, self.arrivals, now);
+        self.put(at, connection);
         self.arrivals = self.arrivals.saturating_add(1);
         self.open = self.open.saturating_add(1);
         self.go_on(rt, log, at, now);
@@ -455,22 +534,57 @@ impl Service {
         self.left == 0 || matches!(self.storage, Storage::Shut { .. })
     }
 
-    /// Accepts peers that have connected. While no connection may be let go for another, none is
-    /// accepted past the most. A connection that cannot be accepted is an error if none is open.
+    /// Notes whether more may wait to be accepted at a socket.
+    fn note(&mut self, socket: usize, more_wait: bool) {
+        if socket < self.sockets.len() {
+            self.sockets[socket].note(more_wait);
+        }
+    }
+
+    /// Whether a peer waits to be accepted at a socket.
+    fn has_waiting(&mut self, socket: usize) -> bool {
+        socket < self.sockets.len() && self.sockets[socket].has_waiting()
+    }
+
+    /// The next peer at a socket, or `WouldBlock` where none waits.
+    fn next_at(&self, socket: usize) -> io::Result<(Stream, Offered)> {
+        match self.sockets.get(socket) {
+            Some(listening) => listening.accept(),
+            None => Err(io::Error::from(ErrorKind::WouldBlock)),
+        }
+    }
+
+    /// The most requests that may wait for their turn while peers at a socket are accepted.
+    fn most_waiting(&self, socket: usize) -> usize {
+        match self.sockets.get(socket) {
+            Some(listening) if listening.takes_messages() => MOST_CONNECTIONS,
+            _ => MOST_CONNECTIONS - KEPT_FOR_MESSAGES,
+        }
+    }
+
+    /// Accepts peers that have connected to a socket. While no connection may be let go for
+    /// another, none is accepted past the most. A connection that cannot be accepted is an error
+    /// if none is open.
     ///
     /// To accept where nobody waits costs the system a socket that it makes and drops, and fails
     /// for want of a descriptor first: so the service first asks whether another peer waits.
-    fn accept(&mut self, rt: &HostRuntime, log: &mut Log, now: u64) -> io::Result<()> {
-        self.more_wait = false;
+    fn accept_at(
+        &mut self,
+        rt: &HostRuntime,
+        log: &mut Log,
+        socket: usize,
+        now: u64,
+    ) -> io::Result<()> {
+        self.note(socket, false);
         for _ in 0..MOST_AT_ONCE {
             if self.is_closed() {
                 return Ok(());
             }
-            if self.queues.len() >= MOST_CONNECTIONS {
+            if self.queues.len() >= self.most_waiting(socket) {
                 break;
             }
-            match self.listener.accept() {
-                Ok(stream) => self.admit(rt, log, stream, now),
+            match self.next_at(socket) {
+                Ok((stream, offered)) => self.admit(rt, log, stream, offered, now),
                 Err(error) => match error.kind() {
                     ErrorKind::WouldBlock => return Ok(()),
                     ErrorKind::ConnectionAborted | ErrorKind::Interrupted => {}
@@ -479,11 +593,34 @@ impl Service {
                     _ => return Err(error),
                 },
             }
-            if !self.waiting.is_ready().unwrap_or(true) {
+            if !self.has_waiting(socket) {
                 return Ok(());
             }
         }
-        self.more_wait = true;
+        self.note(socket, true);
+        Ok(())
+    }
+
+    /// Whether more may wait to be accepted at a socket.
+    fn may_wait(&self, socket: usize) -> bool {
+        match self.sockets.get(socket) {
+            Some(listening) => listening.may_wait(),
+            None => false,
+        }
+    }
+
+    /// Whether more may wait to be accepted at any socket.
+    fn more_wait(&self) -> bool {
+        self.sockets.iter().any(|socket| socket.may_wait())
+    }
+
+    /// Accepts what has connected, socket after socket.
+    fn accept(&mut self, rt: &HostRuntime, log: &mut Log, now: u64) -> io::Result<()> {
+        for socket in 0..self.sockets.len() {
+            if self.may_wait(socket) {
+                self.accept_at(rt, log, socket, now)?;
+            }
+        }
         Ok(())
     }
 
@@ -513,7 +650,7 @@ impl Service {
     /// may wait to be accepted. Else the wait lasts until a connection is due or to be looked at
     /// again, or the storage is due; it has no end where nothing is due.
     fn patience(&self, now: u64) -> Option<Duration> {
-        if self.more_wait || !self.queues.is_empty() {
+        if self.more_wait() || !self.queues.is_empty() {
             return Some(Duration::ZERO);
         }
         let mut first = self.storage_due();
@@ -542,12 +679,14 @@ impl Service {
 
     /// Waits until a peer is ready or a connection is due, and reads what has come on all
     /// connections. Only then does it accept new connections and answer requests. Last, it looks
-    /// again at connections that were answered, asks a desk whose storage failed, and lets go
-    /// connections that are due. The clock is read once for all that has come.
+    /// again at connections that were answered, obeys orders, so that none comes between two
+    /// answers, asks a desk whose storage failed, and lets go connections that are due. The clock
+    /// is read once for all that has come.
     fn turn<K: Keeper>(
         &mut self,
         rt: &HostRuntime,
         desk: &mut Desk<K>,
+        roster: &str,
         log: &mut Log,
         events: &mut Events,
         now: u64,
@@ -556,19 +695,23 @@ impl Service {
         let lingering = self.lingering.len();
         self.poll.poll(events, patience)?;
         let now = self.now(rt)?;
-        let mut comes = self.more_wait;
+        let mut is_ordered = false;
         for event in events.iter() {
-            if event.token() == LISTENER {
-                comes = true;
+            let at = event.token().0;
+            if event.token() == ORDERS {
+                is_ordered = true;
+            } else if at >= MOST_CONNECTIONS {
+                self.note(at - MOST_CONNECTIONS, true);
             } else {
-                self.go_on(rt, log, event.token().0, now);
+                self.go_on(rt, log, at, now);
             }
         }
-        if comes {
-            self.accept(rt, log, now)?;
-        }
+        self.accept(rt, log, now)?;
         self.answer_some(rt, desk, log)?;
         self.end_lingering(rt, log, lingering, now);
+        if is_ordered {
+            self.take_orders(rt, desk, log, roster)?;
+        }
         self.ask_desk(rt, desk)?;
         self.let_due_go(rt, log, now);
         Ok(())
@@ -584,11 +727,12 @@ impl Service {
     }
 
     /// Serves until all the connections that it accepts have come and are over, or until the desk's
-    /// storage is shut.
+    /// storage is shut. An order to take another roster means the file at the path `roster`.
     pub(crate) fn run<K: Keeper>(
         &mut self,
         rt: &HostRuntime,
         desk: &mut Desk<K>,
+        roster: &str,
         log: &mut Log,
         events: &mut Events,
     ) -> io::Result<End> {
@@ -597,7 +741,7 @@ impl Service {
             if let Some(end) = self.end_by(now) {
                 return Ok(end);
             }
-            self.turn(rt, desk, log, events, now)?;
+            self.turn(rt, desk, roster, log, events, now)?;
         }
         Ok(End::Served)
     }

@@ -1,16 +1,16 @@
 //! The command `serve`.
 
-use crate::listener::serve_at;
+use crate::listener::{Words, serve_at};
 use crate::service::End;
 use crate::stores::tell_new;
 use crate::trouble::Trouble;
 use desk::Keeper;
-use desk_commands::{Address, ExitStatus, JobRefusal, open_over};
+use desk_commands::{ExitStatus, JobRefusal, open_over};
 use sha2::{Digest, Sha256};
 use std::alloc::Global;
 
 /// The SHA-256 digest of the roster's text, as hex.
-fn digest_of(alloc: Global, roster: &[u8]) -> Result<String, JobRefusal> {
+pub(crate) fn digest_of(alloc: Global, roster: &[u8]) -> Result<String, JobRefusal> {
     match hex::encode(alloc, Sha256::digest(roster)) {
         Ok(text) => Ok(text),
         Err(_) => Err(JobRefusal::NoMemory),
@@ -25,19 +25,18 @@ fn status_of(served: Result<End, Trouble>) -> Result<ExitStatus, Trouble> {
     }
 }
 
-/// Serves the desk that the files make over what the keeper keeps, at the address, and hands the
+/// Serves the desk that the files make over what the keeper keeps, as the words say, and hands the
 /// keeper on. Where the keeper keeps nothing yet, `new` is the path of the store that is made:
 /// that path is said at once.
 ///
-/// The command is refused where the files make no desk, where it cannot listen at the address or
+/// The command is refused where the files make no desk, where it cannot listen at an address or
 /// accept connections there, and where the desk's storage failed and has to be opened again.
 pub(crate) fn serve<K: Keeper>(
     rt: &HostRuntime,
     files: &[Vec<u8>],
     keeper: K,
     new: Option<&str>,
-    addr: &Address,
-    requests: Option<u64>,
+    words: Words<'_>,
 ) -> (Result<ExitStatus, Trouble>, K) {
     let [roster, base, ..] = files else {
         return (Err(Trouble::from(JobRefusal::FileFailed)), keeper);
@@ -51,7 +50,7 @@ pub(crate) fn serve<K: Keeper>(
             if let Some(path) = new {
                 tell_new(rt, path);
             }
-            let served = serve_at(rt, &mut desk, digest.as_str(), addr, requests);
+            let served = serve_at(rt, &mut desk, digest.as_str(), words);
             (status_of(served), desk.into_keeper())
         }
         Err((refusal, keeper)) => (Err(Trouble::from(refusal)), keeper),

@@ -3,6 +3,7 @@
 use crate::bounded::{Lines, Watched};
 use crate::changing::tell_changes;
 use crate::files::files;
+use crate::listener::Words;
 use crate::serving::serve;
 use crate::stores::{Opened, close, open_store, place_of};
 use crate::trouble::{Trouble, tell_failed};
@@ -49,7 +50,20 @@ fn work_over<K: Keeper + Drop>(
     new: Option<&str>,
 ) -> (Result<ExitStatus, Trouble>, K) {
     match job {
-        Job::Serve { addr, requests, .. } => serve(rt, files, keeper, new, addr, *requests),
+        Job::Serve {
+            places,
+            addr,
+            questions,
+            requests,
+        } => {
+            let words = Words {
+                roster: places.roster.as_str(),
+                addr,
+                questions: questions.as_ref(),
+                requests: *requests,
+            };
+            serve(rt, files, keeper, new, words)
+        }
         _ => run_on_streams(rt, job, files, keeper),
     }
 }

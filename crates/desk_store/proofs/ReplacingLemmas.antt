@@ -1,5 +1,5 @@
 -- What the calls that replace the roster's text leave, one after the other.
-use Rattle.std.proofs.Common.{◌≡◌, ◌∙◌, ℕ, List, [], ◌∷◌, Result, Ok, Err, inl, le_refl, refl, subst}
+use Rattle.std.proofs.Common.{◌≡◌, ◌∙◌, ℕ, List, [], ◌∷◌, Option, Some, None, Result, Ok, Err, inl, inr, le_refl, refl, subst, sym}
 use Rattle.std.specs.Prelude.{IsErr, OnErr, OnOk}
 use Rattle.sqlite.specs.Table.{Table}
 use Rattle.sqlite.specs.Tree.{Trees}
@@ -14,6 +14,9 @@ use Rattle.store_tables.specs.Stored.{content_of, with_roster}
 use Rattle.store_tables.specs.Committed.{ChangesAt}
 use Rattle.store_schema.specs.Beside.{IsOther, KeepsBeside}
 use Rattle.store_schema.specs.declared.part.DeskPart.TheVariants as part
+use Rattle.store_schema.specs.declared.shape.Shape.{Shape}
+use Rattle.store_schema.specs.declared.shape.Shape.TheVariants as shape
+use Rattle.store_schema.specs.Shapes.{FindsPart, IsShape}
 use Rattle.store_schema.proofs.BesideLemmas.{other_apart, other_new, other_still, spared_beside, there_still}
 use Rattle.store_schema.proofs.ShapeLemmas.{common_of}
 use Rattle.store_schema.proofs.MarksLemmas.{unmarked_spared, unmarked_still}
@@ -22,12 +25,9 @@ use Rattle.store_opening.specs.declared.in_database.InDatabase.{InDatabase}
 use Rattle.store_opening.specs.declared.in_database.InDatabase.TheVariants as found
 use Rattle.store_migration.specs.Migrated.{GainsVerdicts, IsBeside, KeepsOthers, MigratesAt}
 use Rattle.store_opening.specs.Opened.{FoundIn, IsKept, IsOldDesk, Reads}
-use Rattle.desk_store.specs.private.Replacing.{Becomes, BecomesAt, Replaces}
+use Rattle.desk_store.specs.private.Replacing.{Becomes, BecomesAt, IsEither, IsOfToday, Replaces}
 
 -- what was found, by its case
-pub found_today : (db : Database) (f : InDatabase) (c : Contents) → f ≡ found.Desk c → FoundIn db f → FoundIn db (found.Desk c)
-found_today db f c is told = subst (FoundIn db) is told
-
 pub found_older : (db : Database) (f : InDatabase) (c : Contents) → f ≡ found.Old c → FoundIn db f → FoundIn db (found.Old c)
 found_older db f c is told = subst (FoundIn db) is told
 
@@ -92,6 +92,19 @@ module _ {A E : Type 0} (roster : List ℕ) (a b : State) (reads : Reads a b) wh
   }
 
 -- ---- a desk of today
+
+-- a desk of an older form has no `verdicts`
+kept_by : (db : Database) → FindsPart db.schema part.Verdicts → IsEither db → IsKept db
+kept_by db there (inl kept) = kept
+kept_by db there (inr old) =
+    let wrong : ◌≡◌ {A = Option ℕ} (Some there.at) None = sym there.finds.named ∙ old.tables.verdicts.table in absurd cc
+
+pub of_today : (db : Database) (s : Shape) → IsShape db.schema s → IsOfToday s → IsEither db → IsKept db
+of_today db shape.Free is none either = absurd none
+of_today db shape.Desk is today either = kept_by db is.verdicts either
+of_today db shape.Migrated is today either = kept_by db is.verdicts either
+of_today db shape.Old is none either = absurd none
+of_today db shape.Other is none either = absurd none
 
 both_ok : {A E P Q R : Type 0} (r : Result A E) → OnOk r P → OnOk r Q → (P → Q → R) → OnOk r R
 both_ok (Ok x) p q on = on p q

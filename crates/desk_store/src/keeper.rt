@@ -153,8 +153,9 @@ pub trait Keeper {
         ensures durable { is_up self.new
             → LeavesOnly (may_leave self.new) (IsDeskOf (roster self.new) (holds self.new)) };
 
-    /// Replaces the desk's roster text, and rebuilds from the messages what is kept beside them, in
-    /// one commit. A desk of an older form becomes one of today's. The messages stay.
+    /// Replaces the desk's roster text, in one commit. The messages stay, and so does what is kept
+    /// beside them, which does not depend on the roster. A desk of an older form becomes one of
+    /// today's: what is kept beside the messages is then made from them.
     fn replace(&mut self, text: &str) -> Result<(), KeeperError>
         requires { is_up self.old → is_desk self.old ⊎ is_old self.old }
         ensures desk { is_up self.new → OnOk result (is_desk self.new) }

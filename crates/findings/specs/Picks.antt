@@ -1,6 +1,6 @@
 -- What is asked about.
 use Rattle.std.specs.Prelude.{◌≡◌, ℕ, Bool, true, ◌&&◌, ◌||◌, nat_le, List, Option, Some, None}
-use Rattle.std.specs.Prelude.{is_none}
+use Rattle.std.specs.Prelude.{is_none, is_some}
 use Rattle.std.specs.List.{list_any}
 use Rattle.std.specs.Str.{bytes_eq}
 use Rattle.messages.specs.Fields.{RequestFields, VerdictFields}
@@ -25,6 +25,10 @@ all = record { from = None; until = None; host = None; person = None }
 -- what does not end before the moment
 abbrev pub after : (at : ℕ) → Pick
 after at = record { from = Some at; until = None; host = None; person = None }
+
+-- nothing is narrowed, and who may approve is told for the moment
+abbrev pub told_at : (at : ℕ) → Pick
+told_at at = record { from = None; until = Some at; host = None; person = None }
 
 -- ---- time
 
@@ -90,3 +94,10 @@ is_whole pick =
 -- the entry is told: nothing narrows the question, or the entry is asked about
 abbrev pub is_told : Pick → AuditEntry → Bool
 is_told pick e = is_whole pick || asks_about pick e
+
+-- ---- what is open
+
+-- Somebody asks under the name, and it does not end before the moment: a grant's window, or else a
+-- window that a request asks for.
+abbrev pub is_open : (at : ℕ) → AuditEntry → Bool
+is_open at e = is_some e.status && has_span_of (after at) e.about e.status

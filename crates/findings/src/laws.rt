@@ -1,22 +1,26 @@
 //! The laws of what an audit says of a name, each the contract of a function that does nothing.
 
 ghost use Rattle.std.specs.Prelude.{◌≡◌, ℕ, List, [], ◌∷◌, ◌++◌, Contains, Option, Some, None};
-ghost use Rattle.std.specs.Prelude.{MatchOption, ◌↔◌, codes, replicate};
+ghost use Rattle.std.specs.Prelude.{MatchOption, ◌↔◌, codes, false, nat_le, replicate};
 ghost use Rattle.std.specs.List.{flat_map};
 ghost use Rattle.sudo_words.specs.declared.cmnd.Cmnd.{Cmnd};
 ghost use Rattle.messages.specs.Fields.{RequestFields, VerdictFields};
 ghost use Rattle.messages.specs.Names.{IsAbout};
 ghost use Rattle.messages.specs.declared.message.Message.{Message};
 ghost use Rattle.messages.specs.declared.message.Message.TheVariants as variants;
+ghost use Rattle.messages.specs.declared.request_name.RequestName.{RequestName};
 ghost use Rattle.roster.specs.Fields.{RosterFields};
 ghost use Rattle.grants.specs.Statuses.{NeverComplete};
 ghost use Rattle.grants.specs.Verdicts.{IsComplete};
 ghost use Rattle.grants.specs.WorkedAdmission as worked;
 ghost use Rattle.grants.specs.declared.outcome.Status.TheVariants as statuses;
+ghost use Rattle.grants.specs.declared.outcome.Window.{Window};
 ghost use Rattle.findings.specs.Document.{IsDocument};
 ghost use Rattle.findings.specs.Judging.{IsCompletionOf};
+ghost use Rattle.findings.specs.Picks.{is_open};
 ghost use Rattle.findings.specs.Terminal.{IsTerminalText};
 ghost use Rattle.findings.specs.Terminal as terminal;
+ghost use Rattle.findings.specs.declared.entry.About.{About};
 ghost use Rattle.findings.specs.declared.entry.AuditEntry.{AuditEntry};
 ghost use Rattle.findings.specs.declared.pick.Pick.{Pick};
 
@@ -48,6 +52,16 @@ pub fn no_word_is_lost()
     ensures { (heading : List ℕ) (words : List (List ℕ))
         → terminal.ink (terminal.line heading words)
         ≡ terminal.ink heading ++ flat_map terminal.ink words }
+{}
+
+/// A grant is open up to its window's last moment, that one included. Verdicts on what nobody asks
+/// are never open.
+pub fn open_to_the_end()
+    ensures granted { (name : RequestName) (about : About) (w : Window) (at : ℕ) → is_open at
+        (record { name = name; about = about; status = Some (statuses.Granted w) })
+        ≡ nat_le at w.end }
+    ensures parked { (name : RequestName) (about : About) (at : ℕ)
+        → is_open at (record { name = name; about = about; status = None }) ≡ false }
 {}
 
 /// Worked lines: a refused request's first one and what it asks for; a word that ends in the last

@@ -17,6 +17,6 @@ mod words;
 pub use document::json;
 pub use effects::{Effect, counts};
 pub use entry::{About, AuditEntry};
-pub use pick::Pick;
+pub use pick::{Pick, open_among};
 pub use terminal::text;
 pub use words::{Question, WordsFault, asked_by};

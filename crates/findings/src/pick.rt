@@ -48,6 +48,18 @@ impl Pick {
         }
     }
 
+    /// A question that nothing narrows, where who may approve is told for the moment.
+    pub fn told_at(at: Moment) -> Pick
+        ensures { result ≡ picks.told_at at }
+    {
+        Pick {
+            from: None,
+            until: Some(at),
+            host: None,
+            person: None,
+        }
+    }
+
     /// Whether everything is asked about.
     fn is_whole(&self) -> bool
         ensures { result ≡ picks.is_whole self.now }
@@ -186,4 +198,21 @@ impl Pick {
         entries.retain(|entry| self.has(entry));
         entries
     }
+}
+
+/// Whether somebody asks under the name, and it does not end before the moment.
+fn is_open(entry: &AuditEntry, at: Moment) -> bool
+    ensures { result ≡ picks.is_open at entry.now }
+{
+    let after = Pick::after(at);
+    entry.status.is_some() && after.has_some_span(&entry.about, &entry.status)
+}
+
+/// The entries of requests that do not end before the moment, in their order.
+pub fn open_among(entries: Vec<AuditEntry>, at: Moment) -> Vec<AuditEntry>
+    ensures { result.items ≡ filter (picks.is_open at) entries.items }
+{
+    let mut entries = entries;
+    entries.retain(|entry| is_open(entry, at));
+    entries
 }

@@ -30,7 +30,7 @@ use Rattle.relay_http.specs.declared.status.ResponseStatus.TheVariants as status
 use Rattle.relay_http.specs.Responses.{IsFileResponse, IsServerFailure, Response, done, is_known_host, refusal, to_delivery}
 
 -- the two wants of a refusal, as responses
-server_failure : (e : Refusal) → IsWant e → IsServerFailure (refusal e)
+pub server_failure : (e : Refusal) → IsWant e → IsServerFailure (refusal e)
 server_failure e (inl memory) = inl (ap refusal memory)
 server_failure e (inr storage) = inr (ap refusal storage)
 
@@ -150,7 +150,7 @@ left_after f base set host at (Err e) file = tt
 -- ---- what a response leaves
 
 -- a refusal is not told by the status 200
-not_done : (e : Refusal) (P : Type 0) → (refusal e).status ≡ status.Done → P
+pub not_done : (e : Refusal) (P : Type 0) → (refusal e).status ≡ status.Done → P
 not_done UnknownRelay P is = absurd cc
 not_done UnknownHost P is = absurd cc
 not_done TooLong P is = absurd cc

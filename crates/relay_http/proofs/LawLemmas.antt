@@ -7,23 +7,26 @@ use Rattle.std.proofs.lemmas.Slice.Eq.{bytes_eq-Decides}
 use Rattle.matchit.specs.Router.{RouteOf}
 use Rattle.matchit.specs.Seek.{first}
 use Rattle.relay_http.specs.Request.{Action, Request, deliver, all_messages, count, grants, parked, host_file, host_file_after, report, refused}
-use Rattle.relay_http.specs.Request.{requests, requests_after, named_request}
+use Rattle.relay_http.specs.Request.{requests, requests_after, named_request, host_at, open_requests}
 use Rattle.relay_http.specs.Content.{by_lengths, content, content_by_fields, is_length, most_content, sized}
 use Rattle.relay_http.specs.Fields.{Fields, values, is_bad_host}
-use Rattle.relay_http.specs.Routes.{routes, part}
+use Rattle.relay_http.specs.Routes.{offers, part, route_at, routes}
 use Rattle.relay_http.specs.Target.{is_plain}
 use Rattle.relay_http.specs.RequestBytes.{IsHttpRequest, IsHttpRequestByHead, Dates, allow, action_by, by_method, delivered, methods_of, on_route, sought}
 use Rattle.relay_http.specs.declared.fault.RequestFault.{RequestFault}
 use Rattle.relay_http.specs.declared.fault.RequestFault.TheVariants.{BadHead, BadLength, BadMethod, BadTarget, ShortBody, TooLong}
+use Rattle.relay_http.specs.declared.offered.Offered.{Offered}
+use Rattle.relay_http.specs.declared.offered.Offered.TheVariants as socket
 use Rattle.relay_http.specs.declared.route.Route.{Route}
 use Rattle.relay_http.specs.declared.route.Route.TheVariants.{Messages, AllMessages, Count, Grants, Parked, HostFile, HostFileAfter, Report}
-use Rattle.relay_http.specs.declared.route.Route.TheVariants.{Requests, RequestsAfter, NamedRequest}
+use Rattle.relay_http.specs.declared.route.Route.TheVariants.{Requests, RequestsAfter, NamedRequest, HostAt, OpenRequests}
+use Rattle.relay_http.proofs.RouteLemmas.{all_if_messages, found_at}
 use Rattle.relay_http.proofs.SettleLemmas.{kept}
 
-pub rest_ignored : (bytes more : List ℕ) (request : Request ℕ) → IsHttpRequestByHead bytes request
-    → (request.action ≡ refused ShortBody → ⊥) → IsHttpRequest (bytes ++ more) request
-rest_ignored bytes more request x whole =
-    kept bytes more request x (inl (λ e. whole (subst (λ (r : Action (List ℕ)). Dates r request.action) e x.2.1)))
+pub rest_ignored : (offered : Offered) (bytes more : List ℕ) (request : Request ℕ) → IsHttpRequestByHead offered bytes request
+    → (request.action ≡ refused ShortBody → ⊥) → IsHttpRequest offered (bytes ++ more) request
+rest_ignored offered bytes more request x whole =
+    kept offered bytes more request x (inl (λ e. whole (subst (λ (r : Action (List ℕ)). Dates r request.action) e x.2.1)))
 
 head_at : (route : Route) (named : List ℕ → List ℕ) (fields : Fields) (rest : List ℕ)
     → by_method route (codes "HEAD") named fields rest ≡ by_method route (codes "GET") named fields rest
@@ -37,18 +40,20 @@ head_at Grants named fields rest = refl
 head_at Parked named fields rest = refl
 head_at HostFile named fields rest = refl
 head_at HostFileAfter named fields rest = refl
+head_at HostAt named fields rest = refl
 head_at Report named fields rest = refl
+head_at OpenRequests named fields rest = refl
 
 head_on : (route : Option (RouteOf Route)) (target : List ℕ) (fields : Fields) (rest : List ℕ)
     → on_route route (codes "HEAD") target fields rest ≡ on_route route (codes "GET") target fields rest
 head_on None target fields rest = refl
 head_on (Some route) target fields rest = head_at route.value (λ name. part name route target) fields rest
 
-pub head_action : (target : List ℕ) (minor : ℕ) (fields : Fields) (rest : List ℕ)
-    → action_by (codes "HEAD") target minor fields rest ≡ action_by (codes "GET") target minor fields rest
-head_action target minor fields rest =
+pub head_action : (offered : Offered) (target : List ℕ) (minor : ℕ) (fields : Fields) (rest : List ℕ)
+    → action_by offered (codes "HEAD") target minor fields rest ≡ action_by offered (codes "GET") target minor fields rest
+head_action offered target minor fields rest =
     ap (λ (a : Action (List ℕ)). cond (is_bad_host minor (values (codes "host") fields)) (refused BadHead) (cond (not (is_plain target)) (refused BadTarget) a))
-    (head_on (first routes target) target fields rest)
+    (head_on (route_at offered target) target fields rest)
 
 -- if it is a delivery, the method is POST, and the body is a beginning of the rest, of at most 16,384 bytes
 abbrev IsPosted : (method rest : List ℕ) → Action (List ℕ) → Type 0
@@ -62,7 +67,9 @@ IsPosted method rest (grants at) = Unit {0}
 IsPosted method rest parked = Unit {0}
 IsPosted method rest (host_file host) = Unit {0}
 IsPosted method rest (host_file_after host at) = Unit {0}
+IsPosted method rest (host_at host at) = Unit {0}
 IsPosted method rest (report at) = Unit {0}
+IsPosted method rest (open_requests at) = Unit {0}
 IsPosted method rest (refused fault) = Unit {0}
 
 abbrev IsContent : (rest : List ℕ) → Result (List ℕ) RequestFault → Type 0
@@ -118,26 +125,29 @@ module _ (rest : List ℕ) where
       by Parked true e = tt
       by HostFile true e = tt
       by HostFileAfter true e = tt
+      by HostAt true e = tt
       by Report true e = tt
+      by OpenRequests true e = tt
 
   posted_on : (route : Option (RouteOf Route)) (method target : List ℕ) (fields : Fields) → IsPosted method rest (on_route route method target fields rest)
   posted_on None method target fields = tt
   posted_on (Some route) method target fields = posted_at route.value method (λ name. part name route target) fields
 
-  posted_by : (method target : List ℕ) (minor : ℕ) (fields : Fields) → IsPosted method rest (action_by method target minor fields rest)
-  posted_by method target minor fields = by (is_bad_host minor (values (codes "host") fields)) (not (is_plain target))
+  posted_by : (offered : Offered) (method target : List ℕ) (minor : ℕ) (fields : Fields)
+      → IsPosted method rest (action_by offered method target minor fields rest)
+  posted_by offered method target minor fields = by (is_bad_host minor (values (codes "host") fields)) (not (is_plain target))
     where
       by : (a b : Bool)
-          → IsPosted method rest (cond a (refused BadHead) (cond b (refused BadTarget) (on_route (first routes target) method target fields rest)))
+          → IsPosted method rest (cond a (refused BadHead) (cond b (refused BadTarget) (on_route (route_at offered target) method target fields rest)))
       by true b = tt
       by false true = tt
-      by false false = posted_on (first routes target) method target fields
+      by false false = posted_on (route_at offered target) method target fields
 
-pub only_post_delivers : (method target : List ℕ) (minor : ℕ) (fields : Fields) (rest relay body : List ℕ)
-    → action_by method target minor fields rest ≡ deliver relay body
+pub only_post_delivers : (offered : Offered) (method target : List ℕ) (minor : ℕ) (fields : Fields) (rest relay body : List ℕ)
+    → action_by offered method target minor fields rest ≡ deliver relay body
     → (method ≡ codes "POST") × (length body ≤ 16384) × (body ≡ take (length body) rest)
-only_post_delivers method target minor fields rest relay body e =
-    subst (λ (a : Action (List ℕ)). IsPosted method rest a) e (posted_by rest method target minor fields)
+only_post_delivers offered method target minor fields rest relay body e =
+    subst (λ (a : Action (List ℕ)). IsPosted method rest a) e (posted_by rest offered method target minor fields)
 
 -- if it is a delivery, its route is that of a relay's messages
 abbrev IsOfMessages : Option (RouteOf Route) → Action (List ℕ) → Type 0
@@ -151,7 +161,9 @@ IsOfMessages found (grants at) = Unit {0}
 IsOfMessages found parked = Unit {0}
 IsOfMessages found (host_file host) = Unit {0}
 IsOfMessages found (host_file_after host at) = Unit {0}
+IsOfMessages found (host_at host at) = Unit {0}
 IsOfMessages found (report at) = Unit {0}
+IsOfMessages found (open_requests at) = Unit {0}
 IsOfMessages found (refused fault) = Unit {0}
 
 messages_delivered : (route : RouteOf Route) (relay : List ℕ) → route.value ≡ Messages → (found : Result (List ℕ) RequestFault)
@@ -173,23 +185,39 @@ module _ (method target rest : List ℕ) (fields : Fields) where
   messages_at route named Parked is true = tt
   messages_at route named HostFile is true = tt
   messages_at route named HostFileAfter is true = tt
+  messages_at route named HostAt is true = tt
   messages_at route named Report is true = tt
+  messages_at route named OpenRequests is true = tt
 
   messages_on : (found : Option (RouteOf Route)) → IsOfMessages found (on_route found method target fields rest)
   messages_on None = tt
   messages_on (Some route) = messages_at route (λ name. part name route target) route.value refl (allow (methods_of route.value) method)
 
-  messages_by : (minor : ℕ) → IsOfMessages (first routes target) (action_by method target minor fields rest)
-  messages_by minor = by (is_bad_host minor (values (codes "host") fields)) (not (is_plain target))
+  messages_by : (offered : Offered) (minor : ℕ) → IsOfMessages (route_at offered target) (action_by offered method target minor fields rest)
+  messages_by offered minor = by (is_bad_host minor (values (codes "host") fields)) (not (is_plain target))
     where
-      by : (a b : Bool) → IsOfMessages (first routes target)
-          (cond a (refused BadHead) (cond b (refused BadTarget) (on_route (first routes target) method target fields rest)))
+      by : (a b : Bool) → IsOfMessages (route_at offered target)
+          (cond a (refused BadHead) (cond b (refused BadTarget) (on_route (route_at offered target) method target fields rest)))
       by true b = tt
       by false true = tt
-      by false false = messages_on (first routes target)
+      by false false = messages_on (route_at offered target)
 
-pub only_messages_deliver : (method target : List ℕ) (minor : ℕ) (fields : Fields) (rest relay body : List ℕ)
-    → action_by method target minor fields rest ≡ deliver relay body
+messages_deliver : (offered : Offered) (method target : List ℕ) (minor : ℕ) (fields : Fields) (rest relay body : List ℕ)
+    → action_by offered method target minor fields rest ≡ deliver relay body
+    → (route : RouteOf Route) × (route_at offered target ≡ Some route) × (route.value ≡ Messages)
+messages_deliver offered method target minor fields rest relay body e =
+    subst (λ (a : Action (List ℕ)). IsOfMessages (route_at offered target) a) e (messages_by method target rest fields offered minor)
+
+pub only_messages_deliver : (offered : Offered) (method target : List ℕ) (minor : ℕ) (fields : Fields) (rest relay body : List ℕ)
+    → action_by offered method target minor fields rest ≡ deliver relay body
     → (route : RouteOf Route) × (first routes target ≡ Some route) × (route.value ≡ Messages)
-only_messages_deliver method target minor fields rest relay body e =
-    subst (λ (a : Action (List ℕ)). IsOfMessages (first routes target) a) e (messages_by method target rest fields minor)
+only_messages_deliver offered method target minor fields rest relay body e =
+    let x = messages_deliver offered method target minor fields rest relay body e in
+    (x.0, (found_at offered target x.0 x.1).0, x.2)
+
+-- a socket at which something is delivered has all routes
+pub only_all_deliver : (offered : Offered) (method target : List ℕ) (minor : ℕ) (fields : Fields) (rest relay body : List ℕ)
+    → action_by offered method target minor fields rest ≡ deliver relay body → offered ≡ socket.All
+only_all_deliver offered method target minor fields rest relay body e =
+    let x = messages_deliver offered method target minor fields rest relay body e in
+    all_if_messages offered (subst (λ (r : Route). offers offered r ≡ true) x.2 (found_at offered target x.0 x.1).1)

@@ -8,6 +8,7 @@ pub mod WorkedLemmas
 pub mod ReadingLemmas
 pub mod SentLemmas
 pub mod AnswerLemmas
+pub mod JoinedLemmas
 pub mod ResponseLemmas
 pub mod ExchangeLemmas
 pub mod OutgoingLemmas

@@ -5,13 +5,14 @@ use Rattle.std.proofs.lemmas.List.{append-nil}
 use Rattle.std.specs.Io.KnownBytes.{Appends, Consumes, IsAtEnd, Keeps}
 use Rattle.relay_http.specs.Needs.{HasRead, IsSettled, Taken, after_reading}
 use Rattle.relay_http.specs.Counting.{one_failure}
-use Rattle.relay_http.specs.Receiving.{HasCome, HasReceived, IsReception, IsStopped, NeverStarves, after_reception}
+use Rattle.relay_http.specs.Receiving.{HasCome, HasReceived, IsOfSocket, IsReception, IsStopped, NeverStarves, after_reception}
 use Rattle.relay_http.specs.Request.{Request}
 use Rattle.relay_http.specs.RequestBytes.{IsHttpRequest}
 use Rattle.relay_http.specs.Sending.{IsSending}
 use Rattle.relay_http.specs.Sent.{Began}
 use Rattle.relay_http.specs.declared.exchange.ReceiveFault.{ReceiveFault}
 use Rattle.relay_http.specs.declared.exchange.ReceiveFault.TheVariants as whys
+use Rattle.relay_http.specs.declared.offered.Offered.{Offered}
 use Rattle.relay_http.specs.declared.received.Received.{Received}
 use Rattle.relay_http.specs.declared.receiving.Reception.{Reception}
 use Rattle.relay_http.specs.declared.receiving.Reception.TheVariants as reception
@@ -62,35 +63,35 @@ come_nil a b before now x e = before_nil before x.0 (sym x.2 ∙ e)
 -- ---- a request that has come
 
 -- what follows what is settled changes nothing
-asks_all : (a b : Option (List ℕ)) (before now : List ℕ) → HasCome a b before now → IsSettled now
-    → IfSome a (λ left. (request : Request ℕ) → IsHttpRequest now request → IsHttpRequest (before ++ left) request)
-asks_all None b before now x settled = tt
-asks_all (Some all) None before now x settled = absurd x.1
-asks_all (Some all) (Some more) before now x settled =
+asks_all : (offered : Offered) (a b : Option (List ℕ)) (before now : List ℕ) → HasCome a b before now → IsSettled offered now
+    → IfSome a (λ left. (request : Request ℕ) → IsHttpRequest offered now request → IsHttpRequest offered (before ++ left) request)
+asks_all offered None b before now x settled = tt
+asks_all offered (Some all) None before now x settled = absurd x.1
+asks_all offered (Some all) (Some more) before now x settled =
     let same : before ++ all ≡ now ++ more =
     ap (λ (l : List ℕ). before ++ l) x.1 ∙ sym (append_assoc before x.0 more) ∙ ap (λ (l : List ℕ). l ++ more) (sym x.2) in
-    λ request asks. subst (λ (l : List ℕ). IsHttpRequest l request) (sym same) (settled_request now more request settled asks)
+    λ request asks. subst (λ (l : List ℕ). IsHttpRequest offered l request) (sym same) (settled_request offered now more request settled asks)
 
 -- at the end of a stream nothing follows
-asks_end : (a b : Option (List ℕ)) (before now : List ℕ) → HasCome a b before now → IsAtEnd b
-    → IfSome a (λ left. (request : Request ℕ) → IsHttpRequest now request → IsHttpRequest (before ++ left) request)
-asks_end None b before now x end = tt
-asks_end (Some all) None before now x end = absurd x.1
-asks_end (Some all) (Some more) before now x end =
+asks_end : (offered : Offered) (a b : Option (List ℕ)) (before now : List ℕ) → HasCome a b before now → IsAtEnd b
+    → IfSome a (λ left. (request : Request ℕ) → IsHttpRequest offered now request → IsHttpRequest offered (before ++ left) request)
+asks_end offered None b before now x end = tt
+asks_end offered (Some all) None before now x end = absurd x.1
+asks_end offered (Some all) (Some more) before now x end =
     let here : all ≡ x.0 = x.1 ∙ ap (λ (l : List ℕ). x.0 ++ l) end ∙ append-nil x.0 in
     let same : before ++ all ≡ now = ap (λ (l : List ℕ). before ++ l) here ∙ sym x.2 in
-    λ request asks. subst (λ (l : List ℕ). IsHttpRequest l request) (sym same) asks
+    λ request asks. subst (λ (l : List ℕ). IsHttpRequest offered l request) (sym same) asks
 
 pub received_whole : (a b : Option (List ℕ)) (before : List ℕ) (come : Taken) (x : Received) → x.come ≡ come → x.is_ended ≡ false
-    → HasCome a b before come.bytes → IsSettled come.bytes → HasReceived a b before x
+    → HasCome a b before come.bytes → IsSettled come.offered come.bytes → HasReceived a b before x
 received_whole a b before come x is not_ended has settled =
     let has_x : HasCome a b before x.come.bytes = subst (λ (t : Taken). HasCome a b before t.bytes) (sym is) has in
-    let settled_x : IsSettled x.come.bytes = subst (λ (t : Taken). IsSettled t.bytes) (sym is) settled in
+    let settled_x : IsSettled x.come.offered x.come.bytes = subst (λ (t : Taken). IsSettled t.offered t.bytes) (sym is) settled in
     record {
       come = has_x;
       whole = λ _. settled_x;
       ended = λ ended. absurd (let wrong : true ≡ false = sym ended ∙ not_ended in cc);
-      asks = asks_all a b before x.come.bytes has_x settled_x;
+      asks = asks_all x.come.offered a b before x.come.bytes has_x settled_x;
     }
 
 pub received_ended : (a b : Option (List ℕ)) (before : List ℕ) (come : Taken) (x : Received) → x.come ≡ come → x.is_ended ≡ true
@@ -101,7 +102,7 @@ received_ended a b before come x is ended has end =
       come = has_x;
       whole = λ whole. absurd (let wrong : true ≡ false = sym ended ∙ whole in cc);
       ended = λ _. end;
-      asks = asks_end a b before x.come.bytes has_x end;
+      asks = asks_end x.come.offered a b before x.come.bytes has_x end;
     }
 
 -- ---- a step that no more came in
@@ -123,6 +124,12 @@ stopped_reception a b c before old now why (Ok (reception.Starved x)) has kept n
 stopped_reception a b c before old now why (Err fault.ReadFailed) has kept none less s = tt
 stopped_reception a b c before old now why (Err fault.WriteFailed) has kept none less s = absurd s
 stopped_reception a b c before old now why (Err fault.NoMemory) has kept none less s = come_nil a b before old.bytes has (sym kept ∙ s.1)
+
+pub stopped_socket : (now : Taken) (why : ReceiveFault) (r : Result Reception ServeFault) → IsStopped now why r → IsOfSocket now.offered r
+stopped_socket now why (Ok (reception.Came x)) s = absurd s
+stopped_socket now why (Ok (reception.Waits x)) s = ap (λ (t : Taken). t.offered) s.0
+stopped_socket now why (Ok (reception.Starved x)) s = tt
+stopped_socket now why (Err e) s = tt
 
 pub stopped_count : (now : Taken) (why : ReceiveFault) (r : Result Reception ServeFault) (n : ℕ) → IsStopped now why r
     → after_reading (Err why) n ≡ after_reception r n
@@ -152,22 +159,22 @@ pub come_both : (a b c : Option (List ℕ)) (before mid now : List ℕ) → HasC
 come_both a b c before mid now x y =
     (x.0 ++ y.0, consumes_both a b c x.0 y.0 x.1 y.1, y.2 ∙ ap (λ (l : List ℕ). l ++ y.0) x.2 ∙ append_assoc before x.0 y.0)
 
-asks_behind : (a b : Option (List ℕ)) (before mid now : List ℕ) → HasCome a b before mid
-    → IfSome b (λ left. (request : Request ℕ) → IsHttpRequest now request → IsHttpRequest (mid ++ left) request)
-    → IfSome a (λ left. (request : Request ℕ) → IsHttpRequest now request → IsHttpRequest (before ++ left) request)
-asks_behind None b before mid now x asks = tt
-asks_behind (Some all) None before mid now x asks = absurd x.1
-asks_behind (Some all) (Some more) before mid now x asks =
+asks_behind : (offered : Offered) (a b : Option (List ℕ)) (before mid now : List ℕ) → HasCome a b before mid
+    → IfSome b (λ left. (request : Request ℕ) → IsHttpRequest offered now request → IsHttpRequest offered (mid ++ left) request)
+    → IfSome a (λ left. (request : Request ℕ) → IsHttpRequest offered now request → IsHttpRequest offered (before ++ left) request)
+asks_behind offered None b before mid now x asks = tt
+asks_behind offered (Some all) None before mid now x asks = absurd x.1
+asks_behind offered (Some all) (Some more) before mid now x asks =
     let same : mid ++ more ≡ before ++ all =
     ap (λ (l : List ℕ). l ++ more) x.2 ∙ append_assoc before x.0 more ∙ ap (λ (l : List ℕ). before ++ l) (sym x.1) in
-    λ request is. subst (λ (l : List ℕ). IsHttpRequest l request) same (asks request is)
+    λ request is. subst (λ (l : List ℕ). IsHttpRequest offered l request) same (asks request is)
 
 pub received_behind : (a b c : Option (List ℕ)) (before mid : List ℕ) (x : Received) → HasCome a b before mid → HasReceived b c mid x → HasReceived a c before x
 received_behind a b c before mid x h y = record {
   come = come_both a b c before mid x.come.bytes h y.come;
   whole = y.whole;
   ended = y.ended;
-  asks = asks_behind a b before mid x.come.bytes h y.asks;
+  asks = asks_behind x.come.offered a b before mid x.come.bytes h y.asks;
 }
 
 pub sending_behind : (a b c : Option (List ℕ)) (response rest : List ℕ) (r : Result Sending ServeFault) → IsSending a b response (Ok (sending.Waits rest))
@@ -191,11 +198,12 @@ sending_behind a b c response rest (Err fault.NoMemory) x y = absurd y
 -- ---- a stream that waits for its peer
 
 -- nothing had come before
-pub asks_from_start : (known : Option (List ℕ)) (before bytes : List ℕ) → before ≡ []
-    → IfSome known (λ left. (request : Request ℕ) → IsHttpRequest bytes request → IsHttpRequest (before ++ left) request)
-    → IfSome known (λ all. (request : Request ℕ) → IsHttpRequest bytes request → IsHttpRequest all request)
-asks_from_start known before bytes e asks =
-    subst (λ (l : List ℕ). IfSome known (λ left. (request : Request ℕ) → IsHttpRequest bytes request → IsHttpRequest (l ++ left) request)) e asks
+pub asks_from_start : (offered : Offered) (known : Option (List ℕ)) (before bytes : List ℕ) → before ≡ []
+    → IfSome known (λ left. (request : Request ℕ) → IsHttpRequest offered bytes request → IsHttpRequest offered (before ++ left) request)
+    → IfSome known (λ all. (request : Request ℕ) → IsHttpRequest offered bytes request → IsHttpRequest offered all request)
+asks_from_start offered known before bytes e asks =
+    subst (λ (l : List ℕ). IfSome known (λ left. (request : Request ℕ) → IsHttpRequest offered bytes request → IsHttpRequest offered (l ++ left) request))
+    e asks
 
 -- where memory suffices only a read can fail
 pub failed_read : (a b : Option (List ℕ)) (before : List ℕ) (e : ServeFault) (n : ℕ) → IsReception a b before (Err e) → NeverStarves (Err e)

@@ -20,9 +20,10 @@ use Rattle.httparse.proofs.GrammarLemmas.{request_unique}
 use Rattle.sudo_words.proofs.MomentLemmas.{stamp_is, stamp_only, stamp_spells}
 use Rattle.sudo_words.proofs.MomentTexts.{one_spelled}
 use Rattle.relay_http.specs.Request.{Action, Request, deliver, all_messages, count, grants, parked, host_file, host_file_after, report, refused}
-use Rattle.relay_http.specs.Request.{requests, requests_after, named_request}
+use Rattle.relay_http.specs.Request.{requests, requests_after, named_request, host_at, open_requests}
 use Rattle.relay_http.specs.declared.fault.RequestFault.TheVariants.{BadMoment, NoRoute}
 use Rattle.relay_http.specs.RequestBytes.{IsHttpRequest, IsHttpRequestByHead, Dates, DatesAt, DatesRequest, IsNumber, Numbers, front, request_by, request_from}
+use Rattle.relay_http.specs.declared.offered.Offered.{Offered}
 
 take_at_most : (xs : List ℕ) (n k : ℕ) → n ≡ min (length xs) k → take n xs ≡ take k xs
 take_at_most xs n k e =
@@ -50,11 +51,11 @@ fields_fit buf headers many fields e len =
     omega (arith, length-take many headers, len, lengths)
 
 -- the parts that the spans cover are those of a head, so the bytes are the request of these
-pub request_at : (buf found : List ℕ) (headers : List HeaderSpan) (spans : RequestSpans) (h : RequestHead) (result : Request ℕ)
-    → found ≡ front buf → length headers ≡ 32 → IsRequestAt found headers spans h → DatesRequest (request_by (span_bytes found spans.method)
+pub request_at : (offered : Offered) (buf found : List ℕ) (headers : List HeaderSpan) (spans : RequestSpans) (h : RequestHead) (result : Request ℕ)
+    → found ≡ front buf → length headers ≡ 32 → IsRequestAt found headers spans h → DatesRequest (request_by offered (span_bytes found spans.method)
     (span_bytes found spans.path) spans.version (map (header_bytes found) (take spans.headers headers)) (drop spans.len buf)) result
-    → IsHttpRequestByHead buf result
-request_at buf found headers spans h result is_front len at is = (
+    → IsHttpRequestByHead offered buf result
+request_at offered buf found headers spans h result is_front len at is = (
   h,
   (
     (drop spans.len found, subst (λ (f : List ℕ). ReadsRequest f h (drop spans.len found)) is_front at.reads),
@@ -62,11 +63,11 @@ request_at buf found headers spans h result is_front len at is = (
   ),
   subst (λ (r : Request (List ℕ)). DatesRequest r result)
       (ap (λ (m : List ℕ).
-      request_by m (span_bytes found spans.path) spans.version (map (header_bytes found) (take spans.headers headers)) (drop spans.len buf)) at.method
-      ∙ ap (λ (t : List ℕ). request_by h.method t spans.version (map (header_bytes found) (take spans.headers headers)) (drop spans.len buf)) at.path
-      ∙ ap (λ (v : ℕ). request_by h.method h.target v (map (header_bytes found) (take spans.headers headers)) (drop spans.len buf)) at.version
-      ∙ ap (λ (fs : List (List ℕ × List ℕ)). request_by h.method h.target h.minor fs (drop spans.len buf)) at.fields
-      ∙ ap (λ (n : ℕ). request_by h.method h.target h.minor (map name_and_value h.fields) (drop n buf)) at.len) is,
+      request_by offered m (span_bytes found spans.path) spans.version (map (header_bytes found) (take spans.headers headers)) (drop spans.len buf)) at.method
+      ∙ ap (λ (t : List ℕ). request_by offered h.method t spans.version (map (header_bytes found) (take spans.headers headers)) (drop spans.len buf)) at.path
+      ∙ ap (λ (v : ℕ). request_by offered h.method h.target v (map (header_bytes found) (take spans.headers headers)) (drop spans.len buf)) at.version
+      ∙ ap (λ (fs : List (List ℕ × List ℕ)). request_by offered h.method h.target h.minor fs (drop spans.len buf)) at.fields
+      ∙ ap (λ (n : ℕ). request_by offered h.method h.target h.minor (map name_and_value h.fields) (drop n buf)) at.len) is,
 )
 
 -- a text is that of at most one moment
@@ -98,7 +99,9 @@ one_dated (grants at) a b x y = one_dated_at grants at a b x y
 one_dated parked a b x y = x ∙ sym y
 one_dated (host_file host) a b x y = x ∙ sym y
 one_dated (host_file_after host at) a b x y = one_dated_at (λ t. host_file_after host t) at a b x y
+one_dated (host_at host at) a b x y = one_dated_at (λ t. host_at host t) at a b x y
 one_dated (report at) a b x y = one_dated_at report at a b x y
+one_dated (open_requests at) a b x y = one_dated_at open_requests at a b x y
 one_dated (refused fault) a b x y = x ∙ sym y
 
 pub one_dated_request : (r : Request (List ℕ)) (a b : Request ℕ) → DatesRequest r a → DatesRequest r b → a ≡ b
@@ -107,13 +110,13 @@ one_dated_request r a b x y =
     ∙ ap (λ (q : Action ℕ). record { with_body = b.with_body; action = q }) (one_dated r.action a.action b.action x.1 y.1)
 
 -- Bytes are one request.
-pub one_request : (bytes : List ℕ) (a b : Request ℕ) → IsHttpRequest bytes a → IsHttpRequest bytes b → a ≡ b
-one_request bytes a b (inl x) (inl y) =
+pub one_request : (offered : Offered) (bytes : List ℕ) (a b : Request ℕ) → IsHttpRequest offered bytes a → IsHttpRequest offered bytes b → a ≡ b
+one_request offered bytes a b (inl x) (inl y) =
     let same : x.0 ≡ y.0 = (request_unique (front bytes) x.0 y.0 x.1.0.0 y.1.0.0 x.1.0.1 y.1.0.1).0 in
-    one_dated_request (request_from y.0 bytes) a b (subst (λ (h : RequestHead). DatesRequest (request_from h bytes) a) same x.2) y.2
-one_request bytes a b (inl x) (inr y) = absurd (y.0 x.0 x.1)
-one_request bytes a b (inr x) (inl y) = absurd (x.0 y.0 y.1)
-one_request bytes a b (inr x) (inr y) = x.1 ∙ sym y.1
+    one_dated_request (request_from offered y.0 bytes) a b (subst (λ (h : RequestHead). DatesRequest (request_from offered h bytes) a) same x.2) y.2
+one_request offered bytes a b (inl x) (inr y) = absurd (y.0 x.0 x.1)
+one_request offered bytes a b (inr x) (inl y) = absurd (x.0 y.0 y.1)
+one_request offered bytes a b (inr x) (inr y) = x.1 ∙ sym y.1
 
 -- ---- whatever the bytes ask, there is such a request
 
@@ -198,7 +201,9 @@ some_dated (grants at) = some_dated_at grants at
 some_dated parked = (parked, refl)
 some_dated (host_file host) = (host_file host, refl)
 some_dated (host_file_after host at) = some_dated_at (λ t. host_file_after host t) at
+some_dated (host_at host at) = some_dated_at (λ t. host_at host t) at
 some_dated (report at) = some_dated_at report at
+some_dated (open_requests at) = some_dated_at open_requests at
 some_dated (refused fault) = (refused fault, refl)
 
 pub some_request : (r : Request (List ℕ)) → (request : Request ℕ) × DatesRequest r request

@@ -8,6 +8,7 @@ use Rattle.messages.specs.declared.message.Message.{Message}
 use Rattle.roster.specs.Fields.{Reading, RosterFields}
 use Rattle.outcomes.specs.HostFile.{Line, lines_after, with_lines}
 use Rattle.outcomes.specs.Outcomes.{LiveGrant}
+use Rattle.desk.specs.declared.refusal.Refusal.{Refusal}
 use Rattle.desk.proofs.CountLemmas.{one_count}
 use Rattle.desk.proofs.DeliveryLemmas.{one_answer}
 use Rattle.desk.proofs.TextLemmas.{one_texts}
@@ -15,11 +16,12 @@ use Rattle.outcomes.proofs.FileLemmas.{one_lines}
 use Rattle.outcomes.proofs.SetLemmas.{one_live, one_parked}
 use Rattle.review.proofs.ReportOne.{one_report}
 use Rattle.findings.specs.Picks.{after, all}
-use Rattle.desk_audit.proofs.OneText.{one_audit_text, one_name_text}
+use Rattle.desk_audit.proofs.OneText.{one_audit_text, one_name_text, one_open_text}
 use Rattle.relay_http.specs.Request.{Action, deliver, all_messages, count, grants, parked, host_file, host_file_after, report, refused}
-use Rattle.relay_http.specs.Request.{requests, requests_after, named_request}
-use Rattle.relay_http.specs.Responses.{IsFileResponse, IsResponse, Response, count_line, delivery, done, is_known_host, each_on_a_line}
-use Rattle.relay_http.specs.Responses.{live_grant_line, to_delivery}
+use Rattle.relay_http.specs.Request.{requests, requests_after, named_request, host_at, open_requests}
+use Rattle.relay_http.specs.Responses.{IsCountedFileResponse, IsFileResponse, IsResponse, Response, count_line, delivery, done, is_known_host}
+use Rattle.relay_http.specs.Responses.{each_on_a_line, live_grant_line, refusal, to_delivery}
+use Rattle.relay_http.proofs.AnswerLemmas.{not_done}
 
 -- a host is known, or it is not
 one_known : (f : RosterFields Cmnd) (host : List ℕ) → is_known_host f host ≡ false → is_known_host f host ≡ true → ⊥
@@ -37,6 +39,27 @@ one_file_response left f base set host a b (inr (inl x)) (inr (inl y)) =
 one_file_response left f base set host a b (inr (inl x)) (inr (inr y)) = absurd (omega (arith, x.1.2, y.1 x.1.0 x.1.1))
 one_file_response left f base set host a b (inr (inr x)) (inr (inl y)) = absurd (omega (arith, y.1.2, x.1 y.1.0 y.1.1))
 one_file_response left f base set host a b (inr (inr x)) (inr (inr y)) = x.2 ∙ sym y.2
+
+-- a file is no refusal
+one_file : (file : List ℕ) (e : Refusal) (P : Type 0) → done file ≡ refusal e → P
+one_file file e P same = not_done e P (sym (ap (λ (r : Response). r.status) same))
+
+one_counted_file : (r : Reading) (base : List Entry) (set : List Message) (host : List ℕ) (at : ℕ) (a b : Response)
+    → IsCountedFileResponse r base set host at a → IsCountedFileResponse r base set host at b → a ≡ b
+one_counted_file r base set host at a b (inl x) (inl y) =
+    let messages : x.0 ≡ y.0 = one_count set set x.0 y.0 (λ m. (λ held. held, λ held. held)) x.2 y.2 in
+    let file : x.1 ≡ y.1 =
+    ap (λ (r : Response). r.body) (one_file_response (lines_after at) r.says base set host (done x.1) (done y.1) x.3 y.3) in
+    x.4
+    ∙ ap (λ (n : ℕ). done (count_line n r.text base ++ newline ∷ x.1)) messages
+    ∙ ap (λ (l : List ℕ). done (count_line y.0 r.text base ++ newline ∷ l)) file
+    ∙ sym y.4
+one_counted_file r base set host at a b (inl x) (inr y) =
+    one_file x.1 y.0 (a ≡ b) (one_file_response (lines_after at) r.says base set host (done x.1) (refusal y.0) x.3 y.1)
+one_counted_file r base set host at a b (inr x) (inl y) =
+    one_file y.1 x.0 (a ≡ b) (one_file_response (lines_after at) r.says base set host (done y.1) (refusal x.0) y.3 x.1)
+one_counted_file r base set host at a b (inr x) (inr y) =
+    x.2 ∙ one_file_response (lines_after at) r.says base set host (refusal x.0) (refusal y.0) x.1 y.1 ∙ sym y.2
 
 pub one_response : (r : Reading) (base : List Entry) (set : List Message) (action : Action ℕ) (a b : Response)
     → IsResponse r base set action a → IsResponse r base set action b → a ≡ b
@@ -56,5 +79,7 @@ one_response r base set (grants at) a b x y =
 one_response r base set parked a b x y = x.2 ∙ ap (λ (texts : List (List ℕ)). done (each_on_a_line texts)) (one_parked set x.0 y.0 x.1 y.1) ∙ sym y.2
 one_response r base set (host_file host) a b x y = one_file_response (λ lines. lines) r.says base set host a b x y
 one_response r base set (host_file_after host at) a b x y = one_file_response (lines_after at) r.says base set host a b x y
+one_response r base set (host_at host at) a b x y = one_counted_file r base set host at a b x y
 one_response r base set (report at) a b x y = x.2 ∙ ap done (one_report r.says base set set at x.0 y.0 (λ m. (λ held. held, λ held. held)) x.1 y.1) ∙ sym y.2
+one_response r base set (open_requests at) a b x y = x.2 ∙ ap done (one_open_text r.says set at x.0 y.0 x.1 y.1) ∙ sym y.2
 one_response r base set (refused fault) a b x y = x ∙ sym y

@@ -8,10 +8,12 @@ use Rattle.matchit.specs.Router.{RouteOf, rename, map_key, InsertsRead}
 use Rattle.matchit.specs.declared.error.InsertError.{InsertError}
 use Rattle.matchit.specs.declared.error.InsertError.TheVariants.{Conflict, InvalidCatchAll, InvalidParam, InvalidParamSegment, OutOfMemory}
 use Rattle.matchit.proofs.RenameLemmas.{first-rename}
+use Rattle.relay_http.specs.declared.offered.Offered.{Offered}
+use Rattle.relay_http.specs.declared.offered.Offered.TheVariants as socket
 use Rattle.relay_http.specs.declared.route.Route.{Route}
 use Rattle.relay_http.specs.declared.route.Route.TheVariants.{Messages, AllMessages, Count, Grants, Parked, HostFile, HostFileAfter, Report}
-use Rattle.relay_http.specs.declared.route.Route.TheVariants.{Requests, RequestsAfter, NamedRequest}
-use Rattle.relay_http.specs.Routes.{IsFreeRoute, routes, added, with_route}
+use Rattle.relay_http.specs.declared.route.Route.TheVariants.{Requests, RequestsAfter, NamedRequest, HostAt, OpenRequests}
+use Rattle.relay_http.specs.Routes.{IsFreeRoute, RouteTakes, if_offered, is_question, offers, route_at, routes, added, with_route}
 use Rattle.relay_http.specs.Target.{is_plain, is_plain_byte}
 use Rattle.matchit.specs.Route.{parse_route}
 use Rattle.matchit.specs.Router.{route_from}
@@ -117,6 +119,33 @@ pub free_named_request : IsFreeRoute (parse_route (codes "/v1/requests/{asker}/{
 unfolding scan
 free_named_request = refl
 
+pub free_host_at : IsFreeRoute (parse_route (codes "/v1/hosts/{host}/at/{at}"))
+    (with_route (codes "/v1/requests/{asker}/{no}") NamedRequest
+    (with_route (codes "/v1/requests/after/{at}") RequestsAfter
+    (with_route (codes "/v1/requests") Requests
+    (with_route (codes "/v1/count") Count
+    (with_route (codes "/v1/messages") AllMessages
+    (with_route (codes "/v1/hosts/{host}/sudoers/{at}") HostFileAfter
+    (with_route (codes "/v1/reviews/{at}") Report (with_route (codes "/v1/hosts/{host}/sudoers") HostFile
+    (with_route (codes "/v1/parked") Parked (with_route (codes "/v1/grants/{at}") Grants
+    (with_route (codes "/v1/relays/{relay}/messages") Messages [])))))))))))
+unfolding scan
+free_host_at = refl
+
+pub free_open_requests : IsFreeRoute (parse_route (codes "/v1/open/{at}"))
+    (with_route (codes "/v1/hosts/{host}/at/{at}") HostAt
+    (with_route (codes "/v1/requests/{asker}/{no}") NamedRequest
+    (with_route (codes "/v1/requests/after/{at}") RequestsAfter
+    (with_route (codes "/v1/requests") Requests
+    (with_route (codes "/v1/count") Count
+    (with_route (codes "/v1/messages") AllMessages
+    (with_route (codes "/v1/hosts/{host}/sudoers/{at}") HostFileAfter
+    (with_route (codes "/v1/reviews/{at}") Report (with_route (codes "/v1/hosts/{host}/sudoers") HostFile
+    (with_route (codes "/v1/parked") Parked (with_route (codes "/v1/grants/{at}") Grants
+    (with_route (codes "/v1/relays/{relay}/messages") Messages []))))))))))))
+unfolding scan
+free_open_requests = refl
+
 and_true_left : (a b : Bool) → (a && b) ≡ true → a ≡ true
 and_true_left true b h = refl
 and_true_left false b h = h
@@ -149,7 +178,9 @@ text_for Grants = codes "/v1/grants/{at}"
 text_for Parked = codes "/v1/parked"
 text_for HostFile = codes "/v1/hosts/{host}/sudoers"
 text_for HostFileAfter = codes "/v1/hosts/{host}/sudoers/{at}"
+text_for HostAt = codes "/v1/hosts/{host}/at/{at}"
 text_for Report = codes "/v1/reviews/{at}"
+text_for OpenRequests = codes "/v1/open/{at}"
 
 abbrev pub from_scan : Result Scan InsertError → Route → RouteOf Route
 from_scan (Ok s) route = route_from s route
@@ -196,10 +227,111 @@ text_ascii Grants = below_ascii (route_for Grants).text refl
 text_ascii Parked = below_ascii (route_for Parked).text refl
 text_ascii HostFile = below_ascii (route_for HostFile).text refl
 text_ascii HostFileAfter = below_ascii (route_for HostFileAfter).text refl
+text_ascii HostAt = below_ascii (route_for HostAt).text refl
 text_ascii Report = below_ascii (route_for Report).text refl
+text_ascii OpenRequests = below_ascii (route_for OpenRequests).text refl
 
 pub texts : (target : List ℕ) (e : RouteOf Route) → first routes target ≡ Some e → IsTrue (is_plain target)
     → AllText (walk e.pattern e.text target e.names 0 0)
 texts target e found plain =
     subst (λ (r : RouteOf Route). AllText (walk r.pattern r.text target r.names 0 0))
     (sym (known target e found)) (all_text _ _ target _ 0 0 (text_ascii e.value) (plain_ascii target plain))
+
+-- ---- the routes of a socket
+
+takes_if : (offered : Offered) (target : List ℕ) (found : Option (RouteOf Route)) (x : Route × List ℕ × List ℕ) → RouteTakes found target (Some x)
+    → offers offered x.0 ≡ true → RouteTakes (if_offered offered found) target (Some x)
+takes_if offered target None x takes has = absurd takes
+takes_if offered target (Some route) x takes has =
+    subst (λ (b : Bool). RouteTakes (cond b (Some route) None) target (Some x)) (sym (ap (λ (r : Route). offers offered r) takes.0 ∙ has)) takes
+
+lacks_if : (offered : Offered) (target : List ℕ) (found : Option (RouteOf Route)) (x : Route × List ℕ × List ℕ) → RouteTakes found target (Some x)
+    → offers offered x.0 ≡ false → RouteTakes (if_offered offered found) target None
+lacks_if offered target None x takes lacks = absurd takes
+lacks_if offered target (Some route) x takes lacks =
+    subst (λ (b : Bool). RouteTakes (cond b (Some route) None) target None) (sym (ap (λ (r : Route). offers offered r) takes.0 ∙ lacks)) tt
+
+none_if : (offered : Offered) (target : List ℕ) (found : Option (RouteOf Route)) → RouteTakes found target None
+    → RouteTakes (if_offered offered found) target None
+none_if offered target None takes = tt
+none_if offered target (Some route) takes = absurd takes
+
+-- what was found where all routes are is found at a socket that has it
+pub takes_at : (offered : Offered) (target : List ℕ) (x : Route × List ℕ × List ℕ) → RouteTakes (first routes target) target (Some x)
+    → offers offered x.0 ≡ true → RouteTakes (route_at offered target) target (Some x)
+unfolding route_at
+takes_at offered target x takes has = takes_if offered target (first routes target) x takes has
+
+pub lacks_at : (offered : Offered) (target : List ℕ) (x : Route × List ℕ × List ℕ) → RouteTakes (first routes target) target (Some x)
+    → offers offered x.0 ≡ false → RouteTakes (route_at offered target) target None
+unfolding route_at
+lacks_at offered target x takes lacks = lacks_if offered target (first routes target) x takes lacks
+
+pub none_at : (offered : Offered) (target : List ℕ) → RouteTakes (first routes target) target None → RouteTakes (route_at offered target) target None
+unfolding route_at
+none_at offered target takes = none_if offered target (first routes target) takes
+
+found_if : (offered : Offered) (found : Option (RouteOf Route)) (route : RouteOf Route) → if_offered offered found ≡ Some route
+    → (found ≡ Some route) × (offers offered route.value ≡ true)
+found_if offered None route e = absurd cc
+found_if offered (Some other) route e = by (offers offered other.value) refl e
+  where
+    by : (b : Bool) → offers offered other.value ≡ b → ◌≡◌ {A = Option (RouteOf Route)} (cond b (Some other) None) (Some route)
+        → (◌≡◌ {A = Option (RouteOf Route)} (Some other) (Some route)) × (offers offered route.value ≡ true)
+    by true has same = let is : other ≡ route = cc in (same, subst (λ (r : RouteOf Route). offers offered r.value ≡ true) is has)
+    by false has same = absurd cc
+
+-- a socket has the route that it finds, which is found where all routes are
+pub found_at : (offered : Offered) (target : List ℕ) (route : RouteOf Route) → route_at offered target ≡ Some route
+    → (first routes target ≡ Some route) × (offers offered route.value ≡ true)
+unfolding route_at
+found_at offered target route e = found_if offered (first routes target) route e
+
+-- only a socket with all routes has that of a relay's messages
+pub all_if_messages : (offered : Offered) → offers offered Messages ≡ true → offered ≡ socket.All
+all_if_messages socket.All has = refl
+all_if_messages socket.Questions has = let wrong : false ≡ true = has in absurd cc
+
+-- ---- the same, as laws
+
+all_if : (found : Option (RouteOf Route)) → if_offered socket.All found ≡ found
+all_if None = refl
+all_if (Some route) = refl
+
+pub all_stay : (target : List ℕ) → route_at socket.All target ≡ first routes target
+unfolding route_at
+all_stay target = all_if (first routes target)
+
+pub none_stays : (target : List ℕ) → first routes target ≡ None → route_at socket.Questions target ≡ None
+unfolding route_at
+none_stays target found = ap (λ (o : Option (RouteOf Route)). if_offered socket.Questions o) found
+
+abbrev kept_by : RouteOf Route → Bool → Option (RouteOf Route)
+kept_by route b = cond b (Some route) None
+
+pub messages_go : (target : List ℕ) (route : RouteOf Route) → first routes target ≡ Some route → route.value ≡ Messages
+    → route_at socket.Questions target ≡ None
+unfolding route_at
+messages_go target route found is =
+    ap (λ (o : Option (RouteOf Route)). if_offered socket.Questions o) found ∙ ap (λ (r : Route). kept_by route (is_question r)) is
+
+other_asks : (route : Route) → (route ≡ Messages → ⊥) → is_question route ≡ true
+other_asks Messages other = absurd (other refl)
+other_asks AllMessages other = refl
+other_asks Count other = refl
+other_asks Requests other = refl
+other_asks RequestsAfter other = refl
+other_asks NamedRequest other = refl
+other_asks Grants other = refl
+other_asks Parked other = refl
+other_asks HostFile other = refl
+other_asks HostFileAfter other = refl
+other_asks HostAt other = refl
+other_asks Report other = refl
+other_asks OpenRequests other = refl
+
+pub others_stay : (target : List ℕ) (route : RouteOf Route) → first routes target ≡ Some route → (route.value ≡ Messages → ⊥)
+    → route_at socket.Questions target ≡ Some route
+unfolding route_at
+others_stay target route found other =
+    ap (λ (o : Option (RouteOf Route)). if_offered socket.Questions o) found ∙ ap (λ (b : Bool). kept_by route b) (other_asks route.value other)

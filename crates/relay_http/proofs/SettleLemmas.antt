@@ -8,20 +8,20 @@ use Rattle.httparse.specs.Grammar.{RequestHead, ReadsRequest, print_request}
 use Rattle.httparse.specs.Spans.{RequestOverflows, name_and_value}
 use Rattle.httparse.proofs.GrammarLemmas.{ReadsRequest-append}
 use Rattle.matchit.specs.Router.{RouteOf}
-use Rattle.matchit.specs.Seek.{first}
 use Rattle.relay_http.specs.Request.{Action, Request, refused}
 use Rattle.relay_http.specs.Content.{by_lengths, content, content_by_fields, is_length, most_content, sized}
 use Rattle.relay_http.specs.Fields.{Fields, values, is_bad_host}
-use Rattle.relay_http.specs.Routes.{routes, part}
+use Rattle.relay_http.specs.Routes.{part, route_at}
 use Rattle.relay_http.specs.Settled.{is_short, lacks_content}
 use Rattle.relay_http.specs.Target.{is_plain}
 use Rattle.relay_http.specs.RequestBytes.{IsHttpRequest, IsHttpRequestByHead, Dates, DatesRequest, HasHead, allow, action_by, request_from}
 use Rattle.relay_http.specs.RequestBytes.{by_method, delivered, front, is_head, methods_of, on_route, request_by, sought}
 use Rattle.relay_http.specs.declared.fault.RequestFault.{RequestFault}
 use Rattle.relay_http.specs.declared.fault.RequestFault.TheVariants.{BadHead, BadLength, BadMethod, BadTarget, ShortBody, TooLong}
+use Rattle.relay_http.specs.declared.offered.Offered.{Offered}
 use Rattle.relay_http.specs.declared.route.Route.{Route}
 use Rattle.relay_http.specs.declared.route.Route.TheVariants.{Messages, AllMessages, Count, Grants, Parked, HostFile, HostFileAfter, Report}
-use Rattle.relay_http.specs.declared.route.Route.TheVariants.{Requests, RequestsAfter, NamedRequest}
+use Rattle.relay_http.specs.declared.route.Route.TheVariants.{Requests, RequestsAfter, NamedRequest, HostAt, OpenRequests}
 
 -- the content is there, or as many bytes as any content may have
 abbrev pub Enough : Result (List ℕ) RequestFault → List ℕ → Type 0
@@ -77,7 +77,9 @@ module _ (rest more : List ℕ) where
   sought_more Parked named fields h = refl
   sought_more HostFile named fields h = refl
   sought_more HostFileAfter named fields h = refl
+  sought_more HostAt named fields h = refl
   sought_more Report named fields h = refl
+  sought_more OpenRequests named fields h = refl
 
   method_more : (route : Route) (method : List ℕ) (named : List ℕ → List ℕ) (fields : Fields) → EnoughForAction (by_method route method named fields rest) rest
       → by_method route method named fields (rest ++ more) ≡ by_method route method named fields rest
@@ -94,17 +96,18 @@ module _ (rest more : List ℕ) where
   route_more None method target fields h = refl
   route_more (Some route) method target fields h = method_more route.value method (λ name. part name route target) fields h
 
-  action_more : (method target : List ℕ) (minor : ℕ) (fields : Fields) → EnoughForAction (action_by method target minor fields rest) rest
-      → action_by method target minor fields (rest ++ more) ≡ action_by method target minor fields rest
-  action_more method target minor fields h = by (is_bad_host minor (values (codes "host") fields)) (not (is_plain target)) h
+  action_more : (offered : Offered) (method target : List ℕ) (minor : ℕ) (fields : Fields)
+      → EnoughForAction (action_by offered method target minor fields rest) rest
+      → action_by offered method target minor fields (rest ++ more) ≡ action_by offered method target minor fields rest
+  action_more offered method target minor fields h = by (is_bad_host minor (values (codes "host") fields)) (not (is_plain target)) h
     where
       by : (a b : Bool)
-          → EnoughForAction (cond a (refused BadHead) (cond b (refused BadTarget) (on_route (first routes target) method target fields rest))) rest
-          → cond a (refused BadHead) (cond b (refused BadTarget) (on_route (first routes target) method target fields (rest ++ more)))
-          ≡ cond a (refused BadHead) (cond b (refused BadTarget) (on_route (first routes target) method target fields rest))
+          → EnoughForAction (cond a (refused BadHead) (cond b (refused BadTarget) (on_route (route_at offered target) method target fields rest))) rest
+          → cond a (refused BadHead) (cond b (refused BadTarget) (on_route (route_at offered target) method target fields (rest ++ more)))
+          ≡ cond a (refused BadHead) (cond b (refused BadTarget) (on_route (route_at offered target) method target fields rest))
       by true b e = refl
       by false true e = refl
-      by false false e = route_more (first routes target) method target fields e
+      by false false e = route_more (route_at offered target) method target fields e
 
 -- the front of a list that goes on
 take-append-split : (n : ℕ) (xs ys : List ℕ) → take n (xs ++ ys) ≡ take n xs ++ take (n - length xs) ys
@@ -146,26 +149,26 @@ not_short action dated dates whole e =
     let no : true ≡ false = sym (ap lacks_content is) ∙ whole in
     grind (arith, no)
 
-pub kept : (bytes more : List ℕ) (request : Request ℕ) (x : IsHttpRequestByHead bytes request)
-    → EnoughForAction (request_from x.0 bytes).action (drop (length (print_request x.0)) bytes) → IsHttpRequest (bytes ++ more) request
-kept bytes more request x enough =
+pub kept : (offered : Offered) (bytes more : List ℕ) (request : Request ℕ) (x : IsHttpRequestByHead offered bytes request)
+    → EnoughForAction (request_from offered x.0 bytes).action (drop (length (print_request x.0)) bytes) → IsHttpRequest offered (bytes ++ more) request
+kept offered bytes more request x enough =
     let h = x.0 in
     let rest = drop (length (print_request h)) bytes in
     let fits = head_fits bytes h x.1.0.0 x.1.0.1 in
-    let same : action_by h.method h.target h.minor (map name_and_value h.fields) (rest ++ more)
-    ≡ action_by h.method h.target h.minor (map name_and_value h.fields) rest =
-    action_more rest more h.method h.target h.minor (map name_and_value h.fields) enough in
-    let longer : request_from h bytes ≡ request_from h (bytes ++ more) =
+    let same : action_by offered h.method h.target h.minor (map name_and_value h.fields) (rest ++ more)
+    ≡ action_by offered h.method h.target h.minor (map name_and_value h.fields) rest =
+    action_more rest more offered h.method h.target h.minor (map name_and_value h.fields) enough in
+    let longer : request_from offered h bytes ≡ request_from offered h (bytes ++ more) =
     ap (λ (a : Action (List ℕ)). record { with_body = not (is_head h.method); action = a }) (sym same)
-    ∙ ap (λ (r : List ℕ). request_by h.method h.target h.minor (map name_and_value h.fields) r)
+    ∙ ap (λ (r : List ℕ). request_by offered h.method h.target h.minor (map name_and_value h.fields) r)
     (sym (drop-append-le (length (print_request h)) bytes more fits.0)) in
     inl (h, has_more bytes more h x.1, subst (λ (r : Request (List ℕ)). DatesRequest r request) longer x.2)
 
 -- a head is there, and the content where it is asked for
-pub whole_more : (bytes more : List ℕ) (request : Request ℕ) → IsHttpRequestByHead bytes request → is_short request ≡ false
-    → IsHttpRequest (bytes ++ more) request
-whole_more bytes more request x whole =
-    kept bytes more request x (inl (not_short (request_from x.0 bytes).action request.action x.2.1 whole))
+pub whole_more : (offered : Offered) (bytes more : List ℕ) (request : Request ℕ) → IsHttpRequestByHead offered bytes request → is_short request ≡ false
+    → IsHttpRequest offered (bytes ++ more) request
+whole_more offered bytes more request x whole =
+    kept offered bytes more request x (inl (not_short (request_from offered x.0 bytes).action request.action x.2.1 whole))
 
 -- no head can come any more
 pub headless_more : (bytes more : List ℕ) → 8192 ≤ length bytes → ((h : RequestHead) → HasHead bytes h → ⊥) → (h : RequestHead) → HasHead (bytes ++ more) h → ⊥
@@ -180,8 +183,9 @@ overflow_more bytes more found is over h has =
     omega (arith, over longer.0 h has.0.0 reads, has.1)
 
 -- the buffer is full
-pub full_more : (bytes more : List ℕ) (request : Request ℕ) → 24576 ≤ length bytes → IsHttpRequest bytes request → IsHttpRequest (bytes ++ more) request
-full_more bytes more request full (inl x) =
+pub full_more : (offered : Offered) (bytes more : List ℕ) (request : Request ℕ) → 24576 ≤ length bytes → IsHttpRequest offered bytes request
+    → IsHttpRequest offered (bytes ++ more) request
+full_more offered bytes more request full (inl x) =
     let fits = head_fits bytes x.0 x.1.0.0 x.1.0.1 in
-    kept bytes more request x (inr (omega (arith, fits.0, fits.1, length-drop (length (print_request x.0)) bytes)))
-full_more bytes more request full (inr x) = inr (headless_more bytes more (omega arith) x.0, x.1)
+    kept offered bytes more request x (inr (omega (arith, fits.0, fits.1, length-drop (length (print_request x.0)) bytes)))
+full_more offered bytes more request full (inr x) = inr (headless_more bytes more (omega arith) x.0, x.1)

@@ -12,13 +12,12 @@ use Rattle.httparse.specs.Spans.{IsWithin, name_and_value, span_bytes}
 use Rattle.httparse.specs.declared.spans.Span.{Span}
 use Rattle.httparse.proofs.GrammarLemmas.{ReadsRequest-append, request_unique}
 use Rattle.matchit.specs.Router.{RouteOf}
-use Rattle.matchit.specs.Seek.{first}
 use Rattle.relay_http.specs.Request.{Action, Request, deliver, all_messages, count, grants, parked, host_file, host_file_after, report, refused}
-use Rattle.relay_http.specs.Request.{requests, requests_after, named_request}
+use Rattle.relay_http.specs.Request.{requests, requests_after, named_request, host_at, open_requests}
 use Rattle.relay_http.specs.Content.{content, content_by_fields, by_lengths, is_length, most_content, sized}
 use Rattle.relay_http.specs.Fields.{Fields, values, is_bad_host}
 use Rattle.relay_http.specs.Needs.{HasNoHead, IsSettled, LacksContent}
-use Rattle.relay_http.specs.Routes.{routes, part}
+use Rattle.relay_http.specs.Routes.{part, route_at}
 use Rattle.relay_http.specs.Scan.{scanned}
 use Rattle.relay_http.specs.Settled.{is_short, is_short_body, lacks_content}
 use Rattle.relay_http.specs.Stages.{IsFoundHead, IsHeadAt, NeverHasHead, cut, size, size_by, size_of}
@@ -32,9 +31,10 @@ use Rattle.relay_http.specs.declared.fault.RequestFault.TheVariants.{TooLong, Sh
 use Rattle.relay_http.specs.declared.head.Head.{Head}
 use Rattle.relay_http.specs.declared.head_scan.HeadScan.{HeadScan}
 use Rattle.relay_http.specs.declared.head_scan.HeadScan.TheVariants.{Blank, Ended}
+use Rattle.relay_http.specs.declared.offered.Offered.{Offered}
 use Rattle.relay_http.specs.declared.route.Route.{Route}
 use Rattle.relay_http.specs.declared.route.Route.TheVariants.{Messages, AllMessages, Count, Grants, Parked, HostFile, HostFileAfter, Report}
-use Rattle.relay_http.specs.declared.route.Route.TheVariants.{Requests, RequestsAfter, NamedRequest}
+use Rattle.relay_http.specs.declared.route.Route.TheVariants.{Requests, RequestsAfter, NamedRequest, HostAt, OpenRequests}
 use Rattle.relay_http.proofs.ScanLemmas.{ended_behind, ended_is_head, scanned-append}
 use Rattle.relay_http.proofs.SettleLemmas.{has_more, head_fits, headless_more, whole_more}
 use Rattle.relay_http.proofs.RequestLemmas.{one_request, some_request, take_rest}
@@ -93,21 +93,23 @@ never_more bytes more never = λ later. subst HasNoHead (sym (append_assoc bytes
 
 -- ---- what is settled
 
-pub settled_by : (bytes : List ℕ) (request : Request ℕ) → IsHttpRequestByHead bytes request → is_short request ≡ false → IsSettled bytes
-settled_by bytes request x whole = (request, λ more. whole_more bytes more request x whole)
+pub settled_by : (offered : Offered) (bytes : List ℕ) (request : Request ℕ) → IsHttpRequestByHead offered bytes request → is_short request ≡ false
+    → IsSettled offered bytes
+settled_by offered bytes request x whole = (request, λ more. whole_more offered bytes more request x whole)
 
-pub never_settles : (bytes : List ℕ) → NeverHasHead bytes → IsSettled bytes
-never_settles bytes never = (record { with_body = true; action = refused BadHead }, λ more. inr (never more, refl))
+pub never_settles : (offered : Offered) (bytes : List ℕ) → NeverHasHead bytes → IsSettled offered bytes
+never_settles offered bytes never = (record { with_body = true; action = refused BadHead }, λ more. inr (never more, refl))
 
-pub settled_more : (bytes more : List ℕ) → IsSettled bytes → IsSettled (bytes ++ more)
-settled_more bytes more x =
-    (x.0, λ later. subst (λ (l : List ℕ). IsHttpRequest l x.0) (sym (append_assoc bytes more later)) (x.1 (more ++ later)))
+pub settled_more : (offered : Offered) (bytes more : List ℕ) → IsSettled offered bytes → IsSettled offered (bytes ++ more)
+settled_more offered bytes more x =
+    (x.0, λ later. subst (λ (l : List ℕ). IsHttpRequest offered l x.0) (sym (append_assoc bytes more later)) (x.1 (more ++ later)))
 
 -- what is settled is the request that the bytes are
-pub settled_request : (bytes more : List ℕ) (request : Request ℕ) → IsSettled bytes → IsHttpRequest bytes request → IsHttpRequest (bytes ++ more) request
-settled_request bytes more request x asks =
-    let now : IsHttpRequest bytes x.0 = subst (λ (l : List ℕ). IsHttpRequest l x.0) (append-nil bytes) (x.1 []) in
-    subst (λ (r : Request ℕ). IsHttpRequest (bytes ++ more) r) (one_request bytes x.0 request now asks) (x.1 more)
+pub settled_request : (offered : Offered) (bytes more : List ℕ) (request : Request ℕ) → IsSettled offered bytes → IsHttpRequest offered bytes request
+    → IsHttpRequest offered (bytes ++ more) request
+settled_request offered bytes more request x asks =
+    let now : IsHttpRequest offered bytes x.0 = subst (λ (l : List ℕ). IsHttpRequest offered l x.0) (append-nil bytes) (x.1 []) in
+    subst (λ (r : Request ℕ). IsHttpRequest offered (bytes ++ more) r) (one_request offered bytes x.0 request now asks) (x.1 more)
 
 -- ---- who is asked for content
 
@@ -168,7 +170,9 @@ sought_short Grants named fields rest e = absurd cc
 sought_short Parked named fields rest e = absurd cc
 sought_short HostFile named fields rest e = absurd cc
 sought_short HostFileAfter named fields rest e = absurd cc
+sought_short HostAt named fields rest e = absurd cc
 sought_short Report named fields rest e = absurd cc
+sought_short OpenRequests named fields rest e = absurd cc
 
 method_short : (route : Route) (method : List ℕ) (named : List ℕ → List ℕ) (fields : Fields) (rest : List ℕ)
     → by_method route method named fields rest ≡ refused ShortBody → Posts (λ other. by_method route method named fields other) fields rest
@@ -184,15 +188,16 @@ route_short : (route : Option (RouteOf Route)) (method target : List ℕ) (field
 route_short None method target fields rest e = absurd cc
 route_short (Some route) method target fields rest e = method_short route.value method (λ name. part name route target) fields rest e
 
-action_short : (method target : List ℕ) (minor : ℕ) (fields : Fields) (rest : List ℕ) → action_by method target minor fields rest ≡ refused ShortBody
-    → Posts (λ other. action_by method target minor fields other) fields rest
-action_short method target minor fields rest e = by (is_bad_host minor (values (codes "host") fields)) (not (is_plain target)) e
+action_short : (offered : Offered) (method target : List ℕ) (minor : ℕ) (fields : Fields) (rest : List ℕ)
+    → action_by offered method target minor fields rest ≡ refused ShortBody
+    → Posts (λ other. action_by offered method target minor fields other) fields rest
+action_short offered method target minor fields rest e = by (is_bad_host minor (values (codes "host") fields)) (not (is_plain target)) e
   where
-    by : (a b : Bool) → cond a (refused BadHead) (cond b (refused BadTarget) (on_route (first routes target) method target fields rest)) ≡ refused ShortBody
-        → Posts (λ other. cond a (refused BadHead) (cond b (refused BadTarget) (on_route (first routes target) method target fields other))) fields rest
+    by : (a b : Bool) → cond a (refused BadHead) (cond b (refused BadTarget) (on_route (route_at offered target) method target fields rest)) ≡ refused ShortBody
+        → Posts (λ other. cond a (refused BadHead) (cond b (refused BadTarget) (on_route (route_at offered target) method target fields other))) fields rest
     by true b f = absurd cc
     by false true f = absurd cc
-    by false false f = route_short (first routes target) method target fields rest f
+    by false false f = route_short (route_at offered target) method target fields rest f
 
 -- ---- how many bytes of the content are missing
 
@@ -218,7 +223,9 @@ lacks_is (grants at) e = absurd cc
 lacks_is parked e = absurd cc
 lacks_is (host_file host) e = absurd cc
 lacks_is (host_file_after host at) e = absurd cc
+lacks_is (host_at host at) e = absurd cc
 lacks_is (report at) e = absurd cc
+lacks_is (open_requests at) e = absurd cc
 lacks_is (refused fault) e = ap (λ (f : RequestFault). refused f) (short_is fault e)
 
 dated_short : (action : Action (List ℕ)) → Dates action (refused ShortBody) → action ≡ refused ShortBody
@@ -236,8 +243,12 @@ dated_short parked e = absurd cc
 dated_short (host_file host) e = absurd cc
 dated_short (host_file_after host at) (inl x) = absurd (let wrong : ◌≡◌ {A = Action ℕ} (refused ShortBody) (host_file_after host x.0) = x.2 in cc)
 dated_short (host_file_after host at) (inr x) = absurd (let wrong = x.1 in cc)
+dated_short (host_at host at) (inl x) = absurd (let wrong : ◌≡◌ {A = Action ℕ} (refused ShortBody) (host_at host x.0) = x.2 in cc)
+dated_short (host_at host at) (inr x) = absurd (let wrong = x.1 in cc)
 dated_short (report at) (inl x) = absurd (let wrong : ◌≡◌ {A = Action ℕ} (refused ShortBody) (report x.0) = x.2 in cc)
 dated_short (report at) (inr x) = absurd (let wrong = x.1 in cc)
+dated_short (open_requests at) (inl x) = absurd (let wrong : ◌≡◌ {A = Action ℕ} (refused ShortBody) (open_requests x.0) = x.2 in cc)
+dated_short (open_requests at) (inr x) = absurd (let wrong = x.1 in cc)
 dated_short (refused fault) e = let same : fault ≡ ShortBody = cc in ap (λ (f : RequestFault). refused f) same
 
 sized_short : (n : ℕ) (rest : List ℕ) → n ≤ 16384 → length rest < n → sized n rest ≡ Err ShortBody
@@ -259,87 +270,94 @@ sized_whole n rest small whole = by (nat_lt most_content n) refl (nat_lt (length
     by false f false g = refl
 
 -- what the bytes with this head ask, where it does not hang on a moment
-request_so : (bytes : List ℕ) (h : RequestHead) (action : Action ℕ) → HasHead bytes h → Dates (request_from h bytes).action action
-    → IsHttpRequestByHead bytes (record { with_body = not (is_head h.method); action = action })
-request_so bytes h action has dates = (h, has, (refl, dates))
+request_so : (offered : Offered) (bytes : List ℕ) (h : RequestHead) (action : Action ℕ) → HasHead bytes h → Dates (request_from offered h bytes).action action
+    → IsHttpRequestByHead offered bytes (record { with_body = not (is_head h.method); action = action })
+request_so offered bytes h action has dates = (h, has, (refl, dates))
 
 -- one that is cut short has a length
-pub short_size : (bytes : List ℕ) (h : RequestHead) (request : Request ℕ) → DatesRequest (request_from h bytes) request → is_short request ≡ true
+pub short_size : (offered : Offered) (bytes : List ℕ) (h : RequestHead) (request : Request ℕ) → DatesRequest (request_from offered h bytes) request
+    → is_short request ≡ true
     → (n : ℕ) × (size_of (map name_and_value h.fields) ≡ Ok n)
-short_size bytes h request dates short =
-    let here : (request_from h bytes).action ≡ refused ShortBody =
-    dated_short (request_from h bytes).action (subst (λ (a : Action ℕ). Dates (request_from h bytes).action a) (lacks_is request.action short) dates.1) in
-    let posts = action_short h.method h.target h.minor (map name_and_value h.fields) (drop (length (print_request h)) bytes) here in
+short_size offered bytes h request dates short =
+    let here : (request_from offered h bytes).action ≡ refused ShortBody =
+    dated_short (request_from offered h bytes).action
+    (subst (λ (a : Action ℕ). Dates (request_from offered h bytes).action a) (lacks_is request.action short) dates.1) in
+    let posts = action_short offered h.method h.target h.minor (map name_and_value h.fields) (drop (length (print_request h)) bytes) here in
     (posts.1, posts.3)
 
 -- where no content can be missing, the bytes are one request, whatever follows
-whole_by : (bytes : List ℕ) (head : Head) (h : RequestHead) (request : Request ℕ) → IsHeadAt bytes head h
-    → ((n : ℕ) → head.size ≡ Ok n → n ≤ 16384 → n ≤ length bytes - head.len) → DatesRequest (request_from h bytes) request
+whole_by : (offered : Offered) (bytes : List ℕ) (head : Head) (h : RequestHead) (request : Request ℕ) → IsHeadAt bytes head h
+    → ((n : ℕ) → head.size ≡ Ok n → n ≤ 16384 → n ≤ length bytes - head.len) → DatesRequest (request_from offered h bytes) request
     → (b : Bool) → is_short request ≡ b → is_short request ≡ false
-whole_by bytes head h request at whole dates false e = e
-whole_by bytes head h request at whole dates true short =
+whole_by offered bytes head h request at whole dates false e = e
+whole_by offered bytes head h request at whole dates true short =
     let fields = map name_and_value h.fields in
     let rest = drop (length (print_request h)) bytes in
-    let here : (request_from h bytes).action ≡ refused ShortBody =
-    dated_short (request_from h bytes).action (subst (λ (a : Action ℕ). Dates (request_from h bytes).action a) (lacks_is request.action short) dates.1) in
-    let posts : Posts (λ other. action_by h.method h.target h.minor fields other) fields rest =
-    action_short h.method h.target h.minor fields rest here in
+    let here : (request_from offered h bytes).action ≡ refused ShortBody =
+    dated_short (request_from offered h bytes).action
+    (subst (λ (a : Action ℕ). Dates (request_from offered h bytes).action a) (lacks_is request.action short) dates.1) in
+    let posts : Posts (λ other. action_by offered h.method h.target h.minor fields other) fields rest =
+    action_short offered h.method h.target h.minor fields rest here in
     let there : posts.1 ≤ length bytes - head.len = whole posts.1 (at.size ∙ posts.3) posts.4 in
     absurd (omega (arith, posts.2, there, at.len, length-drop (length (print_request h)) bytes))
 
-pub settled_whole : (bytes : List ℕ) (head : Head) → IsFoundHead bytes head
-    → ((n : ℕ) → head.size ≡ Ok n → n ≤ 16384 → n ≤ length bytes - head.len) → IsSettled bytes
-settled_whole bytes head x whole =
-    let r = some_request (request_from x.0 bytes) in
-    settled_by bytes r.0 (x.0, x.1.has, r.1) (whole_by bytes head x.0 r.0 x.1 whole r.1 (is_short r.0) refl)
+pub settled_whole : (offered : Offered) (bytes : List ℕ) (head : Head) → IsFoundHead bytes head
+    → ((n : ℕ) → head.size ≡ Ok n → n ≤ 16384 → n ≤ length bytes - head.len) → IsSettled offered bytes
+settled_whole offered bytes head x whole =
+    let r = some_request (request_from offered x.0 bytes) in
+    settled_by offered bytes r.0 (x.0, x.1.has, r.1) (whole_by offered bytes head x.0 r.0 x.1 whole r.1 (is_short r.0) refl)
 
-pub lacks_by : (bytes : List ℕ) (h : RequestHead) (request : Request ℕ) (n : ℕ) → HasHead bytes h → DatesRequest (request_from h bytes) request
-    → is_short request ≡ true → size_of (map name_and_value h.fields) ≡ Ok n → LacksContent bytes (n - (length bytes - length (print_request h)))
-lacks_by bytes h request n has dates short sized_n =
+pub lacks_by : (offered : Offered) (bytes : List ℕ) (h : RequestHead) (request : Request ℕ) (n : ℕ) → HasHead bytes h
+    → DatesRequest (request_from offered h bytes) request
+    → is_short request ≡ true → size_of (map name_and_value h.fields) ≡ Ok n → LacksContent offered bytes (n - (length bytes - length (print_request h)))
+lacks_by offered bytes h request n has dates short sized_n =
     let len = length (print_request h) in
     let fields = map name_and_value h.fields in
     let fits = head_fits bytes h has.0.0 has.0.1 in
-    let here : (request_from h bytes).action ≡ refused ShortBody =
-    dated_short (request_from h bytes).action (subst (λ (a : Action ℕ). Dates (request_from h bytes).action a) (lacks_is request.action short) dates.1) in
-    let posts : Posts (λ other. action_by h.method h.target h.minor fields other) fields (drop len bytes) =
-    action_short h.method h.target h.minor fields (drop len bytes) here in
+    let here : (request_from offered h bytes).action ≡ refused ShortBody =
+    dated_short (request_from offered h bytes).action
+    (subst (λ (a : Action ℕ). Dates (request_from offered h bytes).action a) (lacks_is request.action short) dates.1) in
+    let posts : Posts (λ other. action_by offered h.method h.target h.minor fields other) fields (drop len bytes) =
+    action_short offered h.method h.target h.minor fields (drop len bytes) here in
     let same : posts.1 ≡ n = let both : ◌≡◌ {A = Result ℕ RequestFault} (Ok posts.1) (Ok n) = sym posts.3 ∙ sized_n in cc in
     let is_len : length (drop len bytes) ≡ length bytes - len = length-drop len bytes in
     let below : length bytes - len < n = omega (arith, posts.2, same, is_len) in
     let small : n ≤ 16384 = omega (arith, posts.4, same) in
     let later : (more : List ℕ) → length (drop len (bytes ++ more)) ≡ (length bytes - len) + length more = λ more.
     omega (arith, length-drop len (bytes ++ more), length-append bytes more, fits.0) in
-    let asks : (more : List ℕ) → (request_from h (bytes ++ more)).action ≡ delivered posts.0 (sized n (drop len (bytes ++ more))) = λ more.
+    let asks : (more : List ℕ) → (request_from offered h (bytes ++ more)).action ≡ delivered posts.0 (sized n (drop len (bytes ++ more))) = λ more.
     posts.5 (drop len (bytes ++ more)) ∙ ap (λ (m : ℕ). delivered posts.0 (sized m (drop len (bytes ++ more)))) same in
     record {
       some = omega (arith, below);
       fits = omega (arith, fits.0, fits.1, below, small);
       short = λ more lt request2 asks2.
-          let cut_off : (request_from h (bytes ++ more)).action ≡ refused ShortBody = asks more ∙ ap (λ (r : Result (List ℕ) RequestFault). delivered posts.0 r)
+          let cut_off : (request_from offered h (bytes ++ more)).action ≡ refused ShortBody =
+          asks more ∙ ap (λ (r : Result (List ℕ) RequestFault). delivered posts.0 r)
           (sized_short n (drop len (bytes ++ more)) small (omega (arith, later more, lt))) in
-          let x : IsHttpRequestByHead (bytes ++ more) (record { with_body = not (is_head h.method); action = refused ShortBody }) =
-          request_so (bytes ++ more) h (refused ShortBody) (has_more bytes more h has)
+          let x : IsHttpRequestByHead offered (bytes ++ more) (record { with_body = not (is_head h.method); action = refused ShortBody }) =
+          request_so offered (bytes ++ more) h (refused ShortBody) (has_more bytes more h has)
           (subst (λ (a : Action (List ℕ)). Dates a (refused ShortBody)) (sym cut_off) refl) in
-          ap (λ (r : Request ℕ). r.action) (one_request (bytes ++ more) request2 _ asks2 (inl x));
+          ap (λ (r : Request ℕ). r.action) (one_request offered (bytes ++ more) request2 _ asks2 (inl x));
       enough = λ more le.
           let body = take n (drop len (bytes ++ more)) in
-          let whole : (request_from h (bytes ++ more)).action ≡ deliver posts.0 body =
+          let whole : (request_from offered h (bytes ++ more)).action ≡ deliver posts.0 body =
           asks more ∙ ap (λ (r : Result (List ℕ) RequestFault). delivered posts.0 r)
           (sized_whole n (drop len (bytes ++ more)) small (omega (arith, later more, le))) in
-          let x : IsHttpRequestByHead (bytes ++ more) (record { with_body = not (is_head h.method); action = deliver posts.0 body }) =
-          request_so (bytes ++ more) h (deliver posts.0 body) (has_more bytes more h has)
+          let x : IsHttpRequestByHead offered (bytes ++ more) (record { with_body = not (is_head h.method); action = deliver posts.0 body }) =
+          request_so offered (bytes ++ more) h (deliver posts.0 body) (has_more bytes more h has)
           (subst (λ (a : Action (List ℕ)). Dates a (deliver posts.0 body)) (sym whole) refl) in
-          settled_by (bytes ++ more) _ x refl;
+          settled_by offered (bytes ++ more) _ x refl;
     }
 
-pub lacks_more : (bytes more : List ℕ) (n : ℕ) → LacksContent bytes n → length more < n → LacksContent (bytes ++ more) (n - length more)
-lacks_more bytes more n x lt = record {
+pub lacks_more : (offered : Offered) (bytes more : List ℕ) (n : ℕ) → LacksContent offered bytes n → length more < n
+    → LacksContent offered (bytes ++ more) (n - length more)
+lacks_more offered bytes more n x lt = record {
   some = omega (arith, lt);
   fits = omega (arith, x.fits, length-append bytes more, lt);
   short = λ later short request asks.
       x.short (more ++ later) (omega (arith, length-append more later, short, lt)) request
-      (subst (λ (l : List ℕ). IsHttpRequest l request) (append_assoc bytes more later) asks);
-  enough = λ later enough. subst IsSettled (sym (append_assoc bytes more later))
+      (subst (λ (l : List ℕ). IsHttpRequest offered l request) (append_assoc bytes more later) asks);
+  enough = λ later enough. subst (IsSettled offered) (sym (append_assoc bytes more later))
       (x.enough (more ++ later) (omega (arith, length-append more later, enough, lt)));
 }
 
@@ -384,28 +402,29 @@ method_found bytes head h x has =
 
 -- ---- the stages after more bytes
 
-pub stage_found : (bytes : List ℕ) (head : Head) (from : ℕ) → IsFoundHead (take from bytes) head × IsSettled (take from bytes)
-    → IsFoundHead bytes head × IsSettled bytes
-stage_found bytes head from x =
-    subst (λ (l : List ℕ). IsFoundHead l head × IsSettled l) (take-append-drop from bytes)
-    (found_more (take from bytes) (drop from bytes) head x.0, settled_more (take from bytes) (drop from bytes) x.1)
+pub stage_found : (offered : Offered) (bytes : List ℕ) (head : Head) (from : ℕ) → IsFoundHead (take from bytes) head × IsSettled offered (take from bytes)
+    → IsFoundHead bytes head × IsSettled offered bytes
+stage_found offered bytes head from x =
+    subst (λ (l : List ℕ). IsFoundHead l head × IsSettled offered l) (take-append-drop from bytes)
+    (found_more (take from bytes) (drop from bytes) head x.0, settled_more offered (take from bytes) (drop from bytes) x.1)
 
 pub stage_broken : (bytes : List ℕ) (from : ℕ) → NeverHasHead (take from bytes) → NeverHasHead bytes
 stage_broken bytes from x = subst NeverHasHead (take-append-drop from bytes) (never_more (take from bytes) (drop from bytes) x)
 
-pub stage_whole : (bytes : List ℕ) (head : Head) (from n : ℕ) → n ≤ length bytes - from
-    → IsFoundHead (take from bytes) head × LacksContent (take from bytes) n → IsFoundHead bytes head × IsSettled bytes
-stage_whole bytes head from n le x =
-    subst (λ (l : List ℕ). IsFoundHead l head × IsSettled l) (take-append-drop from bytes)
+pub stage_whole : (offered : Offered) (bytes : List ℕ) (head : Head) (from n : ℕ) → n ≤ length bytes - from
+    → IsFoundHead (take from bytes) head × LacksContent offered (take from bytes) n → IsFoundHead bytes head × IsSettled offered bytes
+stage_whole offered bytes head from n le x =
+    subst (λ (l : List ℕ). IsFoundHead l head × IsSettled offered l) (take-append-drop from bytes)
     (found_more (take from bytes) (drop from bytes) head x.0, x.1.enough (drop from bytes) (omega (arith, le, length-drop from bytes)))
 
-pub stage_lacks : (bytes : List ℕ) (head : Head) (from n : ℕ) → length bytes - from < n
-    → IsFoundHead (take from bytes) head × LacksContent (take from bytes) n → IsFoundHead bytes head × LacksContent bytes (n - (length bytes - from))
-stage_lacks bytes head from n lt x =
-    subst (λ (l : List ℕ). IsFoundHead l head × LacksContent l (n - (length bytes - from))) (take-append-drop from bytes) (
+pub stage_lacks : (offered : Offered) (bytes : List ℕ) (head : Head) (from n : ℕ) → length bytes - from < n
+    → IsFoundHead (take from bytes) head × LacksContent offered (take from bytes) n
+    → IsFoundHead bytes head × LacksContent offered bytes (n - (length bytes - from))
+stage_lacks offered bytes head from n lt x =
+    subst (λ (l : List ℕ). IsFoundHead l head × LacksContent offered l (n - (length bytes - from))) (take-append-drop from bytes) (
       found_more (take from bytes) (drop from bytes) head x.0,
-      subst (λ (m : ℕ). LacksContent (take from bytes ++ drop from bytes) (n - m)) (length-drop from bytes)
-          (lacks_more (take from bytes) (drop from bytes) n x.1 (omega (arith, lt, length-drop from bytes))),
+      subst (λ (m : ℕ). LacksContent offered (take from bytes ++ drop from bytes) (n - m)) (length-drop from bytes)
+          (lacks_more offered (take from bytes) (drop from bytes) n x.1 (omega (arith, lt, length-drop from bytes))),
     )
 
 -- no head is there, and no more bytes count for one

@@ -2,11 +2,12 @@
 use Rattle.std.proofs.Common.{◌≡◌, ℕ, List, [], Option, IfSome, Ok, refl, sym, subst}
 use Rattle.std.specs.Io.KnownBytes.{Appends}
 use Rattle.relay_http.specs.Counting.{one_failure}
-use Rattle.relay_http.specs.Receiving.{HasReceived, IsReception, NeverStarves, after_reception}
+use Rattle.relay_http.specs.Receiving.{HasReceived, IsOfSocket, IsReception, NeverStarves, after_reception}
 use Rattle.relay_http.specs.Request.{Request}
 use Rattle.relay_http.specs.RequestBytes.{IsHttpRequest}
 use Rattle.relay_http.specs.Sending.{IsSending, after_sending}
 use Rattle.relay_http.specs.Sent.{Began}
+use Rattle.relay_http.specs.declared.offered.Offered.{Offered}
 use Rattle.relay_http.specs.declared.received.Received.{Received}
 use Rattle.relay_http.specs.declared.receiving.Receiving.{Receiving}
 use Rattle.relay_http.specs.declared.receiving.Reception.{Reception}
@@ -17,10 +18,13 @@ use Rattle.relay_http.specs.declared.sending.Sending.TheVariants as sending
 use Rattle.relay_http.proofs.ReceivingLemmas.{asks_from_start, waits_began}
 
 pub came_asks : (a b : Option (List ℕ)) (before : List ℕ) (r : Reception) (x : Received) → r ≡ reception.Came x → before ≡ [] → IsReception a b before (Ok r)
-    → IfSome a (λ all. (request : Request ℕ) → IsHttpRequest x.come.bytes request → IsHttpRequest all request)
+    → IfSome a (λ all. (request : Request ℕ) → IsHttpRequest x.come.offered x.come.bytes request → IsHttpRequest x.come.offered all request)
 came_asks a b before r x is empty step =
     let received : HasReceived a b before x = subst (λ (q : Reception). IsReception a b before (Ok q)) is step in
-    asks_from_start a before x.come.bytes empty received.asks
+    asks_from_start x.come.offered a before x.come.bytes empty received.asks
+
+pub came_socket : (offered : Offered) (r : Reception) (x : Received) → r ≡ reception.Came x → IsOfSocket offered (Ok r) → x.come.offered ≡ offered
+came_socket offered r x is same = subst (λ (q : Reception). IsOfSocket offered (Ok q)) is same
 
 pub came_count : (r : Reception) (x : Received) (n : ℕ) → r ≡ reception.Came x → after_reception (Ok r) n ≡ n
 came_count r x n is = subst (λ (q : Reception). after_reception (Ok q) n ≡ n) (sym is) refl

@@ -12,6 +12,7 @@ use Rattle.httparse.specs.Grammar.{is_token, is_token_byte, is_uri_byte, is_valu
 use Rattle.httparse.specs.Spans.{name_and_value}
 use Rattle.relay_http.specs.Request.{Request}
 use Rattle.relay_http.specs.RequestBytes.{IsHttpRequest, DatesRequest, front, request_by}
+use Rattle.relay_http.specs.declared.offered.Offered.{Offered}
 use Rattle.relay_http.proofs.RouteLemmas.{below_ascii}
 
 abbrev is_field : Field → Bool
@@ -59,12 +60,12 @@ spelled method target minor fields = record {
   last = crlf;
 }
 
-pub worked : (h : RequestHead) (rest bytes : List ℕ) (request : Request ℕ)
+pub worked : (offered : Offered) (h : RequestHead) (rest bytes : List ℕ) (request : Request ℕ)
     → is_request_head h ≡ true → bytes ≡ print_request h ++ rest → nat_le (length bytes) 8192 ≡ true → nat_le (length h.fields) 32 ≡ true
-    → DatesRequest (request_by h.method h.target h.minor (map name_and_value h.fields) rest) request
-    → IsHttpRequest bytes request
+    → DatesRequest (request_by offered h.method h.target h.minor (map name_and_value h.fields) rest) request
+    → IsHttpRequest offered bytes request
 unfolding front
-worked h rest bytes request is parts short few dates =
+worked offered h rest bytes request is parts short few dates =
     let size : length bytes ≤ 8192 = grind (arith, nat_tests) in
     let count : length h.fields ≤ 32 = grind (arith, nat_tests) in
     let behind : rest ≡ drop (length (print_request h)) bytes =
@@ -72,5 +73,5 @@ worked h rest bytes request is parts short few dates =
     inl (
       h,
       ((rest, (head_is h is, take_all 8192 bytes size ∙ parts)), count),
-      subst (λ (r : List ℕ). DatesRequest (request_by h.method h.target h.minor (map name_and_value h.fields) r) request) behind dates,
+      subst (λ (r : List ℕ). DatesRequest (request_by offered h.method h.target h.minor (map name_and_value h.fields) r) request) behind dates,
     )

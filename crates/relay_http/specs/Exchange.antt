@@ -19,6 +19,8 @@ use Rattle.relay_http.specs.Responses.{ResponseTells, refusal}
 use Rattle.relay_http.specs.Response.{code_of, written}
 use Rattle.relay_http.specs.Routes.{routes}
 use Rattle.relay_http.specs.RequestBytes.{HasHead}
+use Rattle.relay_http.specs.declared.offered.Offered.{Offered}
+use Rattle.relay_http.specs.declared.offered.Offered.TheVariants as socket
 use Rattle.relay_http.specs.declared.route.Route.{Route}
 use Rattle.relay_http.specs.declared.route.Route.TheVariants.{Messages}
 use Rattle.relay_http.specs.declared.serving.ServeFault.{ServeFault}
@@ -70,9 +72,11 @@ pub record IsPost (bytes : List ℕ) : Type 0 where
   pub found : first routes head.target ≡ Some route
   pub messages : route.value ≡ Messages
 
--- the bytes are such a POST's, and a response with the status 200 was written
-abbrev pub IsAcknowledged : (bytes : List ℕ) → (Wrote : List ℕ → Type 0) → Type 0
-IsAcknowledged bytes Wrote = IsPost bytes × ((body : List ℕ) × Wrote (written Done body true))
+-- the bytes are such a POST's, the socket has all routes, and a response with the status 200 was
+-- written
+abbrev pub IsAcknowledged : Offered → (bytes : List ℕ) → (Wrote : List ℕ → Type 0) → Type 0
+IsAcknowledged offered bytes Wrote = IsPost bytes × (offered ≡ socket.All)
+    × ((body : List ℕ) × Wrote (written Done body true))
 
 -- a response was written, or a beginning of it
 abbrev pub HasResponded : {A : Type 0} → Result A ServeFault → Type 0

@@ -8,7 +8,8 @@ use Rattle.desk_store.specs.declared.keeper.Keeper.{Ghosts}
 use Rattle.desk.specs.Crash.{IsAddedByDelivery}
 use Rattle.relay_http.specs.Request.{Action, deliver, all_messages, count, grants}
 use Rattle.relay_http.specs.Request.{parked, host_file, host_file_after, report, refused}
-use Rattle.relay_http.specs.Request.{requests, requests_after, named_request}
+use Rattle.relay_http.specs.Request.{requests, requests_after, named_request, host_at}
+use Rattle.relay_http.specs.Request.{open_requests}
 use Rattle.relay_http.specs.Responses.{Response}
 use Rattle.relay_http.specs.declared.status.ResponseStatus.TheVariants.{Done}
 
@@ -27,7 +28,9 @@ IsAddedBy Up f roster old (grants at) left = ⊥
 IsAddedBy Up f roster old parked left = ⊥
 IsAddedBy Up f roster old (host_file host) left = ⊥
 IsAddedBy Up f roster old (host_file_after host at) left = ⊥
+IsAddedBy Up f roster old (host_at host at) left = ⊥
 IsAddedBy Up f roster old (report at) left = ⊥
+IsAddedBy Up f roster old (open_requests at) left = ⊥
 IsAddedBy Up f roster old (refused fault) left = ⊥
 
 -- After a response with the status 200 the keeper is up. A crash leaves what it might have left

@@ -13,6 +13,7 @@ use Rattle.relay_http.specs.Response.{code_of, written}
 use Rattle.relay_http.specs.Responses.{ResponseTells, refusal}
 use Rattle.relay_http.specs.declared.exchange.ReceiveFault.{ReceiveFault}
 use Rattle.relay_http.specs.declared.exchange.ReceiveFault.TheVariants as whys
+use Rattle.relay_http.specs.declared.offered.Offered.{Offered}
 use Rattle.relay_http.specs.declared.received.Received.{Received}
 use Rattle.relay_http.specs.declared.receiving.Reception.{Reception}
 use Rattle.relay_http.specs.declared.receiving.Reception.TheVariants as reception
@@ -26,15 +27,17 @@ abbrev pub HasCome : (left_before left_now : Option (List ℕ)) → (before now 
 HasCome left_before left_now before now = (bytes : List ℕ)
     × Consumes left_before left_now bytes × (now ≡ before ++ bytes)
 
--- A request has come. It is whole, or its stream is at its end; and what it asks for is what all
--- the bytes of the stream ask for, those that came before and those that the reader had left.
+-- A request has come. It is whole, or its stream is at its end; and what it asks for at its socket
+-- is what all the bytes of the stream ask for there, those that came before and those that the
+-- reader had left.
 pub record HasReceived (left_before left_now : Option (List ℕ)) (before : List ℕ)
     (x : Received) : Type 0 where
   pub come : HasCome left_before left_now before x.come.bytes
-  pub whole : x.is_ended ≡ false → IsSettled x.come.bytes
+  pub whole : x.is_ended ≡ false → IsSettled x.come.offered x.come.bytes
   pub ended : x.is_ended ≡ true → IsAtEnd left_now
   pub asks : IfSome left_before (λ left. (request : Request ℕ)
-      → IsHttpRequest x.come.bytes request → IsHttpRequest (before ++ left) request)
+      → IsHttpRequest x.come.offered x.come.bytes request
+      → IsHttpRequest x.come.offered (before ++ left) request)
 
 -- the desk's response where memory ran out
 abbrev pub IsWantResponse : (with_body : Bool) → HttpResponse → Type 0
@@ -68,6 +71,13 @@ IsReception left_before left_now before (Ok (reception.Starved x)) = (come : Lis
 IsReception left_before left_now before (Err fault.ReadFailed) = Unit {0}
 IsReception left_before left_now before (Err fault.WriteFailed) = ⊥
 IsReception left_before left_now before (Err fault.NoMemory) = before ≡ []
+
+-- what came and what still comes is for a socket with these routes
+abbrev pub IsOfSocket : Offered → Result Reception ServeFault → Type 0
+IsOfSocket offered (Ok (reception.Came x)) = x.come.offered ≡ offered
+IsOfSocket offered (Ok (reception.Waits x)) = x.come.offered ≡ offered
+IsOfSocket offered (Ok (reception.Starved x)) = Unit {0}
+IsOfSocket offered (Err e) = Unit {0}
 
 -- the count of failures after a step: a read that would block is one, as each that fails
 abbrev pub after_reception : Result Reception ServeFault → ℕ → ℕ

@@ -6,7 +6,7 @@ use Rattle.relay_http.specs.declared.action.Action.TheVariants.{Deliver, AllMess
 use Rattle.relay_http.specs.declared.action.Action.TheVariants.{Count, Parked, HostFile}
 use Rattle.relay_http.specs.declared.action.Action.TheVariants.{HostFileAfter, Report, Refused}
 use Rattle.relay_http.specs.declared.action.Action.TheVariants.{Requests, RequestsAfter}
-use Rattle.relay_http.specs.declared.action.Action.TheVariants.{NamedRequest}
+use Rattle.relay_http.specs.declared.action.Action.TheVariants.{NamedRequest, HostAt, OpenRequests}
 use Rattle.relay_http.specs.declared.action.HttpRequest.{HttpRequest}
 
 -- A delivery by a relay, a query, or the first fault that applies. `At` is the type of a moment and
@@ -22,7 +22,9 @@ pub data Action (At : Type 0) : Type 0 where
   parked : Action At
   host_file : (host : List ℕ) → Action At
   host_file_after : (host : List ℕ) → (at : At) → Action At
+  host_at : (host : List ℕ) → (at : At) → Action At
   report : (at : At) → Action At
+  open_requests : (at : At) → Action At
   refused : RequestFault → Action At
 
 -- the action, and whether the response has its body (RFC 9110, section 9.3.2: the response to HEAD
@@ -43,7 +45,9 @@ action_of (Grants at) = grants at
 action_of Parked = parked
 action_of (HostFile host) = host_file host.now
 action_of (HostFileAfter host at) = host_file_after host.now at
+action_of (HostAt host at) = host_at host.now at
 action_of (Report at) = report at
+action_of (OpenRequests at) = open_requests at
 action_of (Refused fault) = refused fault
 
 abbrev pub request_of : HttpRequest → Request ℕ

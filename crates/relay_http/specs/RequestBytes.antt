@@ -5,25 +5,27 @@ use Rattle.std.specs.Str.{bytes_eq}
 use Rattle.httparse.specs.Grammar.{RequestHead, ReadsRequest, print_request}
 use Rattle.httparse.specs.Spans.{name_and_value}
 use Rattle.matchit.specs.Router.{RouteOf}
-use Rattle.matchit.specs.Seek.{first}
 use Rattle.sudo_words.specs.Moment.{IsStamp}
 use Rattle.sudo_words.specs.Word.{is_name}
 use Rattle.messages.specs.Fields.{IsNumbered}
 use Rattle.relay_http.specs.Request.{Action, Request, deliver, all_messages, count, grants}
 use Rattle.relay_http.specs.Request.{parked, host_file, host_file_after, report, refused}
-use Rattle.relay_http.specs.Request.{requests, requests_after, named_request}
+use Rattle.relay_http.specs.Request.{requests, requests_after, named_request, host_at}
+use Rattle.relay_http.specs.Request.{open_requests}
 use Rattle.relay_http.specs.Fields.{Fields, values, is_bad_host}
 use Rattle.relay_http.specs.Content.{content_by_fields}
 use Rattle.relay_http.specs.Target.{is_plain}
-use Rattle.relay_http.specs.Routes.{routes, part}
+use Rattle.relay_http.specs.Routes.{part, route_at}
 use Rattle.relay_http.specs.declared.fault.RequestFault.{RequestFault}
 use Rattle.relay_http.specs.declared.fault.RequestFault.TheVariants.{BadHead, BadTarget, NoRoute}
 use Rattle.relay_http.specs.declared.fault.RequestFault.TheVariants.{BadMethod, BadMoment}
+use Rattle.relay_http.specs.declared.offered.Offered.{Offered}
 use Rattle.relay_http.specs.declared.route.Route.{Route}
 use Rattle.relay_http.specs.declared.route.Route.TheVariants.{Messages, AllMessages, Count, Grants}
 use Rattle.relay_http.specs.declared.route.Route.TheVariants.{Parked, HostFile, HostFileAfter}
 use Rattle.relay_http.specs.declared.route.Route.TheVariants.{Report, Requests}
 use Rattle.relay_http.specs.declared.route.Route.TheVariants.{RequestsAfter, NamedRequest}
+use Rattle.relay_http.specs.declared.route.Route.TheVariants.{HostAt, OpenRequests}
 use Rattle.relay_http.specs.declared.route.Methods.{Methods}
 use Rattle.relay_http.specs.declared.route.Methods.TheVariants.{Post, GetOrHead}
 
@@ -49,7 +51,9 @@ methods_of Grants = GetOrHead
 methods_of Parked = GetOrHead
 methods_of HostFile = GetOrHead
 methods_of HostFileAfter = GetOrHead
+methods_of HostAt = GetOrHead
 methods_of Report = GetOrHead
+methods_of OpenRequests = GetOrHead
 
 -- methods are compared with case (RFC 9110, section 9.1)
 abbrev pub allow : Methods → (method : List ℕ) → Bool
@@ -76,7 +80,10 @@ sought Parked part_named fields rest = parked
 sought HostFile part_named fields rest = host_file (part_named (codes "host"))
 sought HostFileAfter part_named fields rest =
     host_file_after (part_named (codes "host")) (part_named (codes "at"))
+sought HostAt part_named fields rest =
+    host_at (part_named (codes "host")) (part_named (codes "at"))
 sought Report part_named fields rest = report (part_named (codes "at"))
+sought OpenRequests part_named fields rest = open_requests (part_named (codes "at"))
 
 -- the action at a route by a method
 abbrev pub by_method : Route → (method : List ℕ)
@@ -85,33 +92,33 @@ by_method route method part_named fields rest =
     if allow (methods_of route) method then sought route part_named fields rest else refused
     (BadMethod (methods_of route))
 
--- the action on the route that the target has
+-- the action on the route that the target has, if it has one
 abbrev pub on_route : Option (RouteOf Route) → (method target : List ℕ)
     → Fields → (rest : List ℕ) → Action (List ℕ)
 on_route None method target fields rest = refused NoRoute
 on_route (Some route) method target fields rest =
     by_method route.value method (λ name. part name route target) fields rest
 
--- the action of a head, by its parts and the bytes after it; each fault where it is the first that
--- applies
-abbrev pub action_by : (method target : List ℕ) → (minor : ℕ)
+-- the action of a head at a socket, by the head's parts and the bytes after it; each fault where it
+-- is the first that applies
+abbrev pub action_by : Offered → (method target : List ℕ) → (minor : ℕ)
     → Fields → (rest : List ℕ) → Action (List ℕ)
-action_by method target minor fields rest =
+action_by offered method target minor fields rest =
     if is_bad_host minor (values (codes "host") fields) then refused BadHead
     else (if not (is_plain target) then refused BadTarget
-    else on_route (first routes target) method target fields rest)
+    else on_route (route_at offered target) method target fields rest)
 
 -- the response to HEAD has no body, not even where it is a refusal (RFC 9110, section 9.3.2)
-abbrev pub request_by : (method target : List ℕ) → (minor : ℕ)
+abbrev pub request_by : Offered → (method target : List ℕ) → (minor : ℕ)
     → Fields → (rest : List ℕ) → Request (List ℕ)
-request_by method target minor fields rest = record {
+request_by offered method target minor fields rest = record {
   with_body = not (is_head method);
-  action = action_by method target minor fields rest;
+  action = action_by offered method target minor fields rest;
 }
 
--- the request of the head at the beginning of these bytes
-abbrev pub request_from : RequestHead → List ℕ → Request (List ℕ)
-request_from h bytes = request_by h.method h.target h.minor
+-- the request of the head at the beginning of these bytes, at a socket
+abbrev pub request_from : Offered → RequestHead → List ℕ → Request (List ℕ)
+request_from offered h bytes = request_by offered h.method h.target h.minor
     (map name_and_value h.fields) (drop (length (print_request h)) bytes)
 
 -- a moment is given by its canonical text; a request with any other text in its place is refused,
@@ -144,7 +151,9 @@ Dates (grants at) action = DatesAt grants at action
 Dates parked action = action ≡ parked
 Dates (host_file host) action = action ≡ host_file host
 Dates (host_file_after host at) action = DatesAt (λ t. host_file_after host t) at action
+Dates (host_at host at) action = DatesAt (λ t. host_at host t) at action
 Dates (report at) action = DatesAt report at action
+Dates (open_requests at) action = DatesAt open_requests at action
 Dates (refused fault) action = action ≡ refused fault
 
 -- the same of a request
@@ -161,14 +170,14 @@ abbrev pub HasHead : List ℕ → RequestHead → Type 0
 HasHead bytes h =
     ((rest : List ℕ) × ReadsRequest (front bytes) h rest) × (length h.fields ≤ most_fields)
 
--- the bytes are the request of their head
-abbrev pub IsHttpRequestByHead : List ℕ → Request ℕ → Type 0
-IsHttpRequestByHead bytes request =
-    (h : RequestHead) × HasHead bytes h × DatesRequest (request_from h bytes) request
+-- the bytes are the request of their head, at a socket
+abbrev pub IsHttpRequestByHead : Offered → List ℕ → Request ℕ → Type 0
+IsHttpRequestByHead offered bytes request =
+    (h : RequestHead) × HasHead bytes h × DatesRequest (request_from offered h bytes) request
 
--- The bytes are the request of their head. Without a head they are refused, in a response with a
--- body.
-abbrev pub IsHttpRequest : List ℕ → Request ℕ → Type 0
-IsHttpRequest bytes request =
-    IsHttpRequestByHead bytes request ⊎ (((h : RequestHead) → ¬ (HasHead bytes h))
+-- The bytes are the request of their head, at a socket that has these routes. Without a head they
+-- are refused, in a response with a body.
+abbrev pub IsHttpRequest : Offered → List ℕ → Request ℕ → Type 0
+IsHttpRequest offered bytes request =
+    IsHttpRequestByHead offered bytes request ⊎ (((h : RequestHead) → ¬ (HasHead bytes h))
     × (request ≡ record { with_body = true; action = refused BadHead }))

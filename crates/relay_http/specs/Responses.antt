@@ -3,8 +3,6 @@
 use Rattle.std.specs.Prelude.{◌≡◌, ◌≢◌, ◌⊎◌, ◌≤◌, ◌<◌, ◌&&◌, ℕ, true, false, Bool, List}
 use Rattle.std.specs.Prelude.{[], ◌∷◌, ◌++◌, Option, Some, None, Result, Ok, Err, codes, decimal}
 use Rattle.std.specs.Prelude.{length, map}
-use Rattle.hex.specs.Hex.{encode_lower}
-use Rattle.sha2.specs.Sha256.{sha256}
 use Rattle.sudo_words.specs.Word.{is_host_name}
 use Rattle.sudo_words.specs.Bytes.{newline, space}
 use Rattle.sudo_words.specs.declared.cmnd.Cmnd.{Cmnd}
@@ -18,6 +16,7 @@ use Rattle.grants.specs.HostFaults.{most_lines}
 use Rattle.grants.specs.declared.outcome.Window.{Window}
 use Rattle.desk_store.specs.Sets.{SameSet}
 use Rattle.desk.specs.Delivery.{Answers, Delivery}
+use Rattle.desk.specs.Digests.{digests_text}
 use Rattle.outcomes.specs.HostFile.{Line, AreLines, lines_after, with_lines}
 use Rattle.outcomes.specs.Outcomes.{AreLive, LiveGrant}
 use Rattle.outcomes.specs.Parked.{AreParked}
@@ -34,10 +33,11 @@ use Rattle.desk.specs.declared.refusal.Refusal.TheVariants.{NoMemory, BaseTooLar
 use Rattle.review.specs.Report.{IsReport}
 use Rattle.findings.specs.Picks.{all, after}
 use Rattle.findings.specs.Terminal.{name_text}
-use Rattle.desk_audit.specs.Documents.{IsAuditText, IsNameText}
+use Rattle.desk_audit.specs.Documents.{IsAuditText, IsNameText, IsOpenText}
 use Rattle.relay_http.specs.Request.{Action, deliver, all_messages, count, grants, parked}
 use Rattle.relay_http.specs.Request.{host_file, host_file_after, report, refused}
-use Rattle.relay_http.specs.Request.{requests, requests_after, named_request}
+use Rattle.relay_http.specs.Request.{requests, requests_after, named_request, host_at}
+use Rattle.relay_http.specs.Request.{open_requests}
 use Rattle.relay_http.specs.Response.{fault_line, status_of}
 use Rattle.relay_http.specs.declared.status.ResponseStatus.{ResponseStatus}
 use Rattle.relay_http.specs.declared.status.ResponseStatus.TheVariants as status
@@ -62,15 +62,11 @@ window_ends_text w = space ∷ [] ++ moment_text w.start ++ space ∷ [] ++ mome
 unfoldable pub live_grant_line : LiveGrant → List ℕ
 live_grant_line l = name_text l.name ++ space ∷ [] ++ l.ceiling ++ window_ends_text l.window
 
--- the SHA-256 digest of a text (FIPS 180-4), as 64 hex digits in lower case
-unfoldable pub digest_text : List ℕ → List ℕ
-digest_text text = encode_lower (sha256 text)
-
 -- how many messages there are, the digest of the roster's text, and that of the base's canonical
--- text
+-- text, with single spaces
 unfoldable pub count_line : (messages : ℕ) → (roster : List ℕ) → (base : List Entry) → List ℕ
 count_line messages roster base =
-    decimal messages ++ space ∷ [] ++ digest_text roster ++ space ∷ [] ++ digest_text (canon base)
+    decimal messages ++ space ∷ [] ++ digests_text roster base
 
 -- ---- responses
 
@@ -124,6 +120,17 @@ IsFileResponse left f base set host response =
     ⊎ ((is_known_host f host ≡ true) × ((lines : List Line) → AreLines f set host lines
     → most_lines < length (left lines)) × (response ≡ refusal TooManyRules))
 
+-- The response to a question for the count with a host's file after a moment: the line of the
+-- count, and then exactly the file, both of one set; or the file's refusal.
+abbrev pub IsCountedFileResponse : Reading → (base : List Entry)
+    → List Message → (host : List ℕ) → (at : ℕ) → Response → Type 0
+IsCountedFileResponse r base set host at response =
+    ((messages : ℕ) × (file : List ℕ) × IsCount set messages
+    × IsFileResponse (lines_after at) r.says base set host (done file)
+    × (response ≡ done (count_line messages r.text base ++ newline ∷ file)))
+    ⊎ ((e : Refusal) × IsFileResponse (lines_after at) r.says base set host (refusal e)
+    × (response ≡ refusal e))
+
 -- The response to an action, by a roster, a base and the messages of a set, where memory lasts and
 -- the storage holds: at most one, by a law.
 abbrev pub IsResponse : Reading → (base : List Entry)
@@ -148,8 +155,12 @@ IsResponse r base set (host_file host) response =
     IsFileResponse (λ lines. lines) r.says base set host response
 IsResponse r base set (host_file_after host at) response =
     IsFileResponse (lines_after at) r.says base set host response
+IsResponse r base set (host_at host at) response =
+    IsCountedFileResponse r base set host at response
 IsResponse r base set (report at) response =
     (text : List ℕ) × IsReport r.says base set at text × (response ≡ done text)
+IsResponse r base set (open_requests at) response =
+    (text : List ℕ) × IsOpenText r.says set at text × (response ≡ done text)
 IsResponse r base set (refused fault) response = response ≡ record {
   status = status_of fault;
   body = fault_line fault;
@@ -185,5 +196,7 @@ Leaves Same old new (grants at) response = Same
 Leaves Same old new parked response = Same
 Leaves Same old new (host_file host) response = Same
 Leaves Same old new (host_file_after host at) response = Same
+Leaves Same old new (host_at host at) response = Same
 Leaves Same old new (report at) response = Same
+Leaves Same old new (open_requests at) response = Same
 Leaves Same old new (refused fault) response = Same

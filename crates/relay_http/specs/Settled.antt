@@ -2,7 +2,8 @@
 use Rattle.std.specs.Prelude.{Bool, true, false}
 use Rattle.relay_http.specs.Request.{Action, Request, deliver, all_messages, count, grants}
 use Rattle.relay_http.specs.Request.{parked, host_file, host_file_after, report, refused}
-use Rattle.relay_http.specs.Request.{requests, requests_after, named_request}
+use Rattle.relay_http.specs.Request.{requests, requests_after, named_request, host_at}
+use Rattle.relay_http.specs.Request.{open_requests}
 use Rattle.relay_http.specs.declared.fault.RequestFault.{RequestFault}
 use Rattle.relay_http.specs.declared.fault.RequestFault.TheVariants.{BadHead, BadTarget, NoRoute}
 use Rattle.relay_http.specs.declared.fault.RequestFault.TheVariants.{BadMethod, LengthRequired}
@@ -31,7 +32,9 @@ lacks_content (grants at) = false
 lacks_content parked = false
 lacks_content (host_file host) = false
 lacks_content (host_file_after host at) = false
+lacks_content (host_at host at) = false
 lacks_content (report at) = false
+lacks_content (open_requests at) = false
 lacks_content (refused fault) = is_short_body fault
 
 abbrev pub is_short : {At : Type 0} → Request At → Bool

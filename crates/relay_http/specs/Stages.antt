@@ -17,6 +17,7 @@ use Rattle.relay_http.specs.declared.head.Head.{Head}
 use Rattle.relay_http.specs.declared.head.Looked.{Looked}
 use Rattle.relay_http.specs.declared.head.Looked.TheVariants as looked
 use Rattle.relay_http.specs.declared.head_scan.HeadScan.TheVariants.{Blank, Ended}
+use Rattle.relay_http.specs.declared.offered.Offered.{Offered}
 
 -- the length of the content, by the values of Content-Length
 abbrev pub size_by : (lengths : List (List ℕ)) → Result ℕ RequestFault
@@ -65,10 +66,10 @@ IsSeen bytes (looked.Found head) = IsFoundHead bytes head
 IsSeen bytes looked.Partial = HasNoRequest (front bytes) × MayBecomeRequest (front bytes)
 IsSeen bytes looked.Never = NeverHasHead bytes
 
--- how far the bytes have come
-abbrev pub IsStage : List ℕ → Stage → Type 0
-IsStage bytes (stage.Begins line) =
+-- how far the bytes have come at a socket
+abbrev pub IsStage : Offered → List ℕ → Stage → Type 0
+IsStage offered bytes (stage.Begins line) =
     (line ≡ scanned Blank bytes) × (line ≢ Ended) × (length bytes < most_head_bytes)
-IsStage bytes (stage.Lacks head n) = IsFoundHead bytes head × LacksContent bytes n
-IsStage bytes (stage.Found head) = IsFoundHead bytes head × IsSettled bytes
-IsStage bytes stage.Broken = NeverHasHead bytes
+IsStage offered bytes (stage.Lacks head n) = IsFoundHead bytes head × LacksContent offered bytes n
+IsStage offered bytes (stage.Found head) = IsFoundHead bytes head × IsSettled offered bytes
+IsStage offered bytes stage.Broken = NeverHasHead bytes

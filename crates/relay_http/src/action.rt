@@ -26,8 +26,12 @@ pub enum Action<'b> {
     HostFile(&'b str),
     /// The sudoers file of a host without the lines that end before the moment.
     HostFileAfter(&'b str, Moment),
+    /// The line of the count, with that file behind it.
+    HostAt(&'b str, Moment),
     /// The report at the moment.
     Report(Moment),
+    /// What became of the requests that do not end before the moment, and who may approve then.
+    OpenRequests(Moment),
     /// No action: the first fault that applies.
     Refused(RequestFault),
 }

@@ -1,14 +1,19 @@
 //! The desk's answers to the actions of requests.
 
+ghost use Rattle.std.specs.Prelude.{◌≡◌, ◌++◌, ◌∷◌, List, [], IfErr, IfOk, string_bytes};
+ghost use Rattle.sudo_words.specs.Bytes.{newline};
+ghost use Rattle.messages.specs.declared.message.Message.{Message as AnyMessage};
 ghost use Rattle.desk_store.specs.Serves.{Serves};
-ghost use Rattle.desk.specs.Serving.{KeepsSettings};
+ghost use Rattle.desk_store.specs.Sets.{Lists};
+ghost use Rattle.desk.specs.Refusals.{IsWant};
+ghost use Rattle.desk.specs.Serving.{KeepsSettings, OnlyAsks};
 ghost use Rattle.relay_http.specs.Request.{all_messages, action_of, count, deliver, grants};
-ghost use Rattle.relay_http.specs.Request.{host_file, host_file_after, named_request, parked};
-ghost use Rattle.relay_http.specs.Request.{report, requests, requests_after};
+ghost use Rattle.relay_http.specs.Request.{host_at, host_file, host_file_after, named_request};
+ghost use Rattle.relay_http.specs.Request.{parked, report, requests, requests_after, open_requests};
 ghost use Rattle.relay_http.specs.Exchange.{IsAnswered};
 ghost use Rattle.relay_http.specs.Lasting.{Lasts};
-ghost use Rattle.relay_http.specs.Prepared.{response_of, to_question};
-ghost use Rattle.relay_http.specs.Responses.{ResponseTells};
+ghost use Rattle.relay_http.specs.Prepared.{IsCountText, IsJoined, response_of, to_question};
+ghost use Rattle.relay_http.specs.Responses.{ResponseTells, count_line};
 
 use crate::action::Action;
 use crate::bodies::{count_text, lines_text, live_text};
@@ -16,7 +21,7 @@ use crate::prepared::{PreparedResponse, to_delivery, to_fault, to_question};
 use desk::{Desk, Keeper, Refusal};
 use findings::Pick;
 use std::alloc::Global;
-use sudo_words::{HostName, Moment, WordFault};
+use sudo_words::{HostName, Moment, NoMemory, WordFault};
 
 /// The answer to a delivery. Once the message is acknowledged no memory is taken.
 fn delivered<K: Keeper>(desk: &mut Desk<K>, relay: &str, body: &[u8]) -> PreparedResponse
@@ -51,7 +56,34 @@ fn all_messages<K: Keeper>(alloc: Global, desk: &mut Desk<K>) -> Result<String, 
     }
 }
 
+/// The line of the count, under the roster and the base of the desk.
+fn line_of<K: Keeper>(
+    alloc: Global,
+    desk: &mut Desk<K>,
+    messages: usize,
+) -> Result<String, NoMemory>
+    ensures line { IfOk result (λ s. string_bytes s
+        ≡ count_line messages desk.old.roster.text desk.old.base ++ newline ∷ []) }
+    ensures same { desk.new ≡ desk.old }
+{
+    let digests = desk.digests()?;
+    count_text(alloc, messages, digests.as_str())
+}
+
 /// The line that says how many messages there are, under which roster and which base.
+fn counted<K: Keeper>(alloc: Global, desk: &mut Desk<K>) -> Result<String, Refusal>
+    ensures line { (set : List AnyMessage) → K.is_up desk.new.keeper
+        → Lists (K.holds desk.old.keeper) set → IfOk result
+        (λ s. IsCountText desk.old.roster desk.old.base set (string_bytes s)) }
+    ensures err { IfErr result IsWant }
+    ensures desk { K.is_up desk.new.keeper → K.is_desk desk.new.keeper }
+    ensures asks { OnlyAsks K.Keeper desk.old desk.new result }
+{
+    let messages = desk.count()?;
+    Ok(line_of(alloc, desk, messages)?)
+}
+
+/// The line of the count.
 fn count<K: Keeper>(alloc: Global, desk: &mut Desk<K>) -> Result<String, Refusal>
     ensures answered { IsAnswered desk.old.roster desk.old.base
         (K.is_up desk.new.keeper) (K.holds desk.old.keeper) (K.holds desk.new.keeper)
@@ -61,13 +93,7 @@ fn count<K: Keeper>(alloc: Global, desk: &mut Desk<K>) -> Result<String, Refusal
         desk.old.keeper desk.new.keeper count (to_question result) }
     ensures settings { KeepsSettings desk.old desk.new }
 {
-    match desk.count() {
-        Ok(messages) => match count_text(alloc, messages, desk.roster().text(), desk.base()) {
-            Ok(text) => Ok(text),
-            Err(_) => Err(Refusal::NoMemory),
-        },
-        Err(refusal) => Err(refusal),
-    }
+    counted(alloc, desk)
 }
 
 /// What became of every request.
@@ -186,6 +212,48 @@ fn host_file_after<K: Keeper>(
     }
 }
 
+/// The file behind the line.
+fn followed(line: String, file: &str) -> Result<String, Refusal>
+    ensures text { IfOk result (λ s. string_bytes s ≡ string_bytes line ++ file.now) }
+    ensures err { IfErr result (λ e. e ≡ Refusal.NoMemory) }
+{
+    let mut out = line;
+    out.push_str(file)?;
+    Ok(out)
+}
+
+/// The file behind the line; a refusal of the file stays.
+fn joined(line: String, file: Result<String, Refusal>) -> Result<String, Refusal>
+    ensures { IsJoined line file result }
+{
+    match file {
+        Ok(file) => followed(line, file.as_str()),
+        Err(refusal) => Err(refusal),
+    }
+}
+
+/// The line of the count, and the host's file after the moment behind it. The desk does nothing
+/// between the two, so both are of one set of messages.
+fn host_at<K: Keeper>(
+    alloc: Global,
+    desk: &mut Desk<K>,
+    host: &str,
+    at: Moment,
+) -> Result<String, Refusal>
+    ensures answered { IsAnswered desk.old.roster desk.old.base
+        (K.is_up desk.new.keeper) (K.holds desk.old.keeper) (K.holds desk.new.keeper)
+        (K.is_same desk.old.keeper desk.new.keeper) (Serves K.Keeper desk.old.keeper
+        desk.new.keeper) (host_at host.now at) (to_question result) }
+    ensures lasts { Lasts K.Keeper desk.old.roster.says desk.old.roster.text
+        desk.old.keeper desk.new.keeper (host_at host.now at) (to_question result) }
+    ensures settings { KeepsSettings desk.old desk.new }
+{
+    match counted(alloc, desk) {
+        Ok(line) => joined(line, host_file_after(alloc, desk, host, at)),
+        Err(refusal) => Err(refusal),
+    }
+}
+
 /// The report of what the desk holds.
 fn report<K: Keeper>(desk: &mut Desk<K>, at: Moment) -> Result<String, Refusal>
     ensures answered { IsAnswered desk.old.roster desk.old.base
@@ -197,6 +265,19 @@ fn report<K: Keeper>(desk: &mut Desk<K>, at: Moment) -> Result<String, Refusal>
     ensures settings { KeepsSettings desk.old desk.new }
 {
     review::report(desk, at)
+}
+
+/// What became of the requests that are open at the moment, and who may approve then.
+fn open_requests<K: Keeper>(desk: &mut Desk<K>, at: Moment) -> Result<String, Refusal>
+    ensures answered { IsAnswered desk.old.roster desk.old.base
+        (K.is_up desk.new.keeper) (K.holds desk.old.keeper) (K.holds desk.new.keeper)
+        (K.is_same desk.old.keeper desk.new.keeper)
+        (Serves K.Keeper desk.old.keeper desk.new.keeper) (open_requests at) (to_question result) }
+    ensures lasts { Lasts K.Keeper desk.old.roster.says desk.old.roster.text
+        desk.old.keeper desk.new.keeper (open_requests at) (to_question result) }
+    ensures settings { KeepsSettings desk.old desk.new }
+{
+    desk_audit::open_document(desk, at)
 }
 
 /// The answer of the desk to an action.
@@ -226,7 +307,9 @@ pub fn answered<K: Keeper>(
         Action::Parked => to_question(parked(alloc, desk)),
         Action::HostFile(host) => to_question(host_file(alloc, desk, host)),
         Action::HostFileAfter(host, at) => to_question(host_file_after(alloc, desk, host, at)),
+        Action::HostAt(host, at) => to_question(host_at(alloc, desk, host, at)),
         Action::Report(at) => to_question(report(desk, at)),
+        Action::OpenRequests(at) => to_question(open_requests(desk, at)),
         Action::Refused(fault) => to_fault(fault),
     }
 }

@@ -1,18 +1,18 @@
 //! The bodies of responses to questions.
 
-ghost use Rattle.std.specs.Prelude.{◌≡◌, ◌++◌, ◌∷◌, [], IfOk, OnOk, map, string_bytes};
+ghost use Rattle.std.specs.Prelude.{◌≡◌, ◌++◌, ◌∷◌, ℕ, List, [], IfOk, OnOk, map, string_bytes};
 ghost use Rattle.sudo_words.specs.Bytes.{newline};
+ghost use Rattle.sudo_policy.specs.declared.entry.Entry.{Entry};
 ghost use Rattle.messages.specs.Wire.{moment_text};
+ghost use Rattle.desk.specs.Digests.{digests_text};
 ghost use Rattle.findings.specs.Terminal.{name_text};
-ghost use Rattle.relay_http.specs.Responses.{count_line, digest_text};
-ghost use Rattle.relay_http.specs.Responses.{each_on_a_line, window_ends_text, live_grant_line};
+ghost use Rattle.relay_http.specs.Responses.{count_line, each_on_a_line};
+ghost use Rattle.relay_http.specs.Responses.{window_ends_text, live_grant_line};
 
 use desk::{Live, RequestName};
 use grants::Window;
-use sha2::{Digest, Sha256};
 use std::alloc::{AllocError, Global};
 use std::fmt::Write;
-use sudo_policy::{Policy, print_policy};
 use sudo_words::{Moment, NoMemory};
 
 #[tactic(auto, unfolding(messages::specs::Wire::moment_text))]
@@ -85,33 +85,15 @@ pub fn lines_text(alloc: Global, texts: &[String]) -> Result<String, AllocError>
     Ok(out)
 }
 
-/// Appends the SHA-256 digest of the text.
-#[tactic(auto, unfolding(crate::specs::Responses::digest_text))]
-fn push_digest(alloc: Global, out: &mut String, text: &str) -> Result<(), AllocError>
-    ensures { OnOk result (string_bytes out.new ≡ string_bytes out.old ++ digest_text text.now) }
-{
-    let digest = hex::encode(alloc, Sha256::digest(text.as_bytes()))?;
-    out.push_str(digest.as_str())
-}
-
-/// The line that says how many messages there are, with the digests of the roster's text and of the
-/// base's canonical text.
+/// The line that says how many messages there are, with the digests of the roster and the base.
 #[tactic(auto, unfolding(crate::specs::Responses::count_line))]
-pub fn count_text(
-    alloc: Global,
-    messages: usize,
-    roster: &str,
-    base: &Policy,
-) -> Result<String, NoMemory>
-    ensures { IfOk result
-        (λ s. string_bytes s ≡ count_line messages roster.now base.now ++ newline ∷ []) }
+pub fn count_text(alloc: Global, messages: usize, digests: &str) -> Result<String, NoMemory>
+    ensures { (roster : List ℕ) (base : List Entry) → digests.now ≡ digests_text roster base
+        → IfOk result (λ s. string_bytes s ≡ count_line messages roster base ++ newline ∷ []) }
 {
-    let canonical = print_policy(alloc, base)?;
     let mut out = String::new(alloc);
     write!(out, "{messages} ")?;
-    push_digest(alloc, &mut out, roster)?;
-    out.push_str(" ")?;
-    push_digest(alloc, &mut out, canonical.as_str())?;
+    out.push_str(digests)?;
     out.push_str("\n")?;
     Ok(out)
 }

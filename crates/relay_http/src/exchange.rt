@@ -24,6 +24,7 @@ use crate::fault::RequestFault;
 use crate::head::{Head, Looked, MOST_HEAD_BYTES, look};
 use crate::head_scan::{HeadScan, scan};
 use crate::methods::allow;
+use crate::offered::Offered;
 use crate::outgoing::ExchangeBuffer;
 use crate::request::{NO_HEAD, is_cut_short, request_from};
 use crate::response_head::BUFFER_SIZE;
@@ -77,6 +78,8 @@ pub(crate) enum Stage {
 pub struct Exchange {
     come: Vec<u8>,
     stage: Stage,
+    /// The routes of the socket that it came to.
+    offered: Offered,
 }
 
 impl Model for Exchange {
@@ -86,9 +89,13 @@ impl Model for Exchange {
 
     ghost Value = { Taken };
 
-    ghost view = { λ e. record { bytes = e.come.items; room = vec_capacity e.come } };
+    ghost view = { λ e. record {
+      bytes = e.come.items;
+      room = vec_capacity e.come;
+      offered = e.offered;
+    } };
 
-    ghost invariant = { λ e. IsStage e.come.items e.stage };
+    ghost invariant = { λ e. IsStage e.offered e.come.items e.stage };
 }
 
 /// How many bytes of a content of this size are missing where so many have come: none if the size
@@ -105,13 +112,13 @@ fn lacking(size: Result<u64, RequestFault>, come: usize) -> Option<usize>
 
 /// How far a request has come whose head was found. The target's route is looked up only where
 /// bytes of the content are missing.
-fn found(routes: &Routes, head: Head, bytes: &[u8]) -> Stage
+fn found(routes: &Routes, offered: Offered, head: Head, bytes: &[u8]) -> Stage
     requires { IsFoundHead bytes.now head }
-    ensures { IsStage bytes.now result }
+    ensures { IsStage offered bytes.now result }
 {
     match lacking(head.size, bytes.len() - head.len) {
         Some(n) => {
-            if is_cut_short(routes, &head, bytes) {
+            if is_cut_short(routes, offered, &head, bytes) {
                 Stage::Lacks(head, n)
             } else {
                 Stage::Found(head)
@@ -122,13 +129,13 @@ fn found(routes: &Routes, head: Head, bytes: &[u8]) -> Stage
 }
 
 /// How far the request of these bytes has come, where the scan had come so far before this place.
-fn looked(routes: &Routes, line: HeadScan, bytes: &[u8], from: usize) -> Stage
+fn looked(routes: &Routes, offered: Offered, line: HeadScan, bytes: &[u8], from: usize) -> Stage
     requires from { from ≤ length bytes.now }
     requires line { line ≡ scanned Blank (take from bytes.now) }
-    ensures { IsStage bytes.now result }
+    ensures { IsStage offered bytes.now result }
 {
     match look(bytes) {
-        Looked::Found(head) => found(routes, head, bytes),
+        Looked::Found(head) => found(routes, offered, head, bytes),
         Looked::Partial => {
             if bytes.len() >= MOST_HEAD_BYTES {
                 return Stage::Broken;
@@ -157,12 +164,19 @@ fn scanned_on(line: HeadScan, bytes: &[u8], from: usize) -> Option<HeadScan>
 
 /// Looks at the bytes. A look is seldom due; this stands apart to keep the loop that reads short.
 #[inline(never)]
-fn look_again(stage: &mut Stage, routes: &Routes, line: HeadScan, bytes: &[u8], from: usize)
+fn look_again(
+    stage: &mut Stage,
+    routes: &Routes,
+    offered: Offered,
+    line: HeadScan,
+    bytes: &[u8],
+    from: usize,
+)
     requires from { from ≤ length bytes.now }
     requires line { line ≡ scanned Blank (take from bytes.now) }
-    ensures { IsStage bytes.now stage.new }
+    ensures { IsStage offered bytes.now stage.new }
 {
-    *stage = looked(routes, line, bytes, from);
+    *stage = looked(routes, offered, line, bytes, from);
 }
 
 /// Notes that the missing content is there. This stands apart for the same reason.
@@ -179,17 +193,17 @@ fn complete(stage: &mut Stage)
 /// Goes on with a request after more bytes came, from this place on. A byte before the head's end
 /// only moves the scan, and a byte of the content only lowers the count of missing bytes.
 #[inline(always)]
-fn go_on(stage: &mut Stage, routes: &Routes, bytes: &[u8], from: usize)
+fn go_on(stage: &mut Stage, routes: &Routes, offered: Offered, bytes: &[u8], from: usize)
     requires from { from ≤ length bytes.now }
-    requires stage { IsStage (take from bytes.now) stage.old }
-    ensures { IsStage bytes.now stage.new }
+    requires stage { IsStage offered (take from bytes.now) stage.old }
+    ensures { IsStage offered bytes.now stage.new }
 {
     match stage {
         Stage::Begins(line) => match scanned_on(*line, bytes, from) {
             Some(next) => *line = next,
             None => {
                 let line = *line;
-                look_again(stage, routes, line, bytes, from);
+                look_again(stage, routes, offered, line, bytes, from);
             }
         },
         Stage::Lacks(_, n) => {
@@ -214,24 +228,29 @@ fn is_post(head: &Head, bytes: &[u8]) -> bool
 }
 
 impl Exchange {
-    /// Nothing has come yet, and no memory is taken.
-    pub fn new(alloc: Global) -> Exchange
-        ensures { result.bytes ≡ [] }
+    /// Nothing has come yet to a socket with these routes, and no memory is taken.
+    pub fn new(alloc: Global, offered: Offered) -> Exchange
+        ensures empty { result.bytes ≡ [] }
+        ensures socket { result.offered ≡ offered }
     {
         Exchange {
             come: Vec::new(alloc),
             stage: Stage::Begins(HeadScan::Blank),
+            offered,
         }
     }
 
-    /// Nothing has come yet, and there is room for all that counts and one more read.
-    pub fn with_room(alloc: Global) -> Result<Exchange, NoMemory>
+    /// Nothing has come yet to a socket with these routes, and there is room for all that counts
+    /// and one more read.
+    pub fn with_room(alloc: Global, offered: Offered) -> Result<Exchange, NoMemory>
         ensures empty { IfOk result (λ e. e.bytes ≡ []) }
         ensures room { IfOk result (λ e. most_room ≤ e.room) }
+        ensures socket { IfOk result (λ e. e.offered ≡ offered) }
     {
         Ok(Exchange {
             come: Vec::with_capacity(alloc, MOST_ROOM)?,
             stage: Stage::Begins(HeadScan::Blank),
+            offered,
         })
     }
 
@@ -242,7 +261,8 @@ impl Exchange {
     #[inline(always)]
     pub fn take(&mut self, routes: &Routes, bytes: &[u8]) -> Result<Need, NoMemory>
         ensures taken { IfOk result (λ _. self.new.bytes ≡ self.old.bytes ++ bytes.now) }
-        ensures need { IfOk result (λ need. IsNeedOf self.new.bytes need) }
+        ensures need { IfOk result (λ need. IsNeedOf self.new.offered self.new.bytes need) }
+        ensures socket { self.new.offered ≡ self.old.offered }
         ensures kept { OnErr result (self.new.bytes ≡ self.old.bytes) }
         ensures room { self.old.room ≤ self.new.room }
         ensures full { OnErr result (self.old.room < length self.old.bytes + length bytes.now) }
@@ -251,7 +271,13 @@ impl Exchange {
         match bytes {
             [byte] if from < self.come.capacity() => {
                 self.come.push_reserved(*byte);
-                go_on(&mut self.stage, routes, self.come.as_slice(), from);
+                go_on(
+                    &mut self.stage,
+                    routes,
+                    self.offered,
+                    self.come.as_slice(),
+                    from,
+                );
             }
             _ => self.take_many(routes, bytes)?,
         }
@@ -262,19 +288,26 @@ impl Exchange {
     #[inline(never)]
     fn take_many(&mut self, routes: &Routes, bytes: &[u8]) -> Result<(), NoMemory>
         ensures taken { IfOk result (λ _. self.new.bytes ≡ self.old.bytes ++ bytes.now) }
+        ensures socket { self.new.offered ≡ self.old.offered }
         ensures kept { OnErr result (self.new.bytes ≡ self.old.bytes) }
         ensures room { self.old.room ≤ self.new.room }
         ensures full { OnErr result (self.old.room < length self.old.bytes + length bytes.now) }
     {
         let from = self.come.len();
         self.come.extend_from_slice(bytes)?;
-        go_on(&mut self.stage, routes, self.come.as_slice(), from);
+        go_on(
+            &mut self.stage,
+            routes,
+            self.offered,
+            self.come.as_slice(),
+            from,
+        );
         Ok(())
     }
 
     /// What the bytes that have come still need.
     pub fn need(&self) -> Need
-        ensures { IsNeedOf self.now.bytes result }
+        ensures { IsNeedOf self.now.offered self.now.bytes result }
     {
         match self.stage {
             Stage::Begins(_) => Need::Head,
@@ -287,7 +320,7 @@ impl Exchange {
     /// Whether no bytes that follow change the request. Once 24,576 bytes have come,
     /// no further byte changes it.
     pub fn is_settled(&self) -> bool
-        ensures settled { result ≡ true → IsSettled self.now.bytes }
+        ensures settled { result ≡ true → IsSettled self.now.offered self.now.bytes }
         ensures open { result ≡ false → length self.now.bytes < most_read }
     {
         matches!(self.need(), Need::Nothing)
@@ -298,6 +331,7 @@ impl Exchange {
     fn take_roomy(&mut self, routes: &Routes, bytes: &[u8])
         requires { length self.old.bytes + length bytes.now ≤ self.old.room }
         ensures taken { self.new.bytes ≡ self.old.bytes ++ bytes.now }
+        ensures socket { self.new.offered ≡ self.old.offered }
         ensures room { self.old.room ≤ self.new.room }
     {
         match self.take(routes, bytes) {
@@ -318,6 +352,7 @@ impl Exchange {
     #[inline(never)]
     fn grow(&mut self) -> Result<(), NoMemory>
         ensures bytes { self.new.bytes ≡ self.old.bytes }
+        ensures socket { self.new.offered ≡ self.old.offered }
         ensures room { self.old.room ≤ self.new.room }
         ensures some { OnOk result (length self.new.bytes + 4_096 ≤ self.new.room) }
     {
@@ -328,6 +363,7 @@ impl Exchange {
     #[inline(always)]
     fn make_room(&mut self) -> Result<(), NoMemory>
         ensures bytes { self.new.bytes ≡ self.old.bytes }
+        ensures socket { self.new.offered ≡ self.old.offered }
         ensures room { self.old.room ≤ self.new.room }
         ensures some { OnOk result (length self.new.bytes + 4_096 ≤ self.new.room) }
         ensures full { OnErr result (self.old.room < length self.old.bytes + 4_096) }
@@ -351,6 +387,7 @@ impl Exchange {
             (R.remaining reader.new.inner) self.old.bytes self.new.bytes n) }
         ensures end { IfOk result (λ n. n ≡ 0 → IsAtEnd (R.remaining reader.new.inner)) }
         ensures within { IfOk result (λ n. n ≤ 4_096) }
+        ensures socket { self.new.offered ≡ self.old.offered }
         ensures kept { OnErr result (self.new.bytes ≡ self.old.bytes) }
         ensures none { OnErr result
             (Keeps (R.remaining reader.old.inner) (R.remaining reader.new.inner)) }
@@ -402,11 +439,13 @@ impl Exchange {
 
     /// The request of the bytes that have come, if no more come. Reading it takes no memory.
     pub fn request(&self, routes: &Routes) -> HttpRequest<'_>
-        ensures { IsHttpRequest self.now.bytes (request_of result) }
+        ensures { IsHttpRequest self.now.offered self.now.bytes (request_of result) }
     {
         match self.stage {
-            Stage::Lacks(head, _) => request_from(routes, &head, self.come.as_slice()),
-            Stage::Found(head) => request_from(routes, &head, self.come.as_slice()),
+            Stage::Lacks(head, _) => {
+                request_from(routes, self.offered, &head, self.come.as_slice())
+            }
+            Stage::Found(head) => request_from(routes, self.offered, &head, self.come.as_slice()),
             Stage::Begins(_) => NO_HEAD,
             Stage::Broken => NO_HEAD,
         }

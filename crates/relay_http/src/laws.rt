@@ -1,6 +1,6 @@
 //! The laws of requests and responses, each the contract of a function that does nothing.
 
-ghost use Rattle.std.specs.Prelude.{◌≡◌, ◌≤◌, ◌++◌, ℕ, List, [], Some};
+ghost use Rattle.std.specs.Prelude.{◌≡◌, ◌≤◌, ◌++◌, ℕ, List, [], None, Some};
 ghost use Rattle.std.specs.Prelude.{Ok, Option, Result, codes, false, length, take, true};
 ghost use Rattle.httparse.specs.Grammar.{ReadsRequest, RequestHead};
 ghost use Rattle.matchit.specs.Router.{RouteOf};
@@ -8,16 +8,20 @@ ghost use Rattle.matchit.specs.Seek.{first};
 ghost use Rattle.sudo_policy.specs.declared.entry.Entry.{Entry};
 ghost use Rattle.messages.specs.declared.message.Message.{Message};
 ghost use Rattle.roster.specs.Fields.{Reading};
+ghost use Rattle.desk.specs.declared.refusal.Refusal.{Refusal};
 ghost use Rattle.relay_http.specs.Receiving.{HasCome, HasReceived};
-ghost use Rattle.relay_http.specs.Request.{Action, Request, deliver, refused};
+ghost use Rattle.relay_http.specs.Request.{Action, Request, count, deliver, host_at};
+ghost use Rattle.relay_http.specs.Request.{host_file_after, refused};
 ghost use Rattle.relay_http.specs.Fields.{Fields};
-ghost use Rattle.relay_http.specs.Responses.{Response, IsResponse};
+ghost use Rattle.relay_http.specs.Responses.{Response, IsResponse, done, refusal};
 ghost use Rattle.relay_http.specs.Response.{written};
-ghost use Rattle.relay_http.specs.Routes.{routes};
+ghost use Rattle.relay_http.specs.Routes.{route_at, routes};
 ghost use Rattle.relay_http.specs.RequestBytes.{IsHttpRequest, IsHttpRequestByHead};
 ghost use Rattle.relay_http.specs.RequestBytes.{action_by, front};
 ghost use Rattle.relay_http.specs.Sending.{IsSending};
 ghost use Rattle.relay_http.specs.declared.fault.RequestFault.TheVariants.{ShortBody};
+ghost use Rattle.relay_http.specs.declared.offered.Offered.{Offered};
+ghost use Rattle.relay_http.specs.declared.offered.Offered.TheVariants as socket;
 ghost use Rattle.relay_http.specs.declared.received.Received.{Received};
 ghost use Rattle.relay_http.specs.declared.route.Route.{Route};
 ghost use Rattle.relay_http.specs.declared.route.Route.TheVariants.{Messages};
@@ -27,13 +31,13 @@ ghost use Rattle.relay_http.specs.declared.serving.ServeFault.{ServeFault};
 ghost use Rattle.relay_http.specs.declared.status.ResponseStatus.{ResponseStatus};
 
 // worked requests and responses
-pub use crate::worked::{worked_refusals, worked_requests, worked_responses};
+pub use crate::worked::{worked_questions, worked_refusals, worked_requests, worked_responses};
 
-/// Bytes are at most one request.
+/// Bytes are at most one request at a socket.
 #[tactic(auto, using(crate::proofs::RequestLemmas::one_request))]
 pub fn one_request()
-    ensures { (bytes : List ℕ) (a b : Request ℕ) → IsHttpRequest bytes a
-        → IsHttpRequest bytes b → a ≡ b }
+    ensures { (offered : Offered) (bytes : List ℕ) (a b : Request ℕ) → IsHttpRequest offered bytes a
+        → IsHttpRequest offered bytes b → a ≡ b }
 {}
 
 /// At most one beginning of the front is a head, so it is the shortest one.
@@ -44,33 +48,54 @@ pub fn one_head()
 
 /// Bytes that follow a head, and its content where the head asks for one, change nothing.
 pub fn rest_ignored()
-    ensures { (bytes more : List ℕ) (request : Request ℕ) → IsHttpRequestByHead bytes request
-        → (request.action ≡ refused ShortBody → ⊥) → IsHttpRequest (bytes ++ more) request }
+    ensures { (offered : Offered) (bytes more : List ℕ) (request : Request ℕ)
+        → IsHttpRequestByHead offered bytes request
+        → (request.action ≡ refused ShortBody → ⊥) → IsHttpRequest offered (bytes ++ more) request }
 {}
 
 /// HEAD asks for what GET does, and the response to HEAD is that to GET without the body.
 pub fn head_is_get()
-    ensures asks { (target : List ℕ) (minor : ℕ) (fields : Fields) (rest : List ℕ) → action_by
-        (codes "HEAD") target minor fields rest ≡ action_by (codes "GET") target minor fields rest }
+    ensures asks { (offered : Offered) (target : List ℕ) (minor : ℕ) (fields : Fields)
+        (rest : List ℕ) → action_by offered (codes "HEAD") target minor fields rest
+        ≡ action_by offered (codes "GET") target minor fields rest }
     ensures response { (s : ResponseStatus) (body : List ℕ)
         → written s body true ≡ written s body false ++ body }
 {}
 
-/// Only a POST to the route of a relay's messages delivers, and what it delivers is a beginning of
-/// the bytes after the head, of at most 16,384 bytes.
+/// Only a POST to the route of a relay's messages delivers, at a socket that has all routes, and
+/// what it delivers is a beginning of the bytes after the head, of at most 16,384 bytes.
 pub fn only_post_delivers()
-    ensures content { (method target : List ℕ) (minor : ℕ) (fields : Fields)
-        (rest relay body : List ℕ) → action_by method target minor fields rest ≡ deliver relay body
+    ensures content { (offered : Offered) (method target : List ℕ) (minor : ℕ) (fields : Fields)
+        (rest relay body : List ℕ)
+        → action_by offered method target minor fields rest ≡ deliver relay body
         → (method ≡ codes "POST") × (length body ≤ 16384) × (body ≡ take (length body) rest) }
-    ensures route { (method target : List ℕ) (minor : ℕ) (fields : Fields)
-        (rest relay body : List ℕ) → action_by method target minor fields rest ≡ deliver relay body
+    ensures route { (offered : Offered) (method target : List ℕ) (minor : ℕ) (fields : Fields)
+        (rest relay body : List ℕ)
+        → action_by offered method target minor fields rest ≡ deliver relay body
         → (route : RouteOf Route) × (first routes target ≡ Some route) × (route.value ≡ Messages) }
+    ensures all_routes { (offered : Offered) (method target : List ℕ) (minor : ℕ) (fields : Fields)
+        (rest relay body : List ℕ)
+        → action_by offered method target minor fields rest ≡ deliver relay body
+        → offered ≡ socket.All }
+{}
+
+/// A socket for questions has each route but that of a relay's messages, and any other socket has
+/// all.
+pub fn routes_of_sockets()
+    ensures all { (target : List ℕ) → route_at socket.All target ≡ first routes target }
+    ensures none { (target : List ℕ) → first routes target ≡ None
+        → route_at socket.Questions target ≡ None }
+    ensures gone { (target : List ℕ) (route : RouteOf Route) → first routes target ≡ Some route
+        → route.value ≡ Messages → route_at socket.Questions target ≡ None }
+    ensures stays { (target : List ℕ) (route : RouteOf Route) → first routes target ≡ Some route
+        → (route.value ≡ Messages → ⊥) → route_at socket.Questions target ≡ Some route }
 {}
 
 /// The first 24,576 bytes, which are the longest head and the longest content, decide the request.
 pub fn first_bytes_decide()
-    ensures { (bytes more : List ℕ) (request : Request ℕ) → 24576 ≤ length bytes
-        → IsHttpRequest bytes request → IsHttpRequest (bytes ++ more) request }
+    ensures { (offered : Offered) (bytes more : List ℕ) (request : Request ℕ)
+        → 24576 ≤ length bytes → IsHttpRequest offered bytes request
+        → IsHttpRequest offered (bytes ++ more) request }
 {}
 
 /// An action has at most one right response by a roster, a base and a set of messages: so requests
@@ -92,4 +117,19 @@ pub fn steps_are_one()
     ensures sent { (a b c : Option (List ℕ)) (response rest : List ℕ)
         (result : Result Sending ServeFault) → IsSending a b response (Ok (Waits rest))
         → IsSending b c rest result → IsSending a c response result }
+{}
+
+/// Over one set of messages, the answers to two questions, for the count and for a host's file
+/// after a moment, are the answer to the one question for both: the line with the file behind it,
+/// or the file's refusal.
+pub fn both_in_one()
+    ensures file { (roster : Reading) (base : List Entry) (set : List Message)
+        (host : List ℕ) (at : ℕ) (line : Response) (file : List ℕ)
+        → IsResponse roster base set count line
+        → IsResponse roster base set (host_file_after host at) (done file)
+        → IsResponse roster base set (host_at host at) (done (line.body ++ file)) }
+    ensures refused { (roster : Reading) (base : List Entry) (set : List Message)
+        (host : List ℕ) (at : ℕ) (e : Refusal)
+        → IsResponse roster base set (host_file_after host at) (refusal e)
+        → IsResponse roster base set (host_at host at) (refusal e) }
 {}

@@ -19,7 +19,7 @@ pub struct Received {
 impl Received {
     /// A request that came whole: no bytes that follow change what it asks for.
     pub(crate) fn whole(come: Exchange) -> Received
-        requires { IsSettled come.bytes }
+        requires { IsSettled come.offered come.bytes }
         ensures come { result.come ≡ come }
         ensures whole { result.is_ended ≡ false }
     {

@@ -2,12 +2,13 @@
 
 ghost use Rattle.std.specs.Prelude.{◌≡◌, ◌≤◌, ◌==◌, [], Err, IfOk, length};
 ghost use Rattle.relay_http.specs.Needs.{most_room};
-ghost use Rattle.relay_http.specs.Receiving.{IsReception, IsStopped, NeverStarves};
+ghost use Rattle.relay_http.specs.Receiving.{IsOfSocket, IsReception, IsStopped, NeverStarves};
 ghost use Rattle.relay_http.specs.Receiving.{after_reception};
 ghost use Rattle.relay_http.specs.declared.serving.ServeFault.TheVariants as faults;
 
 use crate::counted::Counted;
 use crate::exchange::{Exchange, ReceiveFault};
+use crate::offered::Offered;
 use crate::outgoing::ExchangeBuffer;
 use crate::received::Received;
 use crate::responding::HttpResponse;
@@ -51,22 +52,24 @@ fn stopped(come: Exchange, fault: ReceiveFault) -> Result<Reception, ServeFault>
 }
 
 impl Receiving {
-    /// Nothing has come yet, and no memory is taken.
-    pub fn new(alloc: Global) -> Receiving
-        ensures { result.come.bytes ≡ [] }
+    /// Nothing has come yet to a socket with these routes, and no memory is taken.
+    pub fn new(alloc: Global, offered: Offered) -> Receiving
+        ensures empty { result.come.bytes ≡ [] }
+        ensures socket { result.come.offered ≡ offered }
     {
         Receiving {
-            come: Exchange::new(alloc),
+            come: Exchange::new(alloc, offered),
         }
     }
 
-    /// Nothing has come yet, and there is room for all that counts.
-    pub fn with_room(alloc: Global) -> Result<Receiving, NoMemory>
+    /// Nothing has come yet to a socket with these routes, and there is room for all that counts.
+    pub fn with_room(alloc: Global, offered: Offered) -> Result<Receiving, NoMemory>
         ensures empty { IfOk result (λ r. r.come.bytes ≡ []) }
         ensures room { IfOk result (λ r. most_room ≤ r.come.room) }
+        ensures socket { IfOk result (λ r. r.come.offered ≡ offered) }
     {
         Ok(Receiving {
-            come: Exchange::with_room(alloc)?,
+            come: Exchange::with_room(alloc, offered)?,
         })
     }
 
@@ -81,6 +84,7 @@ impl Receiving {
     ) -> Result<Reception, ServeFault>
         ensures reception { IsReception (R.remaining reader.old.inner)
             (R.remaining reader.new.inner) self.come.bytes result }
+        ensures socket { IsOfSocket self.come.offered result }
         ensures counted { reader.new.failures ≡ after_reception result reader.old.failures }
         ensures unread { result ≡ Err faults.NoMemory → reader.new ≡ reader.old }
         ensures room { most_room ≤ self.come.room → NeverStarves result }

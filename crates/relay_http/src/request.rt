@@ -3,8 +3,8 @@
 ghost use Rattle.std.specs.Prelude.{◌≡◌, ℕ, List, IfSome, Some, codes, map};
 ghost use Rattle.httparse.specs.Grammar.{RequestHead};
 ghost use Rattle.relay_http.specs.Request.{Request, action_of, grants};
-ghost use Rattle.relay_http.specs.Request.{host_file_after, named_request, report};
-ghost use Rattle.relay_http.specs.Request.{request_of, requests_after};
+ghost use Rattle.relay_http.specs.Request.{host_at, host_file_after, named_request, report};
+ghost use Rattle.relay_http.specs.Request.{request_of, requests_after, open_requests};
 ghost use Rattle.relay_http.specs.Fields as head_fields;
 ghost use Rattle.relay_http.specs.Fields.{Fields, values};
 ghost use Rattle.relay_http.specs.Routes.{second_parameter, parameter};
@@ -19,6 +19,7 @@ use crate::content::content;
 use crate::fault::RequestFault;
 use crate::head::{Head, Looked, look};
 use crate::methods::{allow, is_head};
+use crate::offered::Offered;
 use crate::route::Route;
 use crate::routes::Routes;
 use crate::target::is_plain;
@@ -55,12 +56,32 @@ fn host_file_after<'b>(host: &'b str, at: &str) -> Action<'b>
     }
 }
 
+/// The count, with the host's file after the moment of this text behind it.
+fn host_at<'b>(host: &'b str, at: &str) -> Action<'b>
+    ensures { Dates (host_at host.now at.now) (action_of result) }
+{
+    match Moment::read_stamp(at) {
+        Some(moment) => Action::HostAt(host, moment),
+        None => Action::Refused(RequestFault::BadMoment),
+    }
+}
+
 /// The report at the moment of this text.
 fn report_at<'b>(at: &str) -> Action<'b>
     ensures { Dates (report at.now) (action_of result) }
 {
     match Moment::read_stamp(at) {
         Some(moment) => Action::Report(moment),
+        None => Action::Refused(RequestFault::BadMoment),
+    }
+}
+
+/// The requests that are open at the moment of this text.
+fn open_at<'b>(at: &str) -> Action<'b>
+    ensures { Dates (open_requests at.now) (action_of result) }
+{
+    match Moment::read_stamp(at) {
+        Some(moment) => Action::OpenRequests(moment),
         None => Action::Refused(RequestFault::BadMoment),
     }
 }
@@ -153,13 +174,16 @@ fn by_method<'b>(
         Route::Parked => Action::Parked,
         Route::HostFile => Action::HostFile(taken),
         Route::HostFileAfter => host_file_after(taken, second),
+        Route::HostAt => host_at(taken, second),
         Route::Report => report_at(taken),
+        Route::OpenRequests => open_at(taken),
     }
 }
 
-/// The action of a head, by its parts and the bytes after it.
+/// The action of a head at a socket, by the head's parts and the bytes after it.
 fn action_by<'b>(
     routes: &Routes,
+    offered: Offered,
     method: &[u8],
     target: &'b str,
     is_bad_host: bool,
@@ -169,7 +193,8 @@ fn action_by<'b>(
     ensures { (minor : ℕ) (fields : Fields)
         → is_bad_host ≡ head_fields.is_bad_host minor (values (codes "host") fields)
         → size ≡ size_of fields
-        → Dates (action_by method.now target.now minor fields rest.now) (action_of result) }
+        → Dates (action_by offered method.now target.now minor fields rest.now)
+        (action_of result) }
 {
     if is_bad_host {
         return Action::Refused(RequestFault::BadHead);
@@ -177,24 +202,37 @@ fn action_by<'b>(
     if !is_plain(target.as_bytes()) {
         return Action::Refused(RequestFault::BadTarget);
     }
-    match routes.find(target) {
+    match routes.find(offered, target) {
         Some((route, taken, second)) => by_method(route, taken, second, method, size, rest),
         None => Action::Refused(RequestFault::NoRoute),
     }
 }
 
-/// The request that the bytes are, by their head.
-pub fn request_from<'b>(routes: &Routes, head: &Head, bytes: &'b [u8]) -> HttpRequest<'b>
+/// The request that the bytes are at a socket, by their head.
+pub fn request_from<'b>(
+    routes: &Routes,
+    offered: Offered,
+    head: &Head,
+    bytes: &'b [u8],
+) -> HttpRequest<'b>
     requires { IsFoundHead bytes.now head.now }
     ensures { (h : RequestHead) → IsHeadAt bytes.now head.now h
-        → DatesRequest (request_from h bytes.now) (request_of result) }
+        → DatesRequest (request_from offered h bytes.now) (request_of result) }
 {
     let method = head.method.of(bytes);
     let rest = &bytes[head.len..];
     match from_utf8(head.target.of(bytes)) {
         Ok(target) => HttpRequest {
             with_body: !is_head(method),
-            action: action_by(routes, method, target, head.is_bad_host, head.size, rest),
+            action: action_by(
+                routes,
+                offered,
+                method,
+                target,
+                head.is_bad_host,
+                head.size,
+                rest,
+            ),
         },
         Err(_) => NO_HEAD,
     }
@@ -214,34 +252,34 @@ struct SoFar<'b> {
     is_short: bool,
 }
 
-fn so_far<'b>(routes: &Routes, head: &Head, bytes: &'b [u8]) -> SoFar<'b>
+fn so_far<'b>(routes: &Routes, offered: Offered, head: &Head, bytes: &'b [u8]) -> SoFar<'b>
     requires { IsFoundHead bytes.now head.now }
     ensures request { (h : RequestHead) → IsHeadAt bytes.now head.now h
-        → DatesRequest (request_from h bytes.now) (request_of result.request) }
+        → DatesRequest (request_from offered h bytes.now) (request_of result.request) }
     ensures short { result.is_short ≡ is_short (request_of result.request) }
 {
-    let request = request_from(routes, head, bytes);
+    let request = request_from(routes, offered, head, bytes);
     let is_short = is_short(&request);
     SoFar { request, is_short }
 }
 
-/// Whether the head asks for more content than is there.
-pub fn is_cut_short(routes: &Routes, head: &Head, bytes: &[u8]) -> bool
+/// Whether the head asks for more content than is there, at a socket.
+pub fn is_cut_short(routes: &Routes, offered: Offered, head: &Head, bytes: &[u8]) -> bool
     requires { IsFoundHead bytes.now head.now }
     ensures { (request : Request ℕ) × ((h : RequestHead) → IsHeadAt bytes.now head.now h
-        → DatesRequest (request_from h bytes.now) request) × (result ≡ is_short request) }
+        → DatesRequest (request_from offered h bytes.now) request) × (result ≡ is_short request) }
 {
-    so_far(routes, head, bytes).is_short
+    so_far(routes, offered, head, bytes).is_short
 }
 
-/// The request that the bytes of a connection are. Reading it takes no memory.
-pub fn request_in<'b>(routes: &Routes, bytes: &'b [u8]) -> HttpRequest<'b>
-    ensures found { IsHttpRequest bytes.now (request_of result) }
-    ensures only { (request : Request ℕ) → IsHttpRequest bytes.now request
+/// The request that the bytes of a connection to a socket are. Reading it takes no memory.
+pub fn request_in<'b>(routes: &Routes, offered: Offered, bytes: &'b [u8]) -> HttpRequest<'b>
+    ensures found { IsHttpRequest offered bytes.now (request_of result) }
+    ensures only { (request : Request ℕ) → IsHttpRequest offered bytes.now request
         → request ≡ request_of result }
 {
     match look(bytes) {
-        Looked::Found(head) => request_from(routes, &head, bytes),
+        Looked::Found(head) => request_from(routes, offered, &head, bytes),
         Looked::Partial | Looked::Never => NO_HEAD,
     }
 }

@@ -52,15 +52,16 @@ impl HttpResponse {
 }
 
 impl Received {
-    /// The desk's response to the request whose bytes have come. Once a message is acknowledged no
-    /// memory is taken.
+    /// The desk's response to the request whose bytes have come to a socket. Once a message is
+    /// acknowledged no memory is taken.
     pub fn answer<K: Keeper>(
         self,
         alloc: Global,
         routes: &Routes,
         desk: &mut Desk<K>,
     ) -> HttpResponse
-        ensures exchange { (request : Request ℕ) × IsHttpRequest self.come.bytes request
+        ensures exchange { (request : Request ℕ)
+            × IsHttpRequest self.come.offered self.come.bytes request
             × IsPrepared K.Keeper desk.old.roster desk.old.base desk.old.keeper desk.new.keeper
             request result.status result.refusal result.rest }
         ensures settings { KeepsSettings desk.old desk.new }
@@ -72,7 +73,7 @@ impl Received {
 
     /// The response where memory ran out before the desk was asked. Making it takes no memory.
     pub fn starve(self, routes: &Routes) -> HttpResponse
-        ensures { (request : Request ℕ) × IsHttpRequest self.come.bytes request
+        ensures { (request : Request ℕ) × IsHttpRequest self.come.offered self.come.bytes request
             × IsWantResponse request.with_body result }
     {
         HttpResponse::of_want(self.come.request(routes).with_body)

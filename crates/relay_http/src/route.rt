@@ -23,13 +23,18 @@ pub enum Route {
     HostFile,
     /// The sudoers file of a host after a moment.
     HostFileAfter,
+    /// The count, with the sudoers file of a host after a moment behind it.
+    HostAt,
     /// The report at a moment.
     Report,
+    /// What became of the requests that are open at a moment.
+    OpenRequests,
 }
 
 impl Route {
     ghost use Rattle.std.specs.Prelude.{◌≡◌};
     ghost use Rattle.relay_http.specs.RequestBytes.{methods_of};
+    ghost use Rattle.relay_http.specs.Routes.{is_question};
 
     /// The methods of the route.
     pub fn methods(self) -> Methods
@@ -46,7 +51,30 @@ impl Route {
             | Route::Parked
             | Route::HostFile
             | Route::HostFileAfter
-            | Route::Report => Methods::GetOrHead,
+            | Route::HostAt
+            | Route::Report
+            | Route::OpenRequests => Methods::GetOrHead,
+        }
+    }
+
+    /// Whether the route asks for something, and takes no message.
+    pub fn is_question(self) -> bool
+        ensures { result ≡ is_question self }
+    {
+        match self {
+            Route::Messages => false,
+            Route::AllMessages
+            | Route::Count
+            | Route::Requests
+            | Route::RequestsAfter
+            | Route::NamedRequest
+            | Route::Grants
+            | Route::Parked
+            | Route::HostFile
+            | Route::HostFileAfter
+            | Route::HostAt
+            | Route::Report
+            | Route::OpenRequests => true,
         }
     }
 }

@@ -5,9 +5,10 @@ ghost use Rattle.matchit.specs.Params.{AllText, named, walk};
 ghost use Rattle.matchit.specs.Route.{parse_route};
 ghost use Rattle.matchit.specs.Seek.{first};
 ghost use Rattle.relay_http.specs.Routes.{IsFreeRoute, RouteTakes, second_parameter};
-ghost use Rattle.relay_http.specs.Routes.{parameter, routes, with_route};
+ghost use Rattle.relay_http.specs.Routes.{parameter, route_at, routes, with_route};
 ghost use Rattle.relay_http.specs.Target.{is_plain};
 
+use crate::offered::Offered;
 use crate::route::Route;
 use matchit::{InsertError, Params, Router};
 use std::alloc::Global;
@@ -39,8 +40,8 @@ impl Routes {
         })
     }
 
-    /// The route that a target has, with what the route's two parameters took.
-    pub(crate) fn find<'b>(&self, target: &'b str) -> Option<(Route, &'b str, &'b str)>
+    /// The route that a target has where all routes are, with what the route's two parameters took.
+    fn find_any<'b>(&self, target: &'b str) -> Option<(Route, &'b str, &'b str)>
         requires { IsTrue (is_plain target.now) }
         ensures { RouteTakes (first routes target.now) target.now
             (option_map (λ x. (x.0, x.1.now, x.2.now)) result) }
@@ -52,6 +53,28 @@ impl Routes {
                 second_taken(*found.value, &found.params),
             )),
             Err(_) => None,
+        }
+    }
+
+    /// The route that a target has at a socket, with what the route's two parameters took.
+    pub(crate) fn find<'b>(
+        &self,
+        offered: Offered,
+        target: &'b str,
+    ) -> Option<(Route, &'b str, &'b str)>
+        requires { IsTrue (is_plain target.now) }
+        ensures { RouteTakes (route_at offered target.now) target.now
+            (option_map (λ x. (x.0, x.1.now, x.2.now)) result) }
+    {
+        match self.find_any(target) {
+            Some(found) => {
+                if offered.has(found.0) {
+                    Some(found)
+                } else {
+                    None
+                }
+            }
+            None => None,
         }
     }
 }
@@ -93,6 +116,8 @@ fn router(alloc: Global) -> Result<Router<Route>, NoMemory>
         "/v1/requests/{asker}/{no}",
         Route::NamedRequest,
     )?;
+    add(&mut router, "/v1/hosts/{host}/at/{at}", Route::HostAt)?;
+    add(&mut router, "/v1/open/{at}", Route::OpenRequests)?;
     Ok(router)
 }
 
@@ -102,10 +127,10 @@ fn parameter(route: Route) -> &'static str
 {
     match route {
         Route::Messages => "relay",
-        Route::Grants | Route::Report | Route::RequestsAfter => "at",
+        Route::Grants | Route::Report | Route::RequestsAfter | Route::OpenRequests => "at",
         Route::AllMessages | Route::Count | Route::Requests | Route::Parked => "",
         Route::NamedRequest => "asker",
-        Route::HostFile | Route::HostFileAfter => "host",
+        Route::HostFile | Route::HostFileAfter | Route::HostAt => "host",
     }
 }
 
@@ -114,7 +139,7 @@ fn second_parameter(route: Route) -> &'static str
     ensures { result.now ≡ second_parameter route }
 {
     match route {
-        Route::HostFileAfter => "at",
+        Route::HostFileAfter | Route::HostAt => "at",
         Route::NamedRequest => "no",
         Route::Messages
         | Route::AllMessages
@@ -124,7 +149,8 @@ fn second_parameter(route: Route) -> &'static str
         | Route::Grants
         | Route::Parked
         | Route::HostFile
-        | Route::Report => "",
+        | Route::Report
+        | Route::OpenRequests => "",
     }
 }
 

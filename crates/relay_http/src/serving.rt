@@ -17,6 +17,7 @@ ghost use Rattle.relay_http.specs.declared.serving.ServeFault.TheVariants.{NoMem
 ghost use Rattle.relay_http.specs.declared.serving.ServeFault.TheVariants.{WriteFailed};
 
 use crate::counted::Counted;
+use crate::offered::Offered;
 use crate::outgoing::ExchangeBuffer;
 use crate::received::Received;
 use crate::receiving::{Receiving, Reception};
@@ -68,8 +69,9 @@ fn receive_whole<R: Read>(
     requires empty { receiving.come.bytes ≡ [] }
     requires room { most_room ≤ receiving.come.room }
     ensures asks { IfOk result (λ x. IfSome (R.remaining reader.old.inner) (λ all.
-        (request : Request ℕ) → IsHttpRequest x.come.bytes request
-        → IsHttpRequest all request)) }
+        (request : Request ℕ) → IsHttpRequest x.come.offered x.come.bytes request
+        → IsHttpRequest x.come.offered all request)) }
+    ensures socket { IfOk result (λ x. x.come.offered ≡ receiving.come.offered) }
     ensures counted { reader.new.failures ≡ after_read result reader.old.failures }
 {
     match receiving.receive(routes, reader, buffer) {
@@ -90,7 +92,8 @@ fn respond_to<K: Keeper, W: Write>(
     writer: &mut Counted<W>,
     buffer: &mut ExchangeBuffer,
 ) -> Result<(), ServeFault>
-    ensures exchange { (request : Request ℕ) × IsHttpRequest received.come.bytes request
+    ensures exchange { (request : Request ℕ)
+        × IsHttpRequest received.come.offered received.come.bytes request
         × IsExchange K.Keeper desk.old.roster desk.old.base desk.old.keeper desk.new.keeper
         (λ bytes. Sends (W.contents writer.old.inner) (W.contents writer.new.inner) result bytes)
         request }
@@ -106,13 +109,14 @@ fn respond_to<K: Keeper, W: Write>(
     }
 }
 
-/// Reads a request, has the desk answer it, and writes the response.
+/// Reads a request to a socket with these routes, has the desk answer it, and writes the response.
 ///
 /// The room for a request, the buffer and the routes are made before anything is read: if memory
 /// runs out for them, the result is `NoMemory`, and nothing was read. If it runs out later, the
 /// desk's response says so. Once a message is acknowledged no memory is taken.
 pub fn serve_one<K: Keeper, R: Read, W: Write>(
     alloc: Global,
+    offered: Offered,
     desk: &mut Desk<K>,
     reader: &mut Counted<R>,
     writer: &mut Counted<W>,
@@ -122,18 +126,18 @@ pub fn serve_one<K: Keeper, R: Read, W: Write>(
     // written, or a beginning of it where a write failed.
     ensures exchange { HasResponded result
         → IfSome (R.remaining reader.old.inner) (λ all. (request : Request ℕ)
-        → IsHttpRequest all request
+        → IsHttpRequest offered all request
         → IsExchange K.Keeper desk.old.roster desk.old.base desk.old.keeper desk.new.keeper
         (λ bytes. Sends (W.contents writer.old.inner) (W.contents writer.new.inner) result bytes)
         request) }
     // A request that is not a POST changes nothing, and only the exchange of a POST to a relay's
-    // messages with the status 200 changes anything.
+    // messages with the status 200 changes anything, at a socket that has all routes.
     ensures queries { HasResponded result → K.is_up desk.new.keeper
         → IfSome (R.remaining reader.old.inner) (λ all. (head : RequestHead) → HasHead all head
         → head.method ≢ codes "POST" → K.is_same desk.old.keeper desk.new.keeper) }
     ensures changes { HasResponded result → K.is_up desk.new.keeper
         → IfSome (R.remaining reader.old.inner)
-        (λ all. K.is_same desk.old.keeper desk.new.keeper ⊎ IsAcknowledged all
+        (λ all. K.is_same desk.old.keeper desk.new.keeper ⊎ IsAcknowledged offered all
         (λ bytes. Sends (W.contents writer.old.inner) (W.contents writer.new.inner) result bytes)) }
     ensures unanswered { (result ≡ Err ReadFailed) ⊎ (result ≡ Err NoMemory)
         → (desk.new ≡ desk.old) × (writer.new ≡ writer.old) }
@@ -156,7 +160,7 @@ pub fn serve_one<K: Keeper, R: Read, W: Write>(
     let Ok(mut buffer) = ExchangeBuffer::new(alloc) else {
         return Err(ServeFault::NoMemory);
     };
-    let Ok(receiving) = Receiving::with_room(alloc) else {
+    let Ok(receiving) = Receiving::with_room(alloc, offered) else {
         return Err(ServeFault::NoMemory);
     };
     let Ok(received) = receive_whole(receiving, &routes, reader, &mut buffer) else {

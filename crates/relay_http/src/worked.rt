@@ -3,8 +3,9 @@
 
 ghost use Rattle.std.specs.Prelude.{◌≡◌, ◌++◌, ◌∷◌, [], codes, false, true};
 ghost use Rattle.relay_http.specs.Request.{all_messages, count, deliver, grants, host_file};
-ghost use Rattle.relay_http.specs.Request.{host_file_after, named_request, parked, refused};
-ghost use Rattle.relay_http.specs.Request.{report, requests, requests_after};
+ghost use Rattle.relay_http.specs.Request.{host_at, host_file_after, named_request, parked};
+ghost use Rattle.relay_http.specs.Request.{refused, report, requests, requests_after};
+ghost use Rattle.relay_http.specs.Request.{open_requests};
 ghost use Rattle.relay_http.specs.Response.{fault_line, status_of, written};
 ghost use Rattle.relay_http.specs.RequestBytes.{IsHttpRequest};
 ghost use Rattle.relay_http.specs.Worked.{approval_body, head_with_host, lines, posted};
@@ -13,42 +14,52 @@ ghost use Rattle.relay_http.specs.declared.fault.RequestFault.TheVariants.{BadMe
 ghost use Rattle.relay_http.specs.declared.fault.RequestFault.TheVariants.{BadTarget};
 ghost use Rattle.relay_http.specs.declared.fault.RequestFault.TheVariants.{LengthRequired, NoRoute};
 ghost use Rattle.relay_http.specs.declared.fault.RequestFault.TheVariants.{ShortBody, TooLong};
+ghost use Rattle.relay_http.specs.declared.offered.Offered.TheVariants as socket;
 ghost use Rattle.relay_http.specs.declared.route.Methods.TheVariants.{GetOrHead, Post};
 ghost use Rattle.relay_http.specs.declared.status.ResponseStatus.TheVariants as status;
 
-/// Requests that are answered by the desk: a delivery, a delivery with zeros before its length, all
-/// messages, how many messages there are, what became of every request, of the requests after a
-/// moment and of one request, the grants of a moment by HEAD, a host's file, the file after a
-/// moment, the report at a moment, and a query of HTTP/1.0 without Host.
+/// Requests that are answered by the desk at a socket with all routes: a delivery, a delivery with
+/// zeros before its length, all messages, how many messages there are, what became of every
+/// request, of the requests after a moment and of one request, the grants of a moment by HEAD, a
+/// host's file, the file after a moment, the count with that file, the report at a moment, what is
+/// open at a moment, and a query of HTTP/1.0 without Host.
 pub fn worked_requests()
-    ensures delivery { IsHttpRequest (posted (codes "70"))
+    ensures delivery { IsHttpRequest socket.All (posted (codes "70"))
         (record { with_body = true; action = deliver (codes "web") approval_body }) }
-    ensures zeros { IsHttpRequest (posted (codes "0070"))
+    ensures zeros { IsHttpRequest socket.All (posted (codes "0070"))
         (record { with_body = true; action = deliver (codes "web") approval_body }) }
-    ensures all_messages { IsHttpRequest (head_with_host (codes "GET /v1/messages HTTP/1.1"))
+    ensures all_messages { IsHttpRequest socket.All
+        (head_with_host (codes "GET /v1/messages HTTP/1.1"))
         (record { with_body = true; action = all_messages }) }
-    ensures count { IsHttpRequest (head_with_host (codes "GET /v1/count HTTP/1.1"))
+    ensures count { IsHttpRequest socket.All (head_with_host (codes "GET /v1/count HTTP/1.1"))
         (record { with_body = true; action = count }) }
-    ensures requests { IsHttpRequest (head_with_host (codes "GET /v1/requests HTTP/1.1"))
+    ensures requests { IsHttpRequest socket.All (head_with_host (codes "GET /v1/requests HTTP/1.1"))
         (record { with_body = true; action = requests }) }
-    ensures requests_after { IsHttpRequest
+    ensures requests_after { IsHttpRequest socket.All
         (head_with_host (codes "GET /v1/requests/after/20260105093000Z HTTP/1.1"))
         (record { with_body = true; action = requests_after 1_767_605_400 }) }
-    ensures named_request { IsHttpRequest
+    ensures named_request { IsHttpRequest socket.All
         (head_with_host (codes "HEAD /v1/requests/ann/7 HTTP/1.1"))
         (record { with_body = false; action = named_request (codes "ann") 7 }) }
-    ensures grants { IsHttpRequest
+    ensures grants { IsHttpRequest socket.All
         (head_with_host (codes "HEAD /v1/grants/20260105093000Z HTTP/1.1"))
         (record { with_body = false; action = grants 1_767_605_400 }) }
-    ensures host_file { IsHttpRequest (head_with_host (codes "GET /v1/hosts/db9/sudoers HTTP/1.1"))
+    ensures host_file { IsHttpRequest socket.All
+        (head_with_host (codes "GET /v1/hosts/db9/sudoers HTTP/1.1"))
         (record { with_body = true; action = host_file (codes "db9") }) }
-    ensures host_file_after { IsHttpRequest
+    ensures host_file_after { IsHttpRequest socket.All
         (head_with_host (codes "GET /v1/hosts/db9/sudoers/20260105093000Z HTTP/1.1"))
         (record { with_body = true; action = host_file_after (codes "db9") 1_767_605_400 }) }
-    ensures report { IsHttpRequest
+    ensures host_at { IsHttpRequest socket.All
+        (head_with_host (codes "GET /v1/hosts/db9/at/20260105093000Z HTTP/1.1"))
+        (record { with_body = true; action = host_at (codes "db9") 1_767_605_400 }) }
+    ensures report { IsHttpRequest socket.All
         (head_with_host (codes "GET /v1/reviews/20260105093000Z HTTP/1.1"))
         (record { with_body = true; action = report 1_767_605_400 }) }
-    ensures old { IsHttpRequest (lines (codes "GET /v1/parked HTTP/1.0" ∷ [] ∷ []))
+    ensures open_requests { IsHttpRequest socket.All
+        (head_with_host (codes "GET /v1/open/20260105093000Z HTTP/1.1"))
+        (record { with_body = true; action = open_requests 1_767_605_400 }) }
+    ensures old { IsHttpRequest socket.All (lines (codes "GET /v1/parked HTTP/1.0" ∷ [] ∷ []))
         (record { with_body = true; action = parked }) }
 {}
 
@@ -57,52 +68,79 @@ pub fn worked_requests()
 /// a request's number, with no name before it; and deliveries without a length, with a signed one,
 /// with one byte too few, and with a length over the limit.
 pub fn worked_refusals()
-    ensures no_host { IsHttpRequest (lines (codes "GET /v1/parked HTTP/1.1" ∷ [] ∷ []))
+    ensures no_host { IsHttpRequest socket.All (lines (codes "GET /v1/parked HTTP/1.1" ∷ [] ∷ []))
         (record { with_body = true; action = refused BadHead }) }
-    ensures two_hosts { IsHttpRequest (lines (codes "HEAD /v1/parked HTTP/1.0" ∷ codes "Host: desk"
+    ensures two_hosts { IsHttpRequest socket.All
+        (lines (codes "HEAD /v1/parked HTTP/1.0" ∷ codes "Host: desk"
         ∷ codes "hOST: desk" ∷ [] ∷ [])) (record { with_body = false; action = refused BadHead }) }
-    ensures query { IsHttpRequest (head_with_host (codes "GET /v1/parked?x HTTP/1.1"))
+    ensures query { IsHttpRequest socket.All (head_with_host (codes "GET /v1/parked?x HTTP/1.1"))
         (record { with_body = true; action = refused BadTarget }) }
-    ensures slash { IsHttpRequest (head_with_host (codes "GET /v1/parked/ HTTP/1.1"))
+    ensures slash { IsHttpRequest socket.All (head_with_host (codes "GET /v1/parked/ HTTP/1.1"))
         (record { with_body = true; action = refused NoRoute }) }
-    ensures posts { IsHttpRequest (head_with_host (codes "POST /v1/parked HTTP/1.1"))
+    ensures posts { IsHttpRequest socket.All (head_with_host (codes "POST /v1/parked HTTP/1.1"))
         (record { with_body = true; action = refused (BadMethod GetOrHead) }) }
-    ensures counts { IsHttpRequest (head_with_host (codes "GET /v1/counts HTTP/1.1"))
+    ensures counts { IsHttpRequest socket.All (head_with_host (codes "GET /v1/counts HTTP/1.1"))
         (record { with_body = true; action = refused NoRoute }) }
-    ensures posts_count { IsHttpRequest (head_with_host (codes "POST /v1/count HTTP/1.1"))
+    ensures posts_count { IsHttpRequest socket.All
+        (head_with_host (codes "POST /v1/count HTTP/1.1"))
         (record { with_body = true; action = refused (BadMethod GetOrHead) }) }
-    ensures zero_before { IsHttpRequest (head_with_host (codes "GET /v1/requests/ann/07 HTTP/1.1"))
+    ensures zero_before { IsHttpRequest socket.All
+        (head_with_host (codes "GET /v1/requests/ann/07 HTTP/1.1"))
         (record { with_body = true; action = refused NoRoute }) }
-    ensures no_name { IsHttpRequest (head_with_host (codes "GET /v1/requests/Ann/7 HTTP/1.1"))
+    ensures no_name { IsHttpRequest socket.All
+        (head_with_host (codes "GET /v1/requests/Ann/7 HTTP/1.1"))
         (record { with_body = true; action = refused NoRoute }) }
-    ensures after_number { IsHttpRequest
+    ensures after_number { IsHttpRequest socket.All
         (head_with_host (codes "GET /v1/requests/after/7 HTTP/1.1"))
         (record { with_body = true; action = refused BadMoment }) }
-    ensures gets { IsHttpRequest (head_with_host (codes "GET /v1/relays/web/messages HTTP/1.1"))
+    ensures gets { IsHttpRequest socket.All
+        (head_with_host (codes "GET /v1/relays/web/messages HTTP/1.1"))
         (record { with_body = true; action = refused (BadMethod Post) }) }
-    ensures moment { IsHttpRequest (head_with_host (codes "GET /v1/grants/2026010509Z HTTP/1.1"))
+    ensures moment { IsHttpRequest socket.All
+        (head_with_host (codes "GET /v1/grants/2026010509Z HTTP/1.1"))
         (record { with_body = true; action = refused BadMoment }) }
-    ensures moment_with_offset { IsHttpRequest
+    ensures moment_with_offset { IsHttpRequest socket.All
         (head_with_host (codes "GET /v1/grants/2026010504-0500 HTTP/1.1"))
         (record { with_body = true; action = refused BadMoment }) }
-    ensures file_after_day { IsHttpRequest
+    ensures file_after_day { IsHttpRequest socket.All
         (head_with_host (codes "GET /v1/hosts/db9/sudoers/20260105 HTTP/1.1"))
         (record { with_body = true; action = refused BadMoment }) }
-    ensures report_by_day { IsHttpRequest
+    ensures report_by_day { IsHttpRequest socket.All
         (head_with_host (codes "HEAD /v1/reviews/20260105 HTTP/1.1"))
         (record { with_body = false; action = refused BadMoment }) }
-    ensures posts_report { IsHttpRequest
+    ensures posts_report { IsHttpRequest socket.All
         (head_with_host (codes "POST /v1/reviews/20260105093000Z HTTP/1.1"))
         (record { with_body = true; action = refused (BadMethod GetOrHead) }) }
-    ensures no_length { IsHttpRequest
+    ensures no_length { IsHttpRequest socket.All
         (head_with_host (codes "POST /v1/relays/web/messages HTTP/1.1"))
         (record { with_body = true; action = refused LengthRequired }) }
-    ensures signed { IsHttpRequest (posted (codes "+70"))
+    ensures signed { IsHttpRequest socket.All (posted (codes "+70"))
         (record { with_body = true; action = refused BadLength }) }
-    ensures short { IsHttpRequest (posted (codes "71"))
+    ensures short { IsHttpRequest socket.All (posted (codes "71"))
         (record { with_body = true; action = refused ShortBody }) }
-    ensures long { IsHttpRequest (posted (codes "16385"))
+    ensures long { IsHttpRequest socket.All (posted (codes "16385"))
         (record { with_body = true; action = refused TooLong }) }
+{}
+
+/// Requests to a socket for questions: the route of a relay's messages is not there, whatever the
+/// method and the content, and the other routes are.
+pub fn worked_questions()
+    ensures delivery { IsHttpRequest socket.Questions (posted (codes "70"))
+        (record { with_body = true; action = refused NoRoute }) }
+    ensures short { IsHttpRequest socket.Questions (posted (codes "71"))
+        (record { with_body = true; action = refused NoRoute }) }
+    ensures gets { IsHttpRequest socket.Questions
+        (head_with_host (codes "GET /v1/relays/web/messages HTTP/1.1"))
+        (record { with_body = true; action = refused NoRoute }) }
+    ensures posts_count { IsHttpRequest socket.Questions
+        (head_with_host (codes "POST /v1/count HTTP/1.1"))
+        (record { with_body = true; action = refused (BadMethod GetOrHead) }) }
+    ensures count { IsHttpRequest socket.Questions
+        (head_with_host (codes "GET /v1/count HTTP/1.1"))
+        (record { with_body = true; action = count }) }
+    ensures host_file { IsHttpRequest socket.Questions
+        (head_with_host (codes "HEAD /v1/hosts/db9/sudoers HTTP/1.1"))
+        (record { with_body = false; action = host_file (codes "db9") }) }
 {}
 
 /// The responses to a delivery, to a method that a route does not have, and to HEAD where a route

@@ -17,15 +17,12 @@ use Rattle.store_tables.specs.Steps.{IsStep}
 use Rattle.std.specs.Ordering.{nat_cmp}
 use Rattle.std.specs.Cmp.Lexicographic.{slice_cmp}
 use Rattle.sqlite.specs.declared.types.Value.{Value}
-use Rattle.store_tables.specs.Rows.{IsRow}
-use Rattle.store_tables.specs.private.Changes.{IsEmptied}
-use Rattle.store_tables.specs.private.Stepping.{Wrote}
 use Rattle.store_tables.specs.Steps.{Refilled, Refills, texts_in}
-use Rattle.store_tables.specs.private.Turning.{Renewed, Rowwise, Settled, Settles, Stays, Turned, Turns}
+use Rattle.store_tables.specs.private.Turning.{Settled, Settles}
 use Rattle.store_tables.proofs.RowSets.{rows_of_nothing}
 use Rattle.store_tables.proofs.AddLemmas.{is_same, same_sets}
 use Rattle.store_tables.proofs.TextSets.{same_text}
-use Rattle.store_tables.proofs.TurnLemmas.{clean_before, rows_at, spares_then, then_step, turned_names, turned_parked, turned_verdicts}
+use Rattle.store_tables.proofs.TurnLemmas.{clean_before, rows_at, spares_then, then_step}
 
 -- ---- texts of messages
 
@@ -125,54 +122,10 @@ known_at ms i m known within at = known m (contains_had ms m (has_at ms i m with
 pub known_before : (ms : List Message) (i : ℕ) (n : Message) → ((n : Message) → Contains ms n → IsMessage n) → Has (take i ms) n → IsMessage n
 known_before ms i n known there = known n (contains_had ms n (has_taken ms i n there))
 
--- ---- after all rows are gone
-
-all_gone : (a b c d : Database) → Turns (Rowwise IsEmptied) Stays Stays a b → Turns Stays (Rowwise IsEmptied) Stays b c
-    → Turns Stays Stays (Rowwise IsEmptied) c d → Turns (Rowwise IsEmptied) (Rowwise IsEmptied) (Rowwise IsEmptied) a d
-all_gone a b c d one two three = record {
-  sound = λ s. three.sound (two.sound (one.sound s));
-  schema = three.schema ∙ two.schema ∙ one.schema;
-  tidy = three.tidy;
-  names = subst (λ n. IsEmptied (rows_at a (codes "names")) (IsRow n)) (sym (three.names ∙ two.names)) one.names;
-  verdicts = subst (λ v. IsEmptied (rows_at a (codes "verdicts")) (IsRow v)) (sym three.verdicts) (λ r. two.verdicts r);
-  parked = λ r. three.parked r;
-  desk = three.desk ∙ two.desk ∙ one.desk;
-  messages = three.messages ∙ two.messages ∙ one.messages;
-  spares = spares_then a c d (spares_then a b c one.spares two.spares) three.spares;
-}
-
-pub cleared : (a b c d : State) → Wrote (codes "names") IsEmptied a b → Wrote (codes "verdicts") IsEmptied b c
-    → Wrote (codes "parked") IsEmptied c d → Turned (Rowwise IsEmptied) (Rowwise IsEmptied) (Rowwise IsEmptied) a d
-cleared a b c d names verdicts parked =
-    let one = turned_names a b IsEmptied names in
-    let two = turned_verdicts b c IsEmptied verdicts in
-    let three = turned_parked c d IsEmptied parked in
-    record {
-      mode = three.mode;
-      turns = λ tidy. let first = one.turns tidy in
-          let second = two.turns first.tidy in
-          all_gone a.now b.now c.now d.now first second (three.turns second.tidy);
-    }
+-- ---- tables without rows
 
 pub no_rows : (db : Database) → ((r : List Value) → ¬ rows_at db (codes "names") r)
     → ((r : List Value) → ¬ rows_at db (codes "verdicts") r) → ((r : List Value) → ¬ rows_at db (codes "parked") r) → HasRows set.empty db
 no_rows db names verdicts parked =
     rows_of_nothing (Holds set.empty) (rows_at db (codes "names")) (rows_at db (codes "verdicts")) (rows_at db (codes "parked"))
     (λ m held. let e : false ≡ true = sym (set.contains-empty (slice_cmp nat_cmp) (wire m)) ∙ held.1 in absurd cc) names verdicts parked
-
-pub renewed : (ms : List Message) (a b c : State) → Turned (Rowwise IsEmptied) (Rowwise IsEmptied) (Rowwise IsEmptied) a b → Refilled ms b c → Renewed ms a c
-renewed ms a b c one two = record {
-  mode = two.mode;
-  renews = λ tidy.
-      let first = one.turns tidy in
-      let second = two.refills first.tidy in
-      record {
-        sound = λ s. second.sound (first.sound s);
-        schema = second.schema ∙ first.schema;
-        tidy = second.tidy;
-        rows = second.rows (no_rows b.now first.names first.verdicts first.parked);
-        desk = second.desk ∙ first.desk;
-        messages_same = second.messages_same ∙ first.messages;
-        spares = spares_then a.now b.now c.now first.spares second.spares;
-      };
-}

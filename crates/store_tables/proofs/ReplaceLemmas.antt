@@ -11,20 +11,20 @@ use Rattle.sqlite_rules.specs.Lists.{Has}
 use Rattle.sqlite_rules.proofs.ListLemmas.{contains_had, has_contained}
 use Rattle.messages.specs.Wire.{wire}
 use Rattle.messages.specs.declared.message.Message.{Message}
+use Rattle.store_tables.specs.Rows.{AreRows, IsRow}
 use Rattle.store_tables.specs.Sets.{Lists, SameSet}
-use Rattle.store_tables.specs.Stored.{IsListedAs, Texts, content_of, is_stray, recorded, recorded_before, row_texts, with_roster}
-use Rattle.store_tables.specs.Kept.{HasRows, Holds, HoldsText, IsDeskDatabase, Spares, table_in}
+use Rattle.store_tables.specs.Stored.{IsListedAs, Texts, content_of, is_stray, recorded_before, row_texts, with_roster}
+use Rattle.store_tables.specs.Kept.{HasRows, Holds, IsDeskDatabase, Spares, table_in}
 use Rattle.store_tables.specs.SqliteStates.{IsUp, Rests}
 use Rattle.store_tables.specs.Steps.{IsStep}
 use Rattle.store_tables.specs.Committed.{ChangesAt}
 use Rattle.store_tables.specs.Steps.{texts_in}
-use Rattle.store_tables.specs.private.Turning.{Recorded, Records, Renewed, Renews, Replaced, Replaces}
+use Rattle.store_tables.specs.private.Turning.{Recorded, Records, Replaces}
 use Rattle.store_tables.proofs.ArriveLemmas.{Ends, begun}
 use Rattle.store_tables.proofs.OneSchema.{again, listed_again}
 use Rattle.store_tables.proofs.RefillLemmas.{found_among, in_texts}
-use Rattle.store_tables.proofs.RowSets.{rows_same}
 use Rattle.store_tables.proofs.TextSets.{same_text}
-use Rattle.store_tables.proofs.TurnLemmas.{clean_before, itself, or_true_left, or_true_right, rows_at, spares_then}
+use Rattle.store_tables.proofs.TurnLemmas.{clean_before, itself, or_true_left, or_true_right, rows_at}
 
 -- ---- the desk
 
@@ -43,37 +43,29 @@ same_messages texts ms lists m = (
   (λ held. (held.0, in_texts ms (wire m) ∙ there_among ms m (has_contained ms m ((lists m).0 held)))),
 )
 
-replaces : (roster : List ℕ) (ms : List Message) (a b c : Database) → IsUtf8 roster → IsDeskDatabase a
-    → Lists (HoldsText a) ms → Records roster a b → Renews ms b c → Replaces roster a c
-replaces roster ms a b c utf8 is lists one two = record {
-  sound = two.sound one.sound;
+-- the rows of the messages are there, and so are the tables
+rows_still : (texts : Texts) (a b : Database) (roster : List ℕ) → Records roster a b → HasRows texts a → HasRows texts b
+rows_still texts a b roster is rows =
+    subst (λ n. AreRows (Holds texts) (IsRow n) (rows_at b (codes "verdicts")) (rows_at b (codes "parked"))) (sym is.names)
+    (subst (λ v. AreRows (Holds texts) (rows_at a (codes "names")) (IsRow v) (rows_at b (codes "parked"))) (sym is.verdicts)
+    (subst (λ p. AreRows (Holds texts) (rows_at a (codes "names")) (rows_at a (codes "verdicts")) (IsRow p)) (sym is.parked) rows))
+
+replaces : (roster : List ℕ) (a b : Database) → IsUtf8 roster → IsDeskDatabase a → Records roster a b → Replaces roster a b
+replaces roster a b utf8 is done = record {
+  sound = done.sound;
   desk = record {
-    tidy = two.tidy;
-    marked = (roster, marked, utf8);
-    texts = ap (list_any is_stray) messages ∙ is.texts;
+    tidy = done.tidy;
+    marked = (roster, done.row, utf8);
+    texts = ap (list_any is_stray) done.messages ∙ is.texts;
     only = λ text there. is.only text (ap (λ (t : Texts). set.contains t text) (sym texts) ∙ there);
-    rows = subst (λ t. HasRows t c) (sym texts) (rows_same (Holds (texts_in ms)) (Holds (content_of a).texts)
-        (same_messages (content_of a).texts ms lists) (rows_at c (codes "names")) (rows_at c (codes "verdicts")) (rows_at c (codes "parked")) two.rows);
+    rows = subst (λ t. HasRows t b) (sym texts) (rows_still (content_of a).texts a b roster done is.rows);
   };
-  content = λ i. record { roster = unwrap_or (marked i) (unwrap_or (recorded_before (table_in c (codes "desk"))) []); texts = texts i };
-  spares = spares_then a b c one.spares two.spares;
+  content = λ i. record { roster = unwrap_or (done.row i) (unwrap_or (recorded_before (table_in b (codes "desk"))) []); texts = texts i };
+  spares = done.spares;
 }
   where
-    marked : recorded (table_in c (codes "desk")) ≡ Rattle.std.proofs.Common.Some roster
-    marked = ap recorded two.desk ∙ one.row
-
-    messages : table_in c (codes "messages") ≡ table_in a (codes "messages")
-    messages = two.messages_same ∙ one.messages
-
-    texts : (content_of c).texts ≡ (content_of a).texts
-    texts = ap row_texts messages
-
-pub replaced : (roster : List ℕ) (ms : List Message) (a b c : State) → IsUtf8 roster → Recorded roster a b → Renewed ms b c → Replaced roster ms a c
-replaced roster ms a b c utf8 one two = record {
-  was_open = one.was_open;
-  mode = two.mode;
-  replaces = λ is lists. let first = one.records is in replaces roster ms a.now b.now c.now utf8 is lists first (two.renews first.tidy);
-}
+    texts : (content_of b).texts ≡ (content_of a).texts
+    texts = ap row_texts done.messages
 
 -- ---- the transaction
 
@@ -92,10 +84,9 @@ module _ (roster : List ℕ) (old last end : State) (rests : Rests old) (step : 
 
   -- ---- it was committed
 
-  module _ (ms : List Message) (received : HasCleanDisk last → Replaced roster ms (begun old) last) (desk : IsUp old
-      → IsDeskDatabase old.now) (lists : IsUp old → Lists (HoldsText old.now) ms) where
+  module _ (utf8 : IsUtf8 roster) (received : HasCleanDisk last → Recorded roster (begun old) last) (desk : IsUp old → IsDeskDatabase old.now) where
     does : IsUp old → HasCleanDisk last → Replaces roster old.now last.now
-    does up clean = (received clean).replaces (desk up) (lists up)
+    does up clean = replaces roster old.now last.now utf8 (desk up) ((received clean).records (desk up))
 
     up_first : HasCleanDisk last → IsUp old
     up_first clean = record { clean = clean_first clean; is_open = (received clean).was_open }

@@ -16,11 +16,11 @@ use Rattle.sqlite.specs.Listing.{understood}
 use Rattle.sqlite.specs.State.{State, Executes, Shown}
 use Rattle.sqlite.proofs.Callers.{statement_of, reads_as, runs_as}
 use Rattle.messages.specs.declared.request_name.RequestName.{RequestName}
-use Rattle.store_tables.specs.DeskTables.{messages, names, verdicts, parked, names_at, verdicts_at, parked_at}
+use Rattle.store_tables.specs.DeskTables.{messages, names, verdicts, parked}
 use Rattle.store_tables.specs.Rows.{RowSet, IsRow, OfName}
 use Rattle.store_tables.specs.Stored.{Finds, HasDesk, is_stray, row_texts, tree_of}
 use Rattle.store_tables.specs.Kept.{IsKeyed, IsNeat, IsNoReal, IsTidy, table_in}
-use Rattle.store_tables.specs.private.Changes.{IsEmptied, Gains, Loses, Tells}
+use Rattle.store_tables.specs.private.Changes.{Gains, Loses, Tells}
 use Rattle.store_tables.specs.Steps.{KeepsBut}
 use Rattle.store_tables.specs.private.Stepping.{AddsText, Alters, ShowsParked}
 use Rattle.store_tables.proofs.AddLemmas.{all_at, text_more, typed_still}
@@ -28,8 +28,8 @@ use Rattle.store_tables.proofs.Inserts.{name_insert, name_put, name_terms, parke
 use Rattle.store_tables.proofs.Inserts.{text_insert, text_put, text_terms, verdict_insert, verdict_put, verdict_terms}
 use Rattle.store_tables.proofs.NameLemmas.{answered, answers, given, keyed_more}
 use Rattle.store_tables.proofs.Puts.{name_kept, one_more, parked_kept, puts, text_kept, verdict_kept, Puts}
-use Rattle.store_tables.proofs.Takes.{clears, takes}
-use Rattle.store_tables.proofs.Where.{names_clear, names_clears, parked_clear, parked_clears, scanning, verdicts_clear, verdicts_clears, names_delete}
+use Rattle.store_tables.proofs.Takes.{takes}
+use Rattle.store_tables.proofs.Where.{names_delete}
 use Rattle.store_tables.proofs.Where.{names_deletes, names_select, names_selects, parked_delete, parked_deletes, parked_select, parked_selects, reading}
 use Rattle.sqlite_rules.specs.Lists.{Has}
 
@@ -316,49 +316,10 @@ parked_shown name old new rows tidy shown =
       all = λ r there of_name. answers name 1 tree project db tidy.desk.parked.stored tidy.parked.whole rows answer there.0 r there.1 of_name;
     }
 
--- ---- the DELETEs of all rows
+-- ---- tables without rows
 
 pub keyed_none : (rows : List Row) → ((x : Row) → ¬ Has rows x) → IsKeyed rows
 keyed_none rows none = record { ints = λ r there. absurd (none r there); once = λ a b here there. absurd (none a here) }
 
 pub neat_none : (at : ℕ) (rows : List Row) → ((x : Row) → ¬ Has rows x) → IsNeat at rows
 neat_none at rows none = record { keyed = keyed_none rows none; whole = λ r there. absurd (none (there.0 ∷ r) there.1) }
-
-pub names_emptied : (old new : State) (count : ℕ) → IsTidy old.now
-    → Executes names_clear [] old new (Ok count) → Alters (codes "names") IsEmptied old.now new.now
-names_emptied old new count tidy ran =
-    let s = old.now.schema in
-    let tree = tree_of s (codes "names") in
-    let means = names_clears s tidy.desk.n tree tidy.desk.names in
-    let w =
-    runs_as names_clear [] old new s refl (command.Delete tidy.desk.n (record { lets = []; body = scanning tree })) means.command means.plain count ran in
-    let it = clears (names_at tree) s tidy.desk.n tidy.desk.names.has tidy.desk.names.stored tidy.desk.names_alone old.step_limit
-    (statement_of names_clear (understood s names_clear)) old.now.trees new.now w.tally w.changed in
-    let none = it.0.none tidy.names.keyed in
-    names_altered old.now new.now tidy it.1 IsEmptied w.sound (λ r there. none (there.0 ∷ r) there.1) it.0.others (neat_none 1 (new.now.trees tree) none)
-
-pub verdicts_emptied : (old new : State) (count : ℕ) → IsTidy old.now
-    → Executes verdicts_clear [] old new (Ok count) → Alters (codes "verdicts") IsEmptied old.now new.now
-verdicts_emptied old new count tidy ran =
-    let s = old.now.schema in
-    let tree = tree_of s (codes "verdicts") in
-    let means = verdicts_clears s tidy.desk.v tree tidy.desk.verdicts in
-    let w = runs_as verdicts_clear [] old new s refl
-    (command.Delete tidy.desk.v (record { lets = []; body = scanning tree })) means.command means.plain count ran in
-    let it = clears (verdicts_at tree) s tidy.desk.v tidy.desk.verdicts.has tidy.desk.verdicts.stored tidy.desk.verdicts_alone old.step_limit
-    (statement_of verdicts_clear (understood s verdicts_clear)) old.now.trees new.now w.tally w.changed in
-    let none = it.0.none tidy.verdicts in
-    verdicts_altered old.now new.now tidy it.1 IsEmptied w.sound (λ r there. none (there.0 ∷ r) there.1) it.0.others (keyed_none (new.now.trees tree) none)
-
-pub parked_emptied : (old new : State) (count : ℕ) → IsTidy old.now
-    → Executes parked_clear [] old new (Ok count) → Alters (codes "parked") IsEmptied old.now new.now
-parked_emptied old new count tidy ran =
-    let s = old.now.schema in
-    let tree = tree_of s (codes "parked") in
-    let means = parked_clears s tidy.desk.p tree tidy.desk.parked in
-    let w =
-    runs_as parked_clear [] old new s refl (command.Delete tidy.desk.p (record { lets = []; body = scanning tree })) means.command means.plain count ran in
-    let it = clears (parked_at tree) s tidy.desk.p tidy.desk.parked.has tidy.desk.parked.stored tidy.desk.parked_alone old.step_limit
-    (statement_of parked_clear (understood s parked_clear)) old.now.trees new.now w.tally w.changed in
-    let none = it.0.none tidy.parked.keyed in
-    parked_altered old.now new.now tidy it.1 IsEmptied w.sound (λ r there. none (there.0 ∷ r) there.1) it.0.others (neat_none 2 (new.now.trees tree) none)

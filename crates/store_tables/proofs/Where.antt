@@ -40,7 +40,7 @@ use Rattle.sqlite_ast.specs.declared.Select.{Select, out-Select}
 use Rattle.sqlite_ast.specs.declared.Core.{out-Core}
 use Rattle.sqlite_ast.specs.declared.Source.{Source, out-Source}
 use Rattle.sqlite_ast.specs.declared.Origin.TheVariants as origin
-use Rattle.store_tables.specs.DeskTables.{column_of, desk_at, names_at, parked_at, verdicts_at}
+use Rattle.store_tables.specs.DeskTables.{column_of, desk_at, names_at, parked_at}
 use Rattle.store_tables.specs.Stored.{Finds}
 use Rattle.store_tables.proofs.Layers.{compiled_is, read_is, named_is, body_is, whole_page, IsAlone, query_one}
 use Rattle.store_tables.proofs.Layers.{parts_is, bounds_one, matching_one, find_one, lower_column, result_one}
@@ -609,27 +609,6 @@ scanning tree = record {
   offset = lit (Int (pos 0));
 }
 
-abbrev pub names_clear : List ℕ
-names_clear = codes "DELETE FROM names"
-
-abbrev pub verdicts_clear : List ℕ
-verdicts_clear = codes "DELETE FROM verdicts"
-
-abbrev pub parked_clear : List ℕ
-parked_clear = codes "DELETE FROM parked"
-
-names_clear_parts : IsClear names_clear (codes "names")
-unfolding everything
-names_clear_parts = record { p = _; parsed = refl; statement = refl; formats = refl }
-
-verdicts_clear_parts : IsClear verdicts_clear (codes "verdicts")
-unfolding everything
-verdicts_clear_parts = record { p = _; parsed = refl; statement = refl; formats = refl }
-
-parked_clear_parts : IsClear parked_clear (codes "parked")
-unfolding everything
-parked_clear_parts = record { p = _; parsed = refl; statement = refl; formats = refl }
-
 clear_typed : (s : Schema) (name : Name) (at : ℕ) (t : Table) → Finds s name at t
     → program s [] (draft_where t.tree [] (col 1 0 ∷ [])) ≡ Ok (record { lets = []; body = scanning t.tree })
 unfolding program
@@ -640,18 +619,6 @@ pub clears : (s : Schema) (text : List ℕ) (name : Name) (it : IsClear text nam
 clears s text name it at t found =
     means s text _ (compiled_is s text it.p _ it.parsed (untimed_clear s text name it) (plain_clear s text name it _)
     (command_clear s text name it _ at t _ _ found.named found.has (cleared_is s at t) (clear_typed s name at t found))) refl refl
-
-pub names_clears : (s : Schema) (at tree : ℕ) → Finds s (codes "names") at (names_at tree)
-    → Means s names_clear (command.Delete at (record { lets = []; body = scanning tree }))
-names_clears s at tree found = clears s names_clear (codes "names") names_clear_parts at (names_at tree) found
-
-pub verdicts_clears : (s : Schema) (at tree : ℕ) → Finds s (codes "verdicts") at (verdicts_at tree)
-    → Means s verdicts_clear (command.Delete at (record { lets = []; body = scanning tree }))
-verdicts_clears s at tree found = clears s verdicts_clear (codes "verdicts") verdicts_clear_parts at (verdicts_at tree) found
-
-pub parked_clears : (s : Schema) (at tree : ℕ) → Finds s (codes "parked") at (parked_at tree)
-    → Means s parked_clear (command.Delete at (record { lets = []; body = scanning tree }))
-parked_clears s at tree found = clears s parked_clear (codes "parked") parked_clear_parts at (parked_at tree) found
 
 abbrev pub desk_clear : List ℕ
 desk_clear = codes "DELETE FROM desk"

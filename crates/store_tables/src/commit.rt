@@ -1,13 +1,10 @@
 //! A message's arrival, and a new roster's text, each in one commit.
 
-ghost use Rattle.std.specs.Prelude.{◌≡◌, ◌≢◌, true, false, AllPairs, Contains};
-ghost use Rattle.std.specs.Prelude.{IfErr, IfOk, OnOk, OnErr};
+ghost use Rattle.std.specs.Prelude.{◌≡◌, true, false, IfErr, IfOk, OnOk, OnErr};
 ghost use Rattle.sqlite.specs.State.{HasCleanDisk, IsLive, Survives};
 ghost use Rattle.sqlite.specs.Held.{state};
-ghost use Rattle.messages.specs.Wire.{wire, IsMessage};
-ghost use Rattle.messages.specs.declared.message.Message.{Message as AnyMessage};
-ghost use Rattle.store_tables.specs.Sets.{Lists};
-ghost use Rattle.store_tables.specs.Kept.{HoldsText, IsDeskDatabase, Spares};
+ghost use Rattle.messages.specs.Wire.{wire};
+ghost use Rattle.store_tables.specs.Kept.{IsDeskDatabase, Spares};
 ghost use Rattle.store_tables.specs.SqliteStates.{IsUp, Rests};
 ghost use Rattle.store_tables.specs.Stored.{IsWritten, content_of, has, with_roster, with_text};
 ghost use Rattle.store_tables.specs.Committed.{ArrivesAt, ChangesAt};
@@ -16,7 +13,7 @@ ghost use Rattle.store_tables.specs.Causes.{IsExplained};
 
 use crate::arrival::{Arrival, receive};
 use crate::fault::Fault;
-use crate::roster::replace_within;
+use crate::roster::record;
 use messages::Message;
 use sqlite::{Alter, Connection};
 use std::alloc::Global;
@@ -75,20 +72,11 @@ pub fn arrive<S: Alter>(
     Ok(arrival)
 }
 
-/// Replaces the desk's roster text, and makes all rows anew from its messages, in one commit.
-pub fn replace<S: Alter>(
-    alloc: Global,
-    conn: &mut Connection<S>,
-    roster: &str,
-    messages: &[Message],
-) -> Result<(), Fault>
+/// Replaces the desk's roster text, in one commit. The messages and their rows stay.
+pub fn replace<S: Alter>(conn: &mut Connection<S>, roster: &str) -> Result<(), Fault>
     requires autocommit { conn.old.in_transaction ≡ false }
     requires rests { Rests (state S.Store conn.old) }
     requires desk { IsUp (state S.Store conn.old) → IsDeskDatabase (state S.Store conn.old).now }
-    requires listed { IsUp (state S.Store conn.old)
-        → Lists (HoldsText (state S.Store conn.old).now) messages.now }
-    requires once { AllPairs (λ m n. m ≢ n) messages.now }
-    requires messages { (m : AnyMessage) → Contains messages.now m → IsMessage m }
     ensures rests { Rests (state S.Store conn.new) }
     ensures was_up { IsUp (state S.Store conn.new) → IsUp (state S.Store conn.old) }
     ensures was_clean { HasCleanDisk (state S.Store conn.new)
@@ -108,7 +96,7 @@ pub fn replace<S: Alter>(
         IsUp (state S.Store conn.old) × ChangesAt roster.now (state S.Store conn.old).now trees) }
 {
     let mut tx = conn.transaction();
-    replace_within(alloc, &mut tx, roster, messages)?;
+    record(&mut tx, roster)?;
     tx.commit()?;
     Ok(())
 }

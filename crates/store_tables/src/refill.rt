@@ -1,17 +1,15 @@
-//! The rows of a desk's tables, made anew from its messages.
+//! The rows of a desk's tables, made from its messages.
 
 ghost use Rattle.std.specs.Prelude.{◌≢◌, AllPairs, Contains, OnOk};
 ghost use Rattle.sqlite.specs.Held.{state};
 ghost use Rattle.messages.specs.Wire.{IsMessage};
 ghost use Rattle.messages.specs.declared.message.Message.{Message as AnyMessage};
-ghost use Rattle.store_tables.specs.private.Changes.{IsEmptied};
 ghost use Rattle.store_tables.specs.Steps.{InStep, TakesStep};
 ghost use Rattle.store_tables.specs.Steps.{Refilled};
-ghost use Rattle.store_tables.specs.private.Turning.{Renewed, Rowwise, Settled, Turned};
+ghost use Rattle.store_tables.specs.private.Turning.{Settled};
 
 use crate::arrival::settle;
 use crate::fault::Fault;
-use crate::statements::{clear_names, clear_parked, clear_verdicts};
 use messages::{Message, text};
 use sqlite::{Alter, Transaction};
 use std::alloc::Global;
@@ -47,33 +45,4 @@ pub fn refill_rows<S: Alter>(
         refill_one(alloc, tx, message)?;
     }
     Ok(())
-}
-
-/// Takes all rows out of the three tables.
-fn clear<S: Alter>(tx: &mut Transaction<'_, S>) -> Result<(), Fault>
-    ensures turned { InStep (state S.Store tx.old.conn.now) (state S.Store tx.new.conn.now) (λ a b.
-        OnOk result (Turned (Rowwise IsEmptied) (Rowwise IsEmptied) (Rowwise IsEmptied) a b)) }
-    ensures step { TakesStep S.Store tx.old tx.new }
-{
-    clear_names(tx)?;
-    clear_verdicts(tx)?;
-    clear_parked(tx)?;
-    Ok(())
-}
-
-/// Rebuilds the rows of the three tables from the messages, whatever they were before. No message
-/// comes twice in the list.
-pub(crate) fn renew<S: Alter>(
-    alloc: Global,
-    tx: &mut Transaction<'_, S>,
-    messages: &[Message],
-) -> Result<(), Fault>
-    requires once { AllPairs (λ m n. m ≢ n) messages.now }
-    requires messages { (m : AnyMessage) → Contains messages.now m → IsMessage m }
-    ensures renewed { InStep (state S.Store tx.old.conn.now)
-        (state S.Store tx.new.conn.now) (λ a b. OnOk result (Renewed messages.now a b)) }
-    ensures step { TakesStep S.Store tx.old tx.new }
-{
-    clear(tx)?;
-    refill_rows(alloc, tx, messages)
 }

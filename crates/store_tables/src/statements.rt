@@ -5,7 +5,7 @@ ghost use Rattle.sqlite.specs.Held.{state};
 ghost use Rattle.store_tables.specs.Rows.{OfName};
 ghost use Rattle.store_tables.specs.Causes.{IsExplained};
 ghost use Rattle.store_tables.specs.Kept.{IsKeyed, IsTidy};
-ghost use Rattle.store_tables.specs.private.Changes.{Gains, IsEmptied, Loses};
+ghost use Rattle.store_tables.specs.private.Changes.{Gains, Loses};
 ghost use Rattle.store_tables.specs.Steps.{InStep, TakesStep};
 ghost use Rattle.store_tables.specs.private.Stepping.{Finds, FindsParked, FindsText};
 ghost use Rattle.store_tables.specs.Steps.{IsBare, Marked, Says};
@@ -159,33 +159,6 @@ pub(crate) fn parked_of<S: Alter>(
         "SELECT body FROM parked WHERE asker = ?1 AND no = ?2",
         params![asker, number],
     )
-}
-
-/// Deletes all rows of `names`.
-pub(crate) fn clear_names<S: Alter>(tx: &mut Transaction<'_, S>) -> Result<usize, Error>
-    ensures wrote { InStep (state S.Store tx.old.conn.now) (state S.Store tx.new.conn.now)
-        (λ a b. OnOk result (Wrote (codes "names") IsEmptied a b)) }
-    ensures step { TakesStep S.Store tx.old tx.new }
-{
-    tx.execute("DELETE FROM names", &[])
-}
-
-/// Deletes all rows of `verdicts`.
-pub(crate) fn clear_verdicts<S: Alter>(tx: &mut Transaction<'_, S>) -> Result<usize, Error>
-    ensures wrote { InStep (state S.Store tx.old.conn.now) (state S.Store tx.new.conn.now)
-        (λ a b. OnOk result (Wrote (codes "verdicts") IsEmptied a b)) }
-    ensures step { TakesStep S.Store tx.old tx.new }
-{
-    tx.execute("DELETE FROM verdicts", &[])
-}
-
-/// Deletes all rows of `parked`.
-pub(crate) fn clear_parked<S: Alter>(tx: &mut Transaction<'_, S>) -> Result<usize, Error>
-    ensures wrote { InStep (state S.Store tx.old.conn.now) (state S.Store tx.new.conn.now)
-        (λ a b. OnOk result (Wrote (codes "parked") IsEmptied a b)) }
-    ensures step { TakesStep S.Store tx.old tx.new }
-{
-    tx.execute("DELETE FROM parked", &[])
 }
 
 /// Deletes the row of `desk`.

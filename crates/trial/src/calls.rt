@@ -24,6 +24,8 @@ pub enum Call {
     Both,
     /// The desk is rebuilt with this roster.
     Rebuild(Rules),
+    /// The desk is opened with the roster that it has, and takes this one.
+    Take(Rules),
 }
 
 /// How a call ended.
@@ -86,32 +88,90 @@ fn rebuilt<K: Keeper>(alloc: Global, parts: (Roster, Policy), keeper: K) -> (End
     }
 }
 
-/// Makes the call with this roster and base.
-fn made<K: Keeper>(
+/// The desk takes the roster, and gives its keeper up.
+fn takes<K: Keeper>(mut desk: Desk<K>, roster: Roster) -> (Ended, K) {
+    let answer = match desk.take_roster(roster) {
+        Ok(()) => Ended::Done,
+        Err(refusal) => Ended::Refused(refusal),
+    };
+    (answer, desk.into_keeper())
+}
+
+/// Opens a desk over the keeper, which then takes another roster.
+fn taken<K: Keeper>(
     alloc: Global,
-    call: Call,
     parts: (Roster, Policy),
+    other: Roster,
+    keeper: K,
+) -> (Ended, K) {
+    match Desk::open(alloc, parts.0, parts.1, keeper) {
+        Ok(desk) => takes(desk, other),
+        Err((refusal, keeper)) => {
+            drop(other);
+            (Ended::Refused(refusal), keeper)
+        }
+    }
+}
+
+/// Opens a desk of the full roster over the keeper, and delivers the bodies.
+fn opened_over<K: Keeper>(
+    alloc: Global,
+    bodies: &[&str],
     keeper: K,
 ) -> (Result<Ended, Trouble>, K) {
-    let (answer, keeper) = match call {
-        Call::Open => opened(alloc, parts, &[], keeper),
-        Call::Request => opened(alloc, parts, &[REQUEST], keeper),
-        Call::Approval => opened(alloc, parts, &[APPROVAL], keeper),
-        Call::Both => opened(alloc, parts, &[APPROVAL, REQUEST], keeper),
-        Call::Rebuild(_) => rebuilt(alloc, parts, keeper),
+    match parts(alloc, Rules::Full) {
+        Ok(parts) => {
+            let (answer, keeper) = opened(alloc, parts, bodies, keeper);
+            (Ok(answer), keeper)
+        }
+        Err(trouble) => (Err(trouble), keeper),
+    }
+}
+
+/// Rebuilds the desk that the keeper keeps with this roster.
+fn rebuilt_over<K: Keeper>(alloc: Global, rules: Rules, keeper: K) -> (Result<Ended, Trouble>, K) {
+    match parts(alloc, rules) {
+        Ok(parts) => {
+            let (answer, keeper) = rebuilt(alloc, parts, keeper);
+            (Ok(answer), keeper)
+        }
+        Err(trouble) => (Err(trouble), keeper),
+    }
+}
+
+/// Opens the desk that the keeper keeps with the roster that it has, and has it take another one.
+fn taken_over<K: Keeper>(
+    alloc: Global,
+    rules: Rules,
+    mut keeper: K,
+) -> (Result<Ended, Trouble>, K) {
+    let own = match thing_of(keeper.look()) {
+        Thing::Desk(own) => own,
+        Thing::State(_) => Rules::Full,
     };
-    (Ok(answer), keeper)
+    match (parts(alloc, own), parts(alloc, rules)) {
+        (Ok(own), Ok((other, base))) => {
+            drop(base);
+            let (answer, keeper) = taken(alloc, own, other, keeper);
+            (Ok(answer), keeper)
+        }
+        (own, other) => {
+            drop(own);
+            drop(other);
+            (Err(Trouble::NoMemory), keeper)
+        }
+    }
 }
 
 /// Makes the call over what the keeper keeps, and hands the keeper on.
 pub fn make_call<K: Keeper>(alloc: Global, call: Call, keeper: K) -> (Result<Ended, Trouble>, K) {
-    let rules = match call {
-        Call::Open | Call::Request | Call::Approval | Call::Both => Rules::Full,
-        Call::Rebuild(rules) => rules,
-    };
-    match parts(alloc, rules) {
-        Ok(parts) => made(alloc, call, parts, keeper),
-        Err(trouble) => (Err(trouble), keeper),
+    match call {
+        Call::Open => opened_over(alloc, &[], keeper),
+        Call::Request => opened_over(alloc, &[REQUEST], keeper),
+        Call::Approval => opened_over(alloc, &[APPROVAL], keeper),
+        Call::Both => opened_over(alloc, &[APPROVAL, REQUEST], keeper),
+        Call::Rebuild(rules) => rebuilt_over(alloc, rules, keeper),
+        Call::Take(rules) => taken_over(alloc, rules, keeper),
     }
 }
 

@@ -23,6 +23,7 @@ enum Part {
     Approval,
     Opening,
     Rebuilding,
+    Taking,
     Migration,
     Both,
 }
@@ -95,6 +96,18 @@ fn say_rebuilding(alloc: Global, said: &mut String) -> Result<(), Trouble> {
     say_stops_after(alloc, said, name, &[Call::Request, Call::Approval], case)
 }
 
+/// An open desk that holds both takes a roster that does not admit the request.
+fn say_taking(alloc: Global, said: &mut String) -> Result<(), Trouble> {
+    let case = Case {
+        call: Call::Take(Rules::Short),
+        first: State::Granted,
+        committed: State::Lapsed,
+        second: State::Lapsed,
+    };
+    let name = "An open desk takes another roster";
+    say_stops_after(alloc, said, name, &[Call::Request, Call::Approval], case)
+}
+
 /// A desk of an older form that holds both is rebuilt.
 fn say_migration(alloc: Global, said: &mut String) -> Result<(), Trouble> {
     let case = Case {
@@ -132,6 +145,7 @@ fn say_part(alloc: Global, said: &mut String, part: Part) -> Result<(), Trouble>
         Part::Approval => say_approval(alloc, said),
         Part::Opening => say_opening(alloc, said),
         Part::Rebuilding => say_rebuilding(alloc, said),
+        Part::Taking => say_taking(alloc, said),
         Part::Migration => say_migration(alloc, said),
         Part::Both => say_both(alloc, said),
     }
@@ -152,6 +166,7 @@ fn main(rt: HostRuntime) -> ExitCode {
         Part::Approval,
         Part::Opening,
         Part::Rebuilding,
+        Part::Taking,
         Part::Migration,
         Part::Both,
     ] {

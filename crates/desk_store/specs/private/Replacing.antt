@@ -1,16 +1,26 @@
 -- What a call that replaces the roster's text does to a connection.
-use Rattle.std.specs.Prelude.{◌≡◌, ◌⊎◌, List, ℕ, OnOk, OnErr, Result}
+use Rattle.std.specs.Prelude.{◌≡◌, ◌⊎◌, ⊤, List, ℕ, OnOk, OnErr, Result}
 use Rattle.sqlite.specs.Tree.{Trees}
 use Rattle.sqlite.specs.Effect.{Database, IsDatabase}
 use Rattle.sqlite.specs.State.{HasCleanDisk, State, Survives}
 use Rattle.store_tables.specs.SqliteStates.{IsUp, Rests}
 use Rattle.store_tables.specs.Stored.{content_of, with_roster}
 use Rattle.store_schema.specs.Beside.{KeepsBeside}
+use Rattle.store_schema.specs.declared.shape.Shape.{Shape}
+use Rattle.store_schema.specs.declared.shape.Shape.TheVariants as shape
 use Rattle.store_opening.specs.Opened.{IsKept, IsOldDesk}
 
 -- a desk of either form
 abbrev pub IsEither : Database → Type 0
 IsEither db = IsKept db ⊎ IsOldDesk db
+
+-- the tables of a desk of today
+abbrev pub IsOfToday : Shape → Type 0
+IsOfToday shape.Free = ⊥
+IsOfToday shape.Desk = ⊤
+IsOfToday shape.Migrated = ⊤
+IsOfToday shape.Old = ⊥
+IsOfToday shape.Other = ⊥
 
 -- a desk of today, with the other roster text and the messages that were there
 pub record Becomes (roster : List ℕ) (old new : Database) : Type 0 where

@@ -45,7 +45,3 @@ pub record Joins (name : RequestName) (parked old new : RowSet) : Type 0 where
   pub kept : (r : List Value) → old r → new r
   pub joined : (p : List Value) → parked p → OfName 1 name p
       → (v : VerdictFields) × IsOf p v × new (verdict_row v)
-
--- no row is left
-abbrev pub IsEmptied : RowSet → RowSet → Type 0
-IsEmptied old new = (r : List Value) → ¬ new r

@@ -13,11 +13,9 @@ use Rattle.messages.specs.Wire.{wire, IsMessage}
 use Rattle.messages.specs.declared.message.Message.{Message}
 use Rattle.messages.specs.declared.message.Message.TheVariants.{Verdict}
 use Rattle.store_tables.specs.Rows.{RowSet, IsRow, OfName, verdict_row}
-use Rattle.store_tables.specs.Sets.{Lists}
 use Rattle.store_tables.specs.Stored.{Texts, content_of, has, recorded, with_roster, with_text}
 use Rattle.store_tables.specs.private.Changes.{Gains, Joins, Loses, Names}
-use Rattle.store_tables.specs.Kept.{HasRows, HoldsText, IsDeskDatabase, IsTidy, Spares, table_in}
-use Rattle.store_tables.specs.Steps.{texts_in}
+use Rattle.store_tables.specs.Kept.{HasRows, IsDeskDatabase, IsTidy, Spares, table_in}
 
 -- the rows are those that were there
 abbrev pub Stays : List Row → List Row → Type 0
@@ -112,20 +110,6 @@ pub record Received (text : List ℕ) (old new : State) : Type 0 where
   pub receives : IsDatabase old.now → IsDeskDatabase old.now → Receives text old.now new.now
   pub repeats : IsDeskDatabase old.now → has (content_of old.now) text ≡ true → new.now ≡ old.now
 
--- The three tables have the rows of these messages, whatever they had before.
-pub record Renews (messages : List Message) (old new : Database) : Type 0 where
-  pub sound : IsDatabase old → IsDatabase new
-  pub schema : new.schema ≡ old.schema
-  pub tidy : IsTidy new
-  pub rows : HasRows (texts_in messages) new
-  pub desk : table_in new (codes "desk") ≡ table_in old (codes "desk")
-  pub messages_same : table_in new (codes "messages") ≡ table_in old (codes "messages")
-  pub spares : Spares old new
-
-pub record Renewed (messages : List Message) (old new : State) : Type 0 where
-  pub mode : IsTrue new.in_transaction
-  pub renews : IsTidy old.now → Renews messages old.now new.now
-
 -- The roster's text was recorded in place of the one before; the rows and the messages are as they
 -- were.
 pub record Records (roster : List ℕ) (old new : Database) : Type 0 where
@@ -149,10 +133,3 @@ pub record Replaces (roster : List ℕ) (old new : Database) : Type 0 where
   pub desk : IsDeskDatabase new
   pub content : content_of new ≡ with_roster roster (content_of old)
   pub spares : Spares old new
-
--- the same, if these are the desk's messages
-pub record Replaced (roster : List ℕ) (messages : List Message) (old new : State) : Type 0 where
-  pub was_open : IsTrue old.is_open
-  pub mode : IsTrue new.in_transaction
-  pub replaces : IsDeskDatabase old.now
-      → Lists (HoldsText old.now) messages → Replaces roster old.now new.now

@@ -11,5 +11,6 @@ returns c = record {
     record { roster = refl; base = refl; store = (_, refl, (refl, λ same. cc)); sync = inl refl },
     (_, refl, (refl, refl)),
     refl,
+    refl,
   );
 }

@@ -3,31 +3,17 @@ use Rattle.std.proofs.Common.{subst, sym}
 use Rattle.sqlite.specs.Effect.{Database}
 use Rattle.store_tables.specs.Kept.{HoldsText}
 use Rattle.store_tables.specs.Sets.{Lists}
-use Rattle.store_opening.specs.Opened.{IsKept, IsOldDesk}
-use Rattle.desk_store.proofs.ReplacingLemmas.{found_older, found_today, read_only, read_refused, then_replaces}
+use Rattle.store_opening.specs.Opened.{IsOldDesk}
+use Rattle.desk_store.proofs.ReplacingLemmas.{found_older, of_today, read_only, read_refused, then_replaces}
 use Rattle.desk_store.proofs.replacing.replace_in.Goals as goal
-
-pub replace_today-requires-clause-rests : goal.replace_today-requires-clause-rests
-replace_today-requires-clause-rests g c = c.look.ensures.reads.rests
 
 pub replace_today-requires-clause-desk : goal.replace_today-requires-clause-desk
 replace_today-requires-clause-desk g c up =
-    subst IsKept (sym (c.look.ensures.reads.same up))
-    (found_today (state g.S.Store c.args.conn.now).now c.in_ok-found.found c.in-Desk.contents c.in-Desk.is (c.in_ok-found.ensures.found up)).0
-
-pub replace_today-requires-clause-listed : goal.replace_today-requires-clause-listed
-replace_today-requires-clause-listed g c up =
-    subst (λ (d : Database). Lists (HoldsText d) c.in-Desk.contents.messages.items) (sym (c.look.ensures.reads.same up))
-    (found_today (state g.S.Store c.args.conn.now).now c.in_ok-found.found c.in-Desk.contents c.in-Desk.is (c.in_ok-found.ensures.found up)).2
+    of_today (state g.S.Store c.args.conn.now).now c.shape_in.result c.shape_in.ensures (c.is_of_today.ensures c.if-is_of_today.true) (c.requires.kept up)
 
 pub returns-in_err-found : goal.returns-in_err-found
 returns-in_err-found g c = read_only c.args.roster.now (state g.S.Store c.args.conn.now)
     (state g.S.Store c.look.new.conn) c.look.ensures.reads c.from_residual.result c.from_residual.ensures.0
-
-pub returns-in-Desk : goal.returns-in-Desk
-returns-in-Desk g c =
-    then_replaces c.args.roster.now (state g.S.Store c.args.conn.now) (state g.S.Store c.look.new.conn) c.look.ensures.reads
-    (state g.S.Store c.replace_today.new.conn) c.replace_today.result c.replace_today.ensures
 
 pub replace_older-requires-clause-rests : goal.replace_older-requires-clause-rests
 replace_older-requires-clause-rests g c = c.look.ensures.reads.rests
@@ -46,5 +32,5 @@ returns-in-Old g c =
     then_replaces c.args.roster.now (state g.S.Store c.args.conn.now) (state g.S.Store c.look.new.conn) c.look.ensures.reads
     (state g.S.Store c.replace_older.new.conn) c.replace_older.result c.replace_older.ensures
 
-pub returns-in-Empty : goal.returns-in-Empty
-returns-in-Empty g c = read_refused c.args.roster.now (state g.S.Store c.args.conn.now) (state g.S.Store c.look.new.conn) c.look.ensures.reads _
+pub returns : goal.returns
+returns g c = read_refused c.args.roster.now (state g.S.Store c.args.conn.now) (state g.S.Store c.look.new.conn) c.look.ensures.reads _

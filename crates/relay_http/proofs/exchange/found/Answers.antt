@@ -11,9 +11,9 @@ returns-then-is_cut_short c =
     let bytes = c.args.bytes.now in
     let missing = c.in-Some.ensures.some in (
       c.requires,
-      subst (λ (m : ℕ). LacksContent bytes m)
+      subst (λ (m : ℕ). LacksContent c.args.offered bytes m)
           (ap (λ (len : ℕ). missing.0 - (length bytes - len)) (sym at.len) ∙ sym missing.2)
-          (lacks_by bytes h x.0 missing.0 at.has (x.1 h at) (sym x.2 ∙ c.if-is_cut_short.true) (sym at.size ∙ missing.1)),
+          (lacks_by c.args.offered bytes h x.0 missing.0 at.has (x.1 h at) (sym x.2 ∙ c.if-is_cut_short.true) (sym at.size ∙ missing.1)),
     )
 
 pub returns-else-is_cut_short : goal.returns-else-is_cut_short
@@ -21,7 +21,7 @@ returns-else-is_cut_short c =
     let x = c.is_cut_short.ensures in
     let h = c.requires.0 in
     let at = c.requires.1 in
-    (c.requires, settled_by c.args.bytes.now x.0 (h, at.has, x.1 h at) (sym x.2 ∙ c.if-is_cut_short.false))
+    (c.requires, settled_by c.args.offered c.args.bytes.now x.0 (h, at.has, x.1 h at) (sym x.2 ∙ c.if-is_cut_short.false))
 
 pub returns-in-None : goal.returns-in-None
-returns-in-None c = (c.requires, settled_whole c.args.bytes.now c.args.head c.requires (c.lacking.ensures.none c.in-None.is))
+returns-in-None c = (c.requires, settled_whole c.args.offered c.args.bytes.now c.args.head c.requires (c.lacking.ensures.none c.in-None.is))

@@ -1,5 +1,5 @@
 use Rattle.std.proofs.Common.{◌≡◌, ℕ, List, sym, subst, ap, ◌∙◌, cond, Bool, true, codes, Result, Ok, Err}
-use Rattle.relay_http.specs.Request.{Action, action_of, grants, host_file_after, named_request, refused, report, requests_after}
+use Rattle.relay_http.specs.Request.{Action, action_of, grants, host_at, host_file_after, named_request, refused, report, requests_after, open_requests}
 use Rattle.relay_http.specs.Content.{content_by_fields}
 use Rattle.relay_http.specs.Fields.{Fields}
 use Rattle.relay_http.specs.Routes.{second_parameter, parameter}
@@ -48,6 +48,20 @@ returns-in-Report c =
     (λ named takes _ fields _. action_at (λ at. report at) (allow GetOrHead method)
     (named (codes "at")) c.args.taken.now action allowed takes c.report_at.ensures)
 
+pub returns-in-OpenRequests : goal.returns-in-OpenRequests
+returns-in-OpenRequests c =
+    let method = c.args.method.now in
+    let action = action_of c.open_at.result in
+    let allowed : allow GetOrHead method ≡ true =
+    ap (λ (p : Route). allow (methods_of p) method) (sym c.in-OpenRequests.is)
+    ∙ ap (λ (m : Methods). allow m method) (sym c.methods.ensures)
+    ∙ sym c.if-not-allow.ensures in
+    subst (λ (p : Route). (named : List ℕ → List ℕ) → named (parameter p) ≡ c.args.taken.now → named (second_parameter p) ≡ c.args.second.now
+    → (fields : Fields) → c.args.size ≡ size_of fields → Dates (by_method p method named fields c.args.rest.now) action)
+    (sym c.in-OpenRequests.is)
+    (λ named takes _ fields _. action_at (λ at. open_requests at) (allow GetOrHead method)
+    (named (codes "at")) c.args.taken.now action allowed takes c.open_at.ensures)
+
 pub returns-in-HostFileAfter : goal.returns-in-HostFileAfter
 returns-in-HostFileAfter c =
     let method = c.args.method.now in
@@ -60,6 +74,19 @@ returns-in-HostFileAfter c =
     → (fields : Fields) → c.args.size ≡ size_of fields → Dates (by_method p method named fields c.args.rest.now) action) (sym c.in-HostFileAfter.is)
     (λ named takes dates fields _. action_at (λ at. host_file_after (named (codes "host")) at) (allow GetOrHead method) (named (codes "at")) c.args.second.now
     action allowed dates (subst (λ (host : List ℕ). Dates (host_file_after host c.args.second.now) action) (sym takes) c.host_file_after.ensures))
+
+pub returns-in-HostAt : goal.returns-in-HostAt
+returns-in-HostAt c =
+    let method = c.args.method.now in
+    let action = action_of c.host_at.result in
+    let allowed : allow GetOrHead method ≡ true =
+    ap (λ (p : Route). allow (methods_of p) method) (sym c.in-HostAt.is)
+    ∙ ap (λ (m : Methods). allow m method) (sym c.methods.ensures)
+    ∙ sym c.if-not-allow.ensures in
+    subst (λ (p : Route). (named : List ℕ → List ℕ) → named (parameter p) ≡ c.args.taken.now → named (second_parameter p) ≡ c.args.second.now
+    → (fields : Fields) → c.args.size ≡ size_of fields → Dates (by_method p method named fields c.args.rest.now) action) (sym c.in-HostAt.is)
+    (λ named takes dates fields _. action_at (λ at. host_at (named (codes "host")) at) (allow GetOrHead method) (named (codes "at")) c.args.second.now
+    action allowed dates (subst (λ (host : List ℕ). Dates (host_at host c.args.second.now) action) (sym takes) c.host_at.ensures))
 
 pub returns-in-RequestsAfter : goal.returns-in-RequestsAfter
 returns-in-RequestsAfter c =

@@ -13,16 +13,16 @@ pub returns : goal.returns
 returns g c =
     let roster = c.args.roster.now in
     let old = state g.S.Store c.args.conn.now in
-    let last = state g.S.Store c.replace_within.new.tx.conn.now in
+    let last = state g.S.Store c.record.new.tx.conn.now in
     let end = state g.S.Store c.commit.new.self.0 in
     let begun = c.transaction-tx.ensures.begun in
-    let step = rw begun at c.replace_within.ensures.step.states in
-    let received = λ (clean : HasCleanDisk last). (rw begun at c.in_ok-replace_within.ensures.replaced) clean refl in
+    let step = rw begun at c.record.ensures.step.states in
+    let received = λ (clean : HasCleanDisk last). (rw begun at c.in_ok-record.ensures.recorded) clean refl in
     let ok = λ (clean : HasCleanDisk end). let it = c.in_ok-commit.ensures.ok clean in
     let both : IsTrue last.in_transaction × Shows last end last.now last.now false = (it.0, it.1) in
     both in
     let ends =
-    commit_ends roster old last end c.requires.rests step _ c.commit.ensures.survives c.args.messages.now received c.requires.desk c.requires.listed ok in
+    commit_ends roster old last end c.requires.rests step _ c.commit.ensures.survives c.utf8.roster received c.requires.desk ok in
     let same : c.commit.new.self.0 ≡ c.conn-2-1.given.0 = search rules in
     let all = subst (λ h. Ends old (state g.S.Store h)) same ends in
     record {
@@ -30,28 +30,28 @@ returns g c =
       was_up = all.was_up;
       was_clean = all.was_clean;
       up = subst (λ h. HasCleanDisk (state g.S.Store h) → IsUp (state g.S.Store h)) same
-          (commit_up roster old last end c.requires.rests step _ c.commit.ensures.survives c.args.messages.now received c.requires.desk c.requires.listed ok);
+          (commit_up roster old last end c.requires.rests step _ c.commit.ensures.survives c.utf8.roster received c.requires.desk ok);
       desk = subst (λ h. IsUp (state g.S.Store h) → IsDeskDatabase (state g.S.Store h).now) same
-          (commit_desk roster old last end c.requires.rests step _ c.commit.ensures.survives c.args.messages.now received c.requires.desk c.requires.listed ok);
+          (commit_desk roster old last end c.requires.rests step _ c.commit.ensures.survives c.utf8.roster received c.requires.desk ok);
       replaced =
           subst (λ h. IsUp (state g.S.Store h) → content_of (state g.S.Store h).now ≡ with_roster roster (content_of old.now)) same (commit_replaced roster
-          old last end c.requires.rests step _ c.commit.ensures.survives c.args.messages.now received c.requires.desk c.requires.listed ok);
+          old last end c.requires.rests step _ c.commit.ensures.survives c.utf8.roster received c.requires.desk ok);
       others = subst (λ h. IsUp (state g.S.Store h) → Spares old.now (state g.S.Store h).now) same (commit_spared roster old last
-          end c.requires.rests step _ c.commit.ensures.survives c.args.messages.now received c.requires.desk c.requires.listed ok);
+          end c.requires.rests step _ c.commit.ensures.survives c.utf8.roster received c.requires.desk ok);
       unchanged = λ up. tt;
       survives = subst (λ h. Survives old (state g.S.Store h) (λ trees. IsUp old × ChangesAt roster old.now trees)) same (replace_survives roster old last end
-          c.requires.rests step _ c.commit.ensures.survives c.args.messages.now received c.requires.desk c.requires.listed (λ db is. is));
+          c.requires.rests step _ c.commit.ensures.survives c.utf8.roster received c.requires.desk (λ db is. is));
     }
 
 pub returns-in_err-commit-clause-survives : goal.returns-in_err-commit-clause-survives
 returns-in_err-commit-clause-survives g c =
     let roster = c.args.roster.now in
     let old = state g.S.Store c.args.conn.now in
-    let last = state g.S.Store c.replace_within.new.tx.conn.now in
+    let last = state g.S.Store c.record.new.tx.conn.now in
     let end = state g.S.Store c.commit.new.self.0 in
     let begun = c.transaction-tx.ensures.begun in
-    let step = rw begun at c.replace_within.ensures.step.states in
-    let received = λ (clean : HasCleanDisk last). (rw begun at c.in_ok-replace_within.ensures.replaced) clean refl in
+    let step = rw begun at c.record.ensures.step.states in
+    let received = λ (clean : HasCleanDisk last). (rw begun at c.in_ok-record.ensures.recorded) clean refl in
     let same : c.commit.new.self.0 ≡ c.conn-2-1.given.0 = search rules in
     subst (λ h. Survives old (state g.S.Store h) (λ trees. IsUp old × ChangesAt roster old.now trees)) same (replace_survives roster old last end
-    c.requires.rests step _ c.commit.ensures.survives c.args.messages.now received c.requires.desk c.requires.listed (λ db is. is))
+    c.requires.rests step _ c.commit.ensures.survives c.utf8.roster received c.requires.desk (λ db is. is))

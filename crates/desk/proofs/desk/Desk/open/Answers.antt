@@ -29,6 +29,7 @@ invariant_of-result g c =
       c.in-Ok.ensures.durable,
       known,
       known_of_up (K.is_clean new) (K.is_up new) c.known_at_first.result c.in-Ok.ensures.live,
+      tt,
     )
 
 pub returns-in-Ok-clause-opens : goal.returns-in-Ok-clause-opens

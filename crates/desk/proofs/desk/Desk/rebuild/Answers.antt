@@ -15,7 +15,7 @@ pub invariant_of-result : goal.invariant_of-result
 invariant_of-result g c =
     let fits : FitsBase c.args.base = search rules in
     let text : c.text.result.now ≡ c.args.roster.text = search rules in
-    (subst FitsBase (sym c.new.ensures) fits, c.in-Ok.ensures.desk, λ up. c.in-Ok.ensures.roster up ∙ text, c.in-Ok.ensures.durable, tt, tt)
+    (subst FitsBase (sym c.new.ensures) fits, c.in-Ok.ensures.desk, λ up. c.in-Ok.ensures.roster up ∙ text, c.in-Ok.ensures.durable, tt, tt, tt)
 
 pub returns-in-Ok-clause-lasting : goal.returns-in-Ok-clause-lasting
 returns-in-Ok-clause-lasting g c up clean =

@@ -1,8 +1,10 @@
-use Rattle.std.proofs.Common.{◌≡◌, ℕ, Result, Err, refl, sym, ap, ◌∙◌, length, length-append, arith}
-use Rattle.relay_http.specs.Receiving.{after_reception}
+use Rattle.std.proofs.Common.{◌≡◌, ℕ, Result, Err, refl, sym, ap, subst, ◌∙◌, length, length-append, arith}
+use Rattle.relay_http.specs.Needs.{Taken}
+use Rattle.relay_http.specs.Receiving.{IsOfSocket, after_reception}
 use Rattle.relay_http.specs.declared.exchange.ReceiveFault.{ReceiveFault}
+use Rattle.relay_http.specs.declared.offered.Offered.{Offered}
 use Rattle.relay_http.proofs.ReceivingLemmas.{come_none, come_on, received_ended, received_whole}
-use Rattle.relay_http.proofs.ReceivingLemmas.{stopped_count, stopped_reception, stopped_room, stopped_unread}
+use Rattle.relay_http.proofs.ReceivingLemmas.{stopped_count, stopped_reception, stopped_room, stopped_socket, stopped_unread}
 use Rattle.relay_http.proofs.receiving.Receiving.receive.Goals as goal
 
 same_fault : {why other : ReceiveFault} → why ≡ other → ◌≡◌ {A = Result ℕ ReceiveFault} (Err why) (Err other)
@@ -12,6 +14,7 @@ pub loop-come-init : goal.loop-come-init
 loop-come-init g c = record {
   come = come_none (g.R.Read.remaining c.args.reader.now.inner) c.args.self.come.bytes;
   room = omega arith;
+  socket = refl;
   counted = refl;
   unread = λ _. refl;
 }
@@ -22,6 +25,7 @@ loop-come-preserved g c = record {
       come_on (g.R.Read.remaining c.args.reader.now.inner) (g.R.Read.remaining c.loop-come.reader.inner) (g.R.Read.remaining c.read_on.new.reader.inner)
       c.args.self.come.bytes c.loop-come.come.bytes c.read_on.new.self.bytes c.in-Ok.field-0 c.loop-come.invariant.come c.in-Ok.ensures.read;
   room = omega (arith, c.loop-come.invariant.room, c.in-Ok.ensures.room);
+  socket = c.in-Ok.ensures.socket ∙ c.loop-come.invariant.socket;
   counted = c.in-Ok.ensures.counted ∙ c.loop-come.invariant.counted;
   unread = λ none.
       let x = c.in-Ok.ensures.read in
@@ -36,6 +40,15 @@ returns-in-Ok-eq0-clause-reception g c =
     (come_on (g.R.Read.remaining c.args.reader.now.inner) (g.R.Read.remaining c.loop-come.reader.inner) (g.R.Read.remaining c.read_on.new.reader.inner)
     c.args.self.come.bytes c.loop-come.come.bytes c.read_on.new.self.bytes _ c.loop-come.invariant.come c.in-Ok-eq0.ensures.read)
     (c.in-Ok-eq0.ensures.end (omega arith))
+
+pub returns-in-Ok-eq0-clause-socket : goal.returns-in-Ok-eq0-clause-socket
+returns-in-Ok-eq0-clause-socket g c =
+    ap (λ (t : Taken). t.offered) c.ended.ensures.come ∙ c.in-Ok-eq0.ensures.socket ∙ c.loop-come.invariant.socket
+
+pub returns-in-Err-clause-socket : goal.returns-in-Err-clause-socket
+returns-in-Err-clause-socket g c =
+    subst (λ (o : Offered). IsOfSocket o c.stopped.result) (c.in-Err.ensures.socket ∙ c.loop-come.invariant.socket)
+    (stopped_socket c.read_on.new.self c.in-Err.fault c.stopped.result c.stopped.ensures)
 
 pub returns-in-Err-clause-reception : goal.returns-in-Err-clause-reception
 returns-in-Err-clause-reception g c =
@@ -60,6 +73,9 @@ returns-in-Err-clause-room g c = λ room.
     let full = c.in-Err.ensures.full (same_fault e) in
     let less = c.is_settled.ensures.open c.loop-come-test.true in
     omega (arith, room, c.loop-come.invariant.room, full, less))
+
+pub returns-clause-socket : goal.returns-clause-socket
+returns-clause-socket g c = ap (λ (t : Taken). t.offered) c.whole.ensures.come ∙ c.loop-come.invariant.socket
 
 pub returns-clause-reception : goal.returns-clause-reception
 returns-clause-reception g c =

@@ -1,38 +1,16 @@
-use Rattle.std.proofs.Common.{ℕ, List, [], Option, Some, sym, subst, refl, ap, ◌∙◌, unwrap_or}
-use Rattle.matchit.specs.Params.{walk, named, AllText}
-use Rattle.matchit.specs.Rows.{RowsOf}
-use Rattle.matchit.specs.Router.{RouteOf}
-use Rattle.matchit.specs.Seek.{first}
-use Rattle.relay_http.specs.Routes.{part, RouteTakes, second_parameter, parameter}
-use Rattle.relay_http.specs.declared.route.Route.{Route}
-use Rattle.relay_http.proofs.RouteLemmas.{texts}
+use Rattle.std.proofs.Common.{sym, ◌∙◌}
+use Rattle.relay_http.proofs.RouteLemmas.{lacks_at, none_at, takes_at}
 use Rattle.relay_http.proofs.routes.Routes.find.Goals as goal
 
-pub taken-requires : goal.taken-requires
-taken-requires c =
-    let found = sym (ap (λ (r : RowsOf (RouteOf Route)). first r c.args.target.now) c.self.invariant) ∙ c.in-Ok.ensures.found in
-    let p = c.in-Ok.found.params in
-    subst (λ (path : List ℕ). AllText (walk p.pattern.now p.text.now path p.names.now 0 0))
-    (sym c.in-Ok.ensures.path) (texts c.args.target.now _ found c.requires)
+pub returns-then-has : goal.returns-then-has
+returns-then-has c =
+    let found = c.in-Some.found in
+    takes_at c.args.offered c.args.target.now (found.0, found.1.now, found.2.now) c.in-Some.ensures (sym c.has.ensures ∙ c.if-has.true)
 
-pub second_taken-requires : goal.second_taken-requires
-second_taken-requires c =
-    let found = sym (ap (λ (r : RowsOf (RouteOf Route)). first r c.args.target.now) c.self.invariant) ∙ c.in-Ok.ensures.found in
-    let p = c.in-Ok.found.params in
-    subst (λ (path : List ℕ). AllText (walk p.pattern.now p.text.now path p.names.now 0 0))
-    (sym c.in-Ok.ensures.path) (texts c.args.target.now _ found c.requires)
+pub returns-else-has : goal.returns-else-has
+returns-else-has c =
+    let found = c.in-Some.found in
+    lacks_at c.args.offered c.args.target.now (found.0, found.1.now, found.2.now) c.in-Some.ensures (sym c.has.ensures ∙ c.if-has.false)
 
-pub returns-in-Ok : goal.returns-in-Ok
-unfolding part
-returns-in-Ok c =
-    let found = sym (ap (λ (r : RowsOf (RouteOf Route)). first r c.args.target.now) c.self.invariant) ∙ c.in-Ok.ensures.found in
-    let p = c.in-Ok.found.params in
-    subst (λ (o : Option (RouteOf Route)). RouteTakes o c.args.target.now (Some (c.in-Ok.found.value.now, c.taken.result.now, c.second_taken.result.now)))
-    (sym found) (
-      refl,
-      sym (c.taken.ensures ∙ ap
-          (λ (path : List ℕ). unwrap_or (named (parameter c.in-Ok.found.value.now) (walk p.pattern.now p.text.now path p.names.now 0 0)) [])
-          c.in-Ok.ensures.path),
-      sym (c.second_taken.ensures ∙ ap (λ (path : List ℕ).
-          unwrap_or (named (second_parameter c.in-Ok.found.value.now) (walk p.pattern.now p.text.now path p.names.now 0 0)) []) c.in-Ok.ensures.path),
-    )
+pub returns-in-None : goal.returns-in-None
+returns-in-None c = none_at c.args.offered c.args.target.now c.in-None.ensures

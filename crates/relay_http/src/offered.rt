@@ -1,0 +1,27 @@
+//! Which routes a socket has.
+
+use crate::route::Route;
+
+/// Which routes a socket has.
+#[derive(Clone, Copy, Debug, PartialEq, Eq)]
+pub enum Offered {
+    /// All of them.
+    All,
+    /// Each but that of a relay's messages, so that no message is taken.
+    Questions,
+}
+
+impl Offered {
+    ghost use Rattle.std.specs.Prelude.{◌≡◌};
+    ghost use Rattle.relay_http.specs.Routes.{offers};
+
+    /// Whether a socket has the route.
+    pub(crate) fn has(self, route: Route) -> bool
+        ensures { result ≡ offers self route }
+    {
+        match self {
+            Offered::All => true,
+            Offered::Questions => route.is_question(),
+        }
+    }
+}

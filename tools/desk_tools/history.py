@@ -1,0 +1,83 @@
+"""What a desk was served with, and since when: the folder that packaging/desk-history writes.
+
+It belongs to the desk's account, which alone writes there, so root follows no link in it.
+"""
+
+from __future__ import annotations
+
+import os
+import re
+from typing import NamedTuple
+
+from desk_tools import served
+from desk_tools.served import Failed, Settings
+from steelnewt_client.places import place
+
+LINE = re.compile(r"([0-9]{14}Z) ([0-9a-f]{64}) ([0-9a-f]{64})")
+FILES = {"roster": "roster.toml", "base": "base.sudo"}
+CHANGE = "change"
+
+
+class Line(NamedTuple):
+    """A moment, and the digests of the roster and of the base since then."""
+
+    moment: str
+    roster: str
+    base: str
+
+
+def read(path: str) -> bytes:
+    with open(os.open(path, os.O_RDONLY | os.O_NOFOLLOW | os.O_NONBLOCK), "rb") as file:
+        return file.read()
+
+
+def lines(folder: str) -> list[Line]:
+    """Each moment of a history, in their order."""
+    try:
+        text = read(os.path.join(folder, "moments")).decode("ascii", "replace")
+    except FileNotFoundError:
+        return []
+    found = [LINE.fullmatch(it) for it in text.splitlines()]
+    if None in found:
+        raise Failed(f"{folder}/moments: a line is no moment with two digests")
+    return [Line(*it.groups()) for it in found if it]
+
+
+class History:
+    """The history of the desk with these settings."""
+
+    def __init__(self, settings: Settings, desk: str) -> None:
+        self.store, self.desk = settings.store, desk
+        self.folder = os.path.join(os.path.dirname(settings.store), "history")
+        self.program = place("packaging/desk-history", "libexec/steelnewt/desk-history")
+
+    def last(self) -> Line | None:
+        found = lines(self.folder)
+        return found[-1] if found else None
+
+    def path(self, moment: str, name: str) -> str:
+        return os.path.join(self.folder, moment, name)
+
+    def path_of(self, kind: str, digest: str) -> str | None:
+        """The newest roster or base with this digest that has its folder still."""
+        for line in reversed(lines(self.folder)):
+            path = self.path(line.moment, FILES[kind])
+            if getattr(line, kind) == digest and os.path.exists(path):
+                return path
+        return None
+
+    def reason(self, moment: str) -> str:
+        """Why it was changed then."""
+        told = read(self.path(moment, CHANGE)).decode("utf-8", "replace").splitlines()
+        return "".join(it.removeprefix("why ") for it in told if it.startswith("why "))
+
+    def write(self, roster: str, base: str, words: list[str]) -> Line:
+        """Has it written, as the desk's account, that these are served from now on."""
+        run = [self.program, self.folder, roster, base, *words]
+        said = served.run(run, owner=self.store, DESK=self.desk)
+        for warning in said.splitlines()[:-1]:
+            print(warning)
+        found = self.last()
+        if found is None:
+            raise Failed(f"{self.folder} has no moment")
+        return found
