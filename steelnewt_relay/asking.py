@@ -34,7 +34,7 @@ FIELDS = {
 
 
 class Form:
-    """What somebody filled in, and by field what is wrong with it."""
+    """The fields that somebody filled in, and what is wrong with each."""
 
     def __init__(self, visit: Visit, words: Words) -> None:
         self.visit, self.words = visit, words

@@ -197,7 +197,7 @@ class Finder:
         return [it for it in may if not standing.is_approved_by(it)]
 
     def awake(self, people: list[str]) -> list[str]:
-        """Those people who are not away; all people, if nobody else is left."""
+        """The people who are not away, or everybody if all of them are."""
         now, zone = self.knowledge.now, self.manner.zone
         return [it for it in people if not self.own.is_away(it, now, zone)] or people
 

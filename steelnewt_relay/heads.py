@@ -73,7 +73,7 @@ def urgent_first(found: Sequence[Standing], at: datetime) -> list[Standing]:
 
 @dataclass(frozen=True)
 class Moment:
-    """One thing that happened to a request, or will, and what its author said of it."""
+    """An event in a request's life, past or to come, with what its author wrote."""
 
     at: datetime
     text: str

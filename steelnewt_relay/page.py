@@ -157,8 +157,8 @@ def made_parts(app: flask.Flask) -> dict[str, Any]:
         return Markup(parts.card(standing, roster, day, *words))
 
     def card(standing: Standing, visit: Visit, kinds: Any = ()) -> Markup:
-        """A request's card, with buttons (`again` is whose it is). Who may approve it depends on
-        the day, what is left of it on the minute, and all else on what is given."""
+        """A request's card, with buttons (`again` is whose it is). Midnight stands for the
+        moment, so that a card is made once a day, but for the minutes that are left."""
         day = visit.now.replace(hour=0, minute=0, second=0)
         left, is_urgent = heads.time_left(standing, visit.now), heads.is_urgent(standing, visit.now)
         return made(standing, visit.roster, day, visit.zone, left, is_urgent, kinds)
