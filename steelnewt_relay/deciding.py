@@ -2,7 +2,7 @@
 
 import re
 from collections.abc import Iterator
-from dataclasses import dataclass
+from dataclasses import dataclass, replace
 from typing import Any
 
 import flask
@@ -151,7 +151,7 @@ def again_token(visit: Visit, standing: Standing) -> str:
         return ""
     length = f"{int(as_asked(request.wish.length()).total_seconds())}s"
     window = window_of("now", length, None, visit.zone, visit.now)
-    wish = Wish(**vars(request.wish) | {"begins": window[0], "ends": window[1]})
+    wish = replace(request.wish, begins=window[0], ends=window[1])
     reason = standing.kept.reason
     try:
         visit.config.demand.check(wish.ceiling, reason)

@@ -112,8 +112,8 @@ def answer(config: Config, caller: Caller, line: str) -> int:
             return ANSWERS[said.command](call)
         finally:
             call.end()
-    except Gone as why:
-        return complain(f"Nothing was sent: {why}. Ask the operator.", REFUSED)
+    except Gone as fault:
+        return complain(f"Nothing was sent: {fault}. Ask the operator.", REFUSED)
     except sqlite3.Error as fault:
         why = f"what is kept here fails: {fault}"
         return complain(f"Nothing was sent: {why}. Tell the operator.", REFUSED)

@@ -2,6 +2,7 @@
 is empty is never wide, and never dark."""
 
 import subprocess
+from dataclasses import replace
 from datetime import datetime, timedelta
 from pathlib import Path
 
@@ -22,6 +23,9 @@ LONG = (
     " and rotate the keys on every node of the fleet (runbook PAY-12). "
 )
 WHY = (LONG * 4)[:500]
+UNTIMED = "", ""  # (the windows are filled in as each is asked)
+ONE_HOST = Wish.of("db-care", ("db1",), "root", ("/usr/bin/id",), UNTIMED)
+ALL_HOSTS = Wish.of("payments-fleet", HOSTS, "root", COMMANDS, UNTIMED)
 FLEET = """
 [ceilings.payments-fleet]
 ask = "operate-db"
@@ -69,14 +73,11 @@ class Everything:
         length: timedelta = timedelta(hours=1),
         by: str = "ann",
         reason: Reason = Reason("replica lags behind", "OPS-7"),
-        **other: object,
+        wish: Wish = ONE_HOST,
     ) -> Kept:
         """A request whose window began so long ago."""
-        words = {"ceiling": "db-care", "hosts": ("db1",), "runas": "root"} | other
         begins = self.at - since
-        window = stamp(begins), stamp(begins + length)
-        commands = words.pop("commands", ("/usr/bin/id",))
-        wish = Wish.of(*words.values(), commands, window)  # type: ignore[arg-type]
+        wish = replace(wish, begins=stamp(begins), ends=stamp(begins + length))
         return self.outbox.keep_request(by, wish, stamp(min(begins, self.at)), reason=reason)
 
     def said(self, person: str, kind: str, kept: Kept, at: datetime, why: str = "") -> None:
@@ -88,19 +89,21 @@ class Everything:
 
     def filled(self) -> dict[str, int]:
         hour, minute = timedelta(hours=1), timedelta(minutes=1)
-        fleet = {"ceiling": "payments-fleet", "hosts": HOSTS, "commands": COMMANDS}
         found = {
-            "wide": self.asked(minute, 4 * hour, reason=Reason(WHY, "OPS-4711"), **fleet),
+            "wide": self.asked(minute, 4 * hour, reason=Reason(WHY, "OPS-4711"), wish=ALL_HOSTS),
             "short": self.asked(40 * minute),
-            "refused": self.asked(minute, hosts=("web1",)),
+            "refused": self.asked(minute, wish=replace(ONE_HOST, hosts=("web1",))),
             "lapsed": self.asked(3 * hour),
         }
-        self.asked(5 * minute, 15 * minute, "carol", ceiling="db-emergency", commands=("ALL",))
-        for name, since, more in (
-            ("live", 10 * minute, {"hosts": ("db1", "db2")}), ("live-wide", 9 * minute, fleet),
-            ("coming", -hour, {"runas": "postgres"}), ("over", 4 * hour, {}),
-        ):  # fmt: skip
-            found[name] = kept = self.asked(since, **more)  # type: ignore[arg-type]
+        emergency = replace(ONE_HOST, ceiling="db-emergency", commands=("ALL",))
+        self.asked(5 * minute, 15 * minute, "carol", wish=emergency)
+        for name, since, wish in (
+            ("live", 10 * minute, replace(ONE_HOST, hosts=("db1", "db2"))),
+            ("live-wide", 9 * minute, ALL_HOSTS),
+            ("coming", -hour, replace(ONE_HOST, runas="postgres")),
+            ("over", 4 * hour, ONE_HOST),
+        ):
+            found[name] = kept = self.asked(since, wish=wish)
             self.said("carol", "approve", kept, self.at - max(since, minute) + minute / 2)
         found["objected"] = kept = self.asked(8 * minute)
         self.said("carol", "refuse", kept, self.at - minute, "not now, see OPS-9")
