@@ -73,6 +73,7 @@ def show_request(by: str, no: int) -> str | tuple[str, int]:
         is_signed=visit.config.is_signed,
         approval=approval_token(visit, standing),
         again=again_token(visit, standing),
+        save=visit.token("send-save", no=no) if by == visit.person else "",
     )
 
 
@@ -256,12 +257,23 @@ def let(visit: Visit, said: dict[str, Any]) -> str:
     return flask.url_for("request_page", by=said["of"], no=said["no"], told="1")
 
 
+def save(visit: Visit, said: dict[str, Any]) -> str:
+    """Keeps a request under a name of its asker's, and goes to where that name stands."""
+    kept = visit.outbox.request(visit.person, said["no"])
+    if kept is None:
+        raise BadWord("there is no such request of yours")
+    name = flask.request.form.get("name", "").strip()
+    visit.outbox.own.save(visit.person, name, kept.id, visit.roster.ceilings)
+    return flask.url_for("home", _anchor="usual")
+
+
 def send() -> Response:
     """Keeps what was confirmed, posts it, and goes back to where it was confirmed."""
     visit: Visit = flask.g.visit
     what = flask.request.form.get("what", "")
-    if what == "let":
-        return flask.redirect(let(visit, visit.said("send-let")), 303)
+    if what in ("let", "save"):
+        does = let if what == "let" else save
+        return flask.redirect(does(visit, visit.said(f"send-{what}")), 303)
     said = visit.said("send-verdict" if what == "verdict" else "send-request")
     kept = keep(visit, said, flask.request.form.get("why", ""))
     for each in kept:

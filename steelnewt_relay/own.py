@@ -2,9 +2,15 @@
 ask again and again. None of it gives or takes a right."""
 
 import sqlite3
+from collections.abc import Container
 from datetime import datetime, tzinfo
 
+from steelnewt_client.messages import BadWord
+from steelnewt_client.names import is_label
 from steelnewt_relay.moments import zone_of
+
+# So many names a person may have.
+MOST_NAMES = 50
 
 
 class Own:
@@ -48,9 +54,22 @@ class Own:
         day = at.astimezone(self.zone(person, other)).strftime("%Y%m%d")
         return bool(first) and first <= day <= last
 
-    def save(self, person: str, name: str, message: int) -> None:
+    def save(self, person: str, name: str, message: int, ceilings: Container[str]) -> None:
+        """Keeps a request under a name of this person's. (`ask` takes a ceiling's name or theirs,
+        so nobody has a name of both kinds.)"""
+        if not is_label(name):
+            raise BadWord(f"{name!r} is no name that can be kept: write it as restart-pg")
+        if name in ceilings:
+            raise BadWord(f"take another name: {name} is a ceiling's")
+        if len({*self.names(person), name}) > MOST_NAMES:
+            raise BadWord(f"you have {MOST_NAMES} names: 'save NAME none' ends one")
         row = (person, name, message)
         self.base.execute("INSERT OR REPLACE INTO templates VALUES (?, ?, ?)", row)
+
+    def forget(self, person: str, name: str) -> None:
+        if name not in self.names(person):
+            raise BadWord(f"you have no name {name!r}")
+        self.base.execute("DELETE FROM templates WHERE person = ? AND name = ?", (person, name))
 
     def names(self, person: str) -> list[str]:
         rows = self.base.execute(

@@ -9,7 +9,6 @@ from datetime import timedelta
 
 from steelnewt_client.messages import BadWord, Wish
 from steelnewt_client.moments import now, stamp
-from steelnewt_client.names import is_label
 from steelnewt_relay import staying, telling
 from steelnewt_relay.admission import objections, surely_refused
 from steelnewt_relay.call import DONE, KEPT, NOT_SENT, REFUSED, YES, Call, is_at_terminal
@@ -134,17 +133,20 @@ def renewed(call: Call, old: Kept) -> tuple[Wish, Reason]:
 
 
 def save(call: Call) -> int:
-    """Keeps a request of this person's under a name of theirs."""
+    """Keeps a request of this person's under a name of theirs; `none` ends the name."""
     words = call.said.words
-    if not 1 <= len(words) <= 2 or not is_label(words[0]):
+    if not 1 <= len(words) <= 2:
         raise BadWords("write save NAME [NUMBER], and the name as restart-pg")
-    if words[0] in call.roster.ceilings:
-        raise BadWords(f"{words[0]} is a ceiling's name: take another")
+    if words[1:] == ["none"]:
+        call.outbox.own.forget(call.person, words[0])
+        call.say(f"{words[0]} is a name of yours no more.")
+        call.give_data({"name": words[0], "no": None})
+        return DONE
     asked = call.outbox.requests_of(call.person)
     found = [it for it in asked if len(words) == 1 or str(it.request.no) == words[1]]
     if not found:
         raise BadWord("there is no such request of yours: 'mine --all' shows them")
-    call.outbox.own.save(call.person, words[0], found[-1].id)
+    call.outbox.own.save(call.person, words[0], found[-1].id, call.roster.ceilings)
     call.say(f"{call.person} {found[-1].request.no} is {words[0]}: ask {words[0]}")
     call.give_data({"name": words[0], "no": found[-1].request.no})
     return DONE

@@ -27,7 +27,7 @@ Without words, at a terminal (ssh -t): what waits, and what you can do.
       --once KEY: the same key again is the same request, for scripts; other words are refused
       --anyway: also what cannot be granted; --no-wait: do not stay until it is decided
   ask COMMAND --on HOST --for 2h    under the ceiling that covers it and needs least
-  save NAME [NUMBER]    ask NAME    a request under a name of yours, and the same again
+  save NAME [NUMBER|none]    ask NAME    a request under a name of yours, and the same again
   again [NUMBER]    extend [NUMBER]   the same as your last request, or as that one: from now on, or
       from its end on (--for, --until, --from, --why, --ticket: in place of what it had)
   withdraw NUMBER ..   a request of yours ends

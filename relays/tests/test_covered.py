@@ -7,7 +7,7 @@ from collections.abc import Iterator
 from pathlib import Path
 
 from relays.tests.site import Site
-from steelnewt_relay import page, person, program
+from steelnewt_relay import asking, deciding, page, person, program, visit
 from steelnewt_relay.config import read_config
 from steelnewt_relay.ssh import ANSWERS
 from steelnewt_relay.words import parser
@@ -111,11 +111,16 @@ def test_each_word_of_the_programs_has_a_test() -> None:
 
 def test_each_thing_that_the_page_takes_has_a_test(quiet_site: Site) -> None:
     rules = page.create_app(read_config(str(quiet_site.config))).url_map.iter_rules()
-    source = Path(page.__file__).read_text(encoding="utf-8")
-    asked = r'(?:args|form|words|given)(?:\.get\(|\[)"([a-z]+)"|"([a-z]+)" in flask.request'
+    modules = (page, asking, deciding, visit)
+    source = "".join(Path(it.__file__).read_text(encoding="utf-8") for it in modules)
+    asked = (
+        r'(?:args|form|words|given)(?:\.get(?:list)?\(|\[)"([a-z]+)"|"([a-z]+)" in flask.request'
+    )
     fields = {one or other for one, other in re.findall(asked, source)}
     fields |= set(re.findall(r'Cards\("([a-z]+)"', source)) - {"page"}
-    whole = list(texts())
+    # (a test's client gives a field by its name)
+    names = {it.arg or "" for tree in trees() for it in ast.walk(tree) if isinstance(it, ast.keyword)}
+    whole = [*texts(), *names]
     paths = sorted({it.rule.partition("<")[0] for it in rules})
     missing = [it for it in paths if not any(re.match(rf"\??{it}", text) for text in whole)]
     missing += [

@@ -137,9 +137,10 @@ def test_a_number_that_is_none(people: People, asked: Callable[..., int]) -> Non
 
 def test_why_somebody_refused(people: People, asked: Callable[..., int]) -> None:
     no = asked()
-    page = people.get("bob", f"/verdict?kind=refuse&of=ann&no={no}").text
+    page = people.get("bob", f"/verdict?kind=refuse&of=ann&no={no}&back=1").text
     assert 'name="why"' in page
-    people.say("bob", page, why="not now, <b>see</b> OPS-9")
+    where = people.say("bob", page, why="not now, <b>see</b> OPS-9")
+    assert where.startswith(f"/r/ann/{no}?sent=")
     for path in ("/", f"/r/ann/{no}"):
         assert "not now, <b>see</b> OPS-9" in people.text("ann", path)
         assert "<b>see" not in people.get("ann", path).text
@@ -282,6 +283,36 @@ def test_what_is_usual_is_asked_by_two_presses(people: People, asked: Callable[.
     people.say("ann", page.text)
     kept = read_config(str(people.site.config)).open_outbox().requests_of("ann")[-1].request
     assert stamp(now() - 5 * MINUTE) < kept.wish.begins and kept.wish.commands == ("/usr/bin/id",)
+
+
+def kept_under(people: People, person: str, no: int, name: str) -> TestResponse:
+    """What comes of the form on a request's page that keeps it under a name."""
+    page = people.get("ann", f"/r/ann/{no}").text
+    form = re.search('value="([^"]+)">\\s*<input type="hidden" name="what" value="save"', page)
+    assert form, page
+    return people.post(person, "/send", token=form[1], what="save", name=name)
+
+
+def test_a_name_of_ones_own_is_kept_on_the_page(
+    people: People, asked: Callable[..., int]
+) -> None:
+    """It stands above the form, and by ssh it asks for the same."""
+    no = asked(length=50 * MINUTE)
+    assert "A name of yours for it" not in people.get("bob", f"/r/ann/{no}").text
+    sent = kept_under(people, "ann", no, " pg-again ")
+    assert (sent.status_code, sent.headers.get("Location")) == (303, "/#usual"), sent.text
+    home = people.get("ann").text
+    usual = home[home.index('id="usual"') : home.index('id="ceiling"')]
+    assert "pg-again root on db1, 50 minutes" in read(f"<main>{usual}")
+    assert f'href="/usual?no={no}"' in usual
+    ran = people.site.run("ann", "ask pg-again --yes --no-wait")
+    assert ran.returncode == 0 and "for 50 minutes" in ran.stdout, ran
+    for person, name, said in (
+        ("ann", "db-care", "db-care is a ceiling's"), ("ann", "Not One", "is no name"),
+        ("bob", "pg-again", "made for somebody else"),
+    ):  # fmt: skip
+        wrong = kept_under(people, person, no, name)
+        assert wrong.status_code == 400 and said in read(wrong.text), wrong.text
 
 
 def test_what_became_of_it_is_said_at_once(people: People, asked: Callable[..., int]) -> None:

@@ -284,7 +284,8 @@ def test_ticked_and_decided_by_keyboard(looking: Looking) -> None:
     boxes = driver.find_elements(By.CSS_SELECTOR, ".tick input")
     for box in boxes[:2]:
         box.send_keys(Keys.SPACE)
-    looking.ask("scrollTo(0, 0)")
+    # (the first one ticked is on the screen, and the bar with it)
+    looking.ask("document.querySelector('.tick :checked').scrollIntoView({block: 'center'})")
     assert looking.ask(bar) is True
     driver.find_element(By.CSS_SELECTOR, ".bar.several button").send_keys(Keys.ENTER)
     assert driver.find_element(By.TAG_NAME, "h1").text == "Approve 2 requests?"

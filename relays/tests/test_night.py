@@ -351,7 +351,18 @@ def test_a_name_of_ones_own(quiet_site: Site) -> None:
         assert said(quiet_site, "ann", line, "y\n")[0] == 3
     status, told = said(quiet_site, "bob", "ask pg-again", "y\n")
     assert status == 2 and "saved" in told
-    assert "ceiling's name" in said(quiet_site, "ann", "save db-care 1")[1]
+    assert "db-care is a ceiling's" in said(quiet_site, "ann", "save db-care 1")[1]
+    assert said(quiet_site, "ann", "save pg-again none")[0] == 0
+    assert "'save NAME NUMBER' makes one" in said(quiet_site, "ann", "ask pg-again")[1]
+
+
+def test_names_of_ones_own_are_bounded(quiet_site: Site) -> None:
+    asks(quiet_site)
+    for number in range(50):
+        assert said(quiet_site, "ann", f"save name-{number}")[0] == 0
+    status, told = said(quiet_site, "ann", "save one-more")
+    assert status == 2 and "you have 50 names: 'save NAME none' ends one" in told, told
+    assert said(quiet_site, "ann", "save name-7 1")[0] == 0
 
 
 # Each option of the words that have many.

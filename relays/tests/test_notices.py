@@ -44,7 +44,7 @@ def settings(site: Site, *program: str, **other: object) -> None:
 
 def say(site: Site, person: str, line: str) -> None:
     status, told = answer(read_config(str(site.config)), person, line)
-    assert status in (0, 2, 3), told
+    assert status in (0, 2, 3) or "it does not count" in told, told
 
 
 def wait_for(check: object, seconds: float = 300.0) -> None:

@@ -258,8 +258,8 @@ def test_the_same_is_asked_once(both: tuple[Site, Sshd]) -> None:
 
 def at_terminal(sshd: Sshd, key: str) -> str:
     """Asks at a terminal, gives the key when it is asked for, and returns what was shown."""
-    line = "ask db-care --on db1 --as root --for 1h /usr/local/sbin/w"
-    words = [*sshd.client("bob", "-tt"), line]
+    line = "ask db-care --on db1 --as root --for 1h --again /usr/local/sbin/w"
+    words = [*sshd.client("ann", "-tt"), line]
     shown = b""
     with subprocess.Popen(words, stdin=subprocess.PIPE, stdout=subprocess.PIPE) as call:
         assert call.stdin and call.stdout
@@ -282,7 +282,7 @@ def test_at_a_terminal(both: tuple[Site, Sshd]) -> None:
     site, sshd = both
     before = messages(site)
     shown = at_terminal(sshd, "n\n")
-    assert "\x1b[1mbob asks\x1b[0m" in shown and "Nothing was sent." in shown
+    assert "\x1b[1mann asks\x1b[0m" in shown and "Nothing was sent." in shown
     shown = at_terminal(sshd, "\x03")
     assert "Nothing more was sent" in shown and "Traceback" not in shown
     assert messages(site) == before
