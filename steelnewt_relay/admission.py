@@ -53,11 +53,11 @@ def objections(roster: Roster, person: str, wish: Wish, at: datetime) -> list[st
 
 def refusals(roster: Roster, person: str, wish: Wish, at: datetime) -> list[Fault]:
     if person not in roster.people:
-        return [Fault("ceiling", "your name is not in the roster")]
+        return [Fault("ceiling", "nobody here has your name")]
     ceiling = roster.ceilings.get(wish.ceiling)
     if ceiling is None:
         labels = [it.label for it in roster.may_ask(person, at)]
-        return [Fault("ceiling", f"the roster has no ceiling {wish.ceiling}: {listed(labels)}")]
+        return [Fault("ceiling", f"there is no ceiling {wish.ceiling}: {listed(labels)}")]
     found = []
     if not roster.holds(person, ceiling.ask, at):
         text = f"you do not hold the duty {ceiling.ask}, which {ceiling.label} needs"

@@ -152,6 +152,7 @@ def show_form(visit: Visit, words: Words, form: Form | None) -> str:
         may_send=bool(form and form.is_readable),
         ceilings=visit.roster.may_ask(visit.person, visit.now),
         words=words,
+        zone=visit.zone,
         token=visit.token("ask"),
     )
 

@@ -52,7 +52,7 @@ FORM = re.compile(r"(application/x-www-form-urlencoded( *; *charset=utf-8)?)?", 
 NO_HOST = "The request names no host that a page can have.\n"
 NOBODY = (
     "The front does not say who you are: it takes a person's certificate, or a sign-on by a name"
-    " that a roster can have."
+    " such as ann."
 )
 NOT_LISTED = "Nobody here is called {}: ask whoever keeps the list of people."
 EXPOSED = (

@@ -7,6 +7,7 @@ from collections.abc import Iterator
 from pathlib import Path
 
 from relays.tests.site import Site
+from steelnewt_client import codes
 from steelnewt_relay import asking, deciding, page, person, program, visit
 from steelnewt_relay.config import read_config
 from steelnewt_relay.ssh import ANSWERS
@@ -129,3 +130,33 @@ def test_each_thing_that_the_page_takes_has_a_test(quiet_site: Site) -> None:
     ]  # fmt: skip
     print(f"{len(paths)} paths and {len(fields)} fields of the page, {len(missing)} without a test")
     assert len(paths) >= 7 and len(fields) > 15 and not missing, (missing, fields)
+
+
+# The modules that speak to whoever runs the relay, and words that are theirs alone.
+OPERATORS = ("caller.py", "config.py", "demo.py", "keys.py", "person.py", "program.py", "sent.py")
+THEIRS = re.compile(r"(?<!desk-)\b(relay|roster|outbox|acknowledged)s?\b")
+
+
+def sentences(path: Path) -> Iterator[str]:
+    """The texts of a module that are more than a name, without its docstrings."""
+    tree = ast.parse(path.read_text(encoding="utf-8"))
+    docstrings = {
+        id(it.body[0].value)
+        for it in ast.walk(tree)
+        if isinstance(it, ast.Module | ast.ClassDef | ast.FunctionDef)
+        and it.body and isinstance(it.body[0], ast.Expr)
+    }  # fmt: skip
+    for node in ast.walk(tree):
+        if isinstance(node, ast.Constant) and isinstance(node.value, str):
+            if id(node) not in docstrings and " " in node.value:
+                yield node.value
+
+
+def test_who_asks_reads_no_word_of_an_operator() -> None:
+    folder = Path(page.__file__).parent
+    found = [it for path in sorted(folder.glob("*.py")) if path.name not in OPERATORS
+             for it in sentences(path)]  # fmt: skip
+    found += [text for pair in codes.FOR_PEOPLE.values() for text in pair]
+    assert len(found) > 500 and not [it for it in found if THEIRS.search(it)]
+    refusals = [codes.in_words(it) for it in codes.SENTENCES]
+    assert len(refusals) > 10 and not [it for it in refusals if THEIRS.search(it)]

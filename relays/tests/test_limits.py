@@ -202,7 +202,7 @@ def test_a_window_to_come_is_as_it_was_shown() -> None:
 
 
 FRONTS = [
-    (403, "does not let this relay's certificate"),
+    (403, "does not let this certificate"),
     (413, "no message of that length"),
     (429, "no more messages through now"),
     (502, "the desk behind it is away"),

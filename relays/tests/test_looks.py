@@ -27,6 +27,7 @@ PAGES = {
     "mine": ("ann", "/"),
     "findings": ("dave", "/"),
     "request": ("bob", "/r/ann/WIDE"),
+    "own": ("ann", "/r/ann/LIVE"),
     "refused": ("ann", "/r/ann/OBJECTED"),
     "approve": ("bob", "/verdict?kind=approve&of=ann&no=WIDE"),
     "several": ("bob", "/verdict?kind=approve&each=ann+WIDE&each=ann+SHORT&each=carol+2"),
@@ -83,6 +84,12 @@ for (const b of document.querySelectorAll('button')) {
   (by[b.textContent.trim().replace(/\\s+/g, ' ')] ||= new Set()).add(b.form.action + fields); }
 return Object.entries(by).filter(([, found]) => found.size > 1).map(([name]) => name);
 """
+# What is read, but for a picture (its caption says the zone), people's reasons and help with a field.
+READ = """
+const page = document.body.cloneNode(true);
+page.querySelectorAll('svg, q, [id$=-help]').forEach(e => e.remove());
+return page.textContent.replace(/\\s+/g, ' ');
+"""
 # What has a place on the first screen, and how high the page is.
 PLACES = """
 const top = q => { const e = document.querySelector(q);
@@ -138,7 +145,9 @@ class Looking:
         return self.driver.execute_script(script)
 
     def shoot(self, name: str) -> None:
+        """The first screen, as somebody sees it who has just come."""
         SHOTS.mkdir(parents=True, exist_ok=True)
+        self.ask("document.activeElement.blur(); scrollTo(0, 0)")
         found = self.driver.execute_cdp_cmd("Page.captureScreenshot", {})
         (SHOTS / f"{name}.png").write_bytes(base64.b64decode(found["data"]))
 
@@ -190,7 +199,7 @@ def test_each_page_at_each_size(
     enough and in order, and the yes is always on the screen."""
     is_large = "large" in request.node.name
     looking.open(name)
-    for width, height in ((320, 640), *SIZES):
+    for width, height in ((320, 640), *SIZES, (1920, 1080)):
         looking.screen(width, height)
         looking.ask("scrollTo(0, 0)")
         found = looking.ask(PLACES)
@@ -263,6 +272,16 @@ def test_what_a_screen_reader_has(looking: Looking, name: str) -> None:
     assert all(after <= before + 1 for before, after in zip(levels, levels[1:])), levels
     assert looking.ask("return document.documentElement.lang") == "en"
     assert value(by_role["RootWebArea"][0], "name").endswith(("The desk", ": the desk"))
+
+
+@pytest.mark.parametrize("name", PAGES)
+def test_words_for_people_and_hours_with_their_zone(looking: Looking, name: str) -> None:
+    looking.open(name)
+    text = looking.ask(READ)
+    assert not re.findall(r"\b(relay|roster|outbox|acknowledged)\b", text.lower()), text
+    hours = re.findall(r"\b\d\d:\d\d(?::\d\d)?\b(.{0,5})", text)
+    assert all(re.match(" (UTC|CES?T)", it) for it in hours), text
+    assert hours or name in ("findings", "wrong", "again"), text
 
 
 def test_a_field_that_is_wrong(looking: Looking) -> None:
