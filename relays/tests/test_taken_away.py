@@ -38,7 +38,9 @@ def master(sshd: Sshd, key: str) -> Iterator[tuple[str, str]]:
         try:
             yield "-S", str(path)
         finally:
-            opened.terminate()
+            # (ssh may miss a gentler signal, as one of its sessions ends)
+            opened.kill()
+            path.unlink(missing_ok=True)
 
 
 @contextmanager
