@@ -83,7 +83,7 @@ def test_a_grants_life(fronted: Fronted) -> None:
     assert "ann " not in site.ask("/v1/hosts/db1/sudoers")
     status, shown = fronted.get("bob", "/verdict?kind=approve&of=ann&no=1")
     assert status == 200 and "Approve ann 1?" in shown
-    assert "you approved it" in fronted.confirm("bob", shown, "verdict")
+    assert "The desk has your approval." in fronted.confirm("bob", shown, "verdict")
     assert "\nann db1 = (root) NOTBEFORE=" in site.ask("/v1/hosts/db1/sudoers")
 
 

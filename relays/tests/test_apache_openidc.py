@@ -120,7 +120,7 @@ def test_a_grants_life(place: Place) -> None:
     assert "You are <strong>bob</strong>" in home.text
     shown = bob.get(f"{place.url}verdict?kind=approve&of=ann&no=1", timeout=60).text
     told = sent(bob, "send", {"token": token(shown), "what": "verdict"})
-    assert "you approved it" in told
+    assert "The desk has your approval." in told
     assert "\nann db1 = (root) NOTBEFORE=" in place.site.ask("/v1/hosts/db1/sudoers")
 
 

@@ -195,7 +195,7 @@ def test_a_revocation_once_more(site: Site) -> None:
     assert site.run("ann", f"{ASK} /usr/bin/id").returncode == 0
     assert site.run("ann", "revoke ann 1 --yes").returncode == 0
     ran = site.run("ann", "revoke ann 1 --yes")
-    assert ran.returncode == 1 and "You revoked it already" in ran.stdout, ran
+    assert ran.returncode == 1 and "You revoked ann 1 already" in ran.stdout, ran
     wait_for_next_second()  # (a verdict of the same second is the same message)
     assert site.run("ann", "revoke ann 1 --yes --again").returncode == 0
     assert len(site.kept()) == 3
