@@ -31,6 +31,7 @@ from steelnewt_relay.asking import FIELDS, show_same, show_usual, show_wish
 from steelnewt_relay.config import BadConfig, Config
 from steelnewt_relay.deciding import kinds_waiting, notices, own_kinds, send, show_let
 from steelnewt_relay.deciding import show_request, show_verdict
+from steelnewt_relay.letters import plain
 from steelnewt_relay.moments import BadTime, shown
 from steelnewt_relay.outbox import OutOfNumbers
 from steelnewt_relay.roster import BadRoster, Roster
@@ -142,7 +143,7 @@ def create_app(config: Config) -> flask.Flask:
     app.jinja_env.globals.update(
         telling=telling, heads=heads, State=State, shown=shown, of_stamp=of_stamp,
         by_reach=by_reach, unescaped=unescaped, few=few, fields=FIELDS, own_kinds=own_kinds,
-        kinds_waiting=kinds_waiting,
+        kinds_waiting=kinds_waiting, plain=plain,
     )  # fmt: skip
     app.jinja_env.globals.update(made_parts(app))
     return app

@@ -312,6 +312,18 @@ def test_ticked_and_decided_by_keyboard(looking: Looking) -> None:
     assert driver.find_element(By.ID, "yes").text == "Yes, approve 2"
 
 
+def test_the_yes_by_keyboard(looking: Looking) -> None:
+    """At most six keys behind a notice's link; from the list they were 14 for the request that
+    stood first."""
+    looking.screen(1440, 900)
+    looking.open("request")
+    keys = 1  # (Return)
+    while looking.ask("return document.activeElement.id") != "yes":
+        looking.driver.switch_to.active_element.send_keys(Keys.TAB)
+        keys += 1
+        assert keys <= 6, looking.ask("return document.activeElement.outerHTML")
+
+
 def test_a_tap_reaches_what_it_shows(looking: Looking) -> None:
     """On a phone, as soon as something is in force that its reader may end."""
     looking.screen(360, 740)
