@@ -119,12 +119,12 @@ def test_by_mail(site: Site, mails: Mails) -> None:
     wait_for(lambda: log.read_text().count(": told") > len(wanted))
     time.sleep(1)
     told = [
-        (it["X-Desk-Event"], it.get_content().partition("\n")[0], it["Rcpt"]) for it in mails.mails
+        (it["X-Desk-Event"], text_of(it).partition("\n")[0], it["Rcpt"]) for it in mails.mails
     ]
     assert sorted(it for it in told if it[0] != "void") == wanted
     void = [it[1] for it in told if it[0] == "void"]
     assert len(void) == 1 and void[0].startswith("The desk refused it. A7 WindowTooLong: ")
-    first = next(it for it in mails.mails if it["X-Desk-Event"] == "asked").get_content()
+    first = text_of(next(it for it in mails.mails if it["X-Desk-Event"] == "asked"))
     assert "why       | disk full" in first and "bob, carol may approve it" in first
     assert "\nTo approve it: ssh desk approve ann 2\nhttps://desk/r/ann/2\n" in first
     named = {it["Subject"] for it in mails.mails if it["References"].startswith("<ann-2@")}
@@ -132,6 +132,10 @@ def test_by_mail(site: Site, mails: Mails) -> None:
     assert named == {subject, f"Re: {subject}"}
     assert len({it["Message-ID"] for it in mails.mails}) == len(mails.mails)
     assert log.read_text().count(": told") == len(wanted) + 1
+
+
+def text_of(mail: EmailMessage) -> str:
+    return str(mail.get_content()).replace("\r\n", "\n")
 
 
 def test_by_an_smtp_server(mails: Mails) -> None:
