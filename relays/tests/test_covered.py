@@ -8,7 +8,7 @@ from pathlib import Path
 
 from relays.tests.site import Site
 from steelnewt_client import codes
-from steelnewt_relay import asking, deciding, page, person, program, visit
+from steelnewt_relay import page, person, program
 from steelnewt_relay.config import read_config
 from steelnewt_relay.ssh import ANSWERS
 from steelnewt_relay.words import parser
@@ -112,8 +112,9 @@ def test_each_word_of_the_programs_has_a_test() -> None:
 
 def test_each_thing_that_the_page_takes_has_a_test(quiet_site: Site) -> None:
     rules = page.create_app(read_config(str(quiet_site.config))).url_map.iter_rules()
-    modules = (page, asking, deciding, visit)
-    source = "".join(Path(it.__file__).read_text(encoding="utf-8") for it in modules)
+    folder = Path(page.__file__).parent
+    modules = ("page", "asking", "deciding", "visit")
+    source = "".join((folder / f"{it}.py").read_text(encoding="utf-8") for it in modules)
     asked = (
         r'(?:args|form|words|given)(?:\.get(?:list)?\(|\[)"([a-z]+)"|"([a-z]+)" in flask.request'
     )

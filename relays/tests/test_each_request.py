@@ -296,7 +296,7 @@ def kept_under(people: People, person: str, no: int, name: str) -> TestResponse:
 def test_a_name_of_ones_own_is_kept_on_the_page(
     people: People, asked: Callable[..., int]
 ) -> None:
-    """It stands above the form, and by ssh it asks for the same."""
+    """The name stands above the form, and by ssh it asks for the same."""
     no = asked(length=50 * MINUTE)
     assert "A name of yours for it" not in people.get("bob", f"/r/ann/{no}").text
     sent = kept_under(people, "ann", no, " pg-again ")

@@ -140,8 +140,8 @@ def test_what_somebody_else_wrote_there(quiet_site: Site) -> None:
         assert piece in printed and not set("\x1b\x07\u202e") & set(printed), printed
     assert "\\x1b" in answered(quiet_site, "bob", "waiting -l")[1]
     page = client(quiet_site)
-    for path in ("/", "/r/ann/1", "/verdict?kind=refuse&of=ann&no=1"):
-        told = page.get(path, headers=headers("bob")).get_data(as_text=True)
+    for place in ("/", "/r/ann/1", "/verdict?kind=refuse&of=ann&no=1"):
+        told = page.get(place, headers=headers("bob")).get_data(as_text=True)
         assert "&lt;script&gt;" in told and "<script" not in told, told
         assert not set("\x1b\u202e") & set(told), told
     assert exported(quiet_site)[0]["why"] == HOSTILE
