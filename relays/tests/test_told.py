@@ -3,6 +3,7 @@ a notice says what it is about and leads there. The relay's own `notify` runs a 
 each event."""
 
 import json
+import time
 from collections.abc import Iterator
 from datetime import datetime, timedelta
 
@@ -30,6 +31,14 @@ def events(site: Site) -> list[dict[str, object]]:
 def heard(site: Site, person: str) -> list[str]:
     """The kinds of events that a person is told, in their order."""
     return [str(it["event"]) for it in events(site) if person in it["to"]]  # type: ignore[operator]
+
+
+def hears(site: Site, person: str, kinds: list[str], seconds: float = 300.0) -> None:
+    """Waits until a person was told of these kinds of events, and of no others."""
+    until = time.monotonic() + seconds
+    while heard(site, person) != kinds and time.monotonic() < until:
+        time.sleep(0.2)
+    assert heard(site, person) == kinds
 
 
 @pytest.fixture(scope="module")
@@ -76,10 +85,10 @@ def test_who_was_woken_hears_that_it_is_over(
     telling: Site, person: str, line: str, wanted: list[str]
 ) -> None:
     told(telling, "ann", ASK)
-    wait_for(lambda: heard(telling, "carol") == ["asked"])
+    hears(telling, "carol", ["asked"])
     told(telling, person, line.format(telling.no()))
     wait_for(lambda: len(events(telling)) >= 2)
-    wait_for(lambda: heard(telling, "carol") == wanted, 20)
+    hears(telling, "carol", wanted, 20)
     last = events(telling)[-1]
     assert "Nothing is left to do for who was asked." in str(last["text"])
     # nobody hears one thing twice, nor what they have just done
@@ -91,14 +100,14 @@ def test_what_lapses_is_told_to_who_was_woken(site: Site) -> None:
     begun(site)
     ends = now() + timedelta(seconds=15)
     kept = brought(site, wish(ends - timedelta(hours=1)))
-    wait_for(lambda: heard(site, "carol") == ["asked", "void"], 120)
+    hears(site, "carol", ["asked", "void"], 120)
     assert heard(site, "bob") == ["asked", "void"] and heard(site, "ann") == ["void"]
     assert kept.request.no == site.no()
 
 
 def test_a_notice_says_what_it_is_about_and_leads_there(telling: Site) -> None:
     told(telling, "ann", f"{ASK}".replace("--why disk full", "--why disk full --ticket OPS-7"))
-    wait_for(lambda: heard(telling, "bob") == ["asked"])
+    hears(telling, "bob", ["asked"])
     event = events(telling)[0]
     assert event["subject"] == "ann: root on db1, 1 hour: disk full (OPS-7)"
     name, link = f"ann {telling.no()}", f"https://desk/r/ann/{telling.no()}"
@@ -127,11 +136,11 @@ def test_who_is_on_call_is_told_first(site: Site) -> None:
     wait_for(lambda: bool(events(site)))
     assert (heard(site, "carol"), heard(site, "bob")) == (["asked"], [])
     assert "carol was told at " in said(site, "ann", f"show ann {site.no()}")[1]
-    wait_for(lambda: heard(site, "bob") == ["asked-next"], 150)
+    hears(site, "bob", ["asked-next"], 150)
     assert heard(site, "carol") == ["asked"]
     assert "bob was told at " in said(site, "ann", f"show ann {site.no()}")[1]
     told(site, "bob", f"approve ann {site.no()} --yes")
-    wait_for(lambda: heard(site, "carol") == ["asked", "granted"])
+    hears(site, "carol", ["asked", "granted"])
     assert heard(site, "ann") == ["granted"]
 
 
@@ -145,7 +154,7 @@ def test_an_absence_is_of_what_is_told_alone(telling: Site) -> None:
     told(telling, "carol", f"approve ann {telling.no()} --yes")
     told(telling, "bob", f"away {tomorrow}")
     told(telling, "ann", ASK)
-    wait_for(lambda: heard(telling, "carol") == ["asked"])
+    hears(telling, "carol", ["asked"])
     told(telling, "carol", "away none")
     assert "You are not away" in said(telling, "carol", "away")[1]
 
@@ -154,7 +163,7 @@ def test_the_whole_length_is_one_word_away(telling: Site) -> None:
     """An approver who comes late lets the asker ask for all of it; the asker's word is needed."""
     brought(telling, wish(now() - timedelta(minutes=35)))
     told(telling, "bob", f"let ann {telling.no()}")
-    wait_for(lambda: heard(telling, "ann") == ["full"])
+    hears(telling, "ann", ["full"])
     event = next(it for it in events(telling) if it["event"] == "full")
     said_of_it = f"bob would approve the whole 1h of ann {telling.no()}, from now on."
     assert said_of_it in str(event["text"])
