@@ -52,7 +52,8 @@ class People:
         return self.post(person, "/ask", **words)
 
     def say(self, person: str, page: str, **fields: str) -> str:
-        """Where the yes of a page leads to."""
+        """Where the yes of a page leads to. (A request's own page has another form before it.)"""
+        page = page[max(0, page.find('id="confirm"')) :]
         what = re.search('name="what" value="([a-z]+)"', page)
         assert what, page
         sent = self.post(person, "/send", token=token(page), what=what[1], **fields)

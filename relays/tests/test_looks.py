@@ -100,25 +100,54 @@ return {high: document.documentElement.scrollHeight, wide: document.documentElem
 
 
 class Place(NamedTuple):
-    """How high a page is, and how far down its first card and its first button of yes end."""
+    """How high a page is, and how far down these end: its first card, its first button of an
+    approval, its yes, and the button that shows what one asks for."""
 
     high: int
-    card: int | None
-    approve: int | None
+    card: int | None = None
+    approve: int | None = None
+    yes: int | None = None
+    show: int | None = None
 
 
 # By page and width. (With 34 own requests and 58 that waited, a phone's home was 69,007 high.)
 NUMBERS: dict[tuple[str, int], Place] = {
-    ("home", 360): Place(23_684, 735, 675),
-    ("home", 768): Place(18_429, None, None),
-    ("home", 1440): Place(18_314, None, None),
-    ("mine", 360): Place(14_126, 739, None),
-    ("mine", 1440): Place(10_637, None, None),
-    ("request", 360): Place(2_888, 2_429, None),
-    ("request", 1440): Place(1_502, None, None),
-    ("several", 360): Place(3_833, 2_408, None),
-    ("refuse", 360): Place(918, 760, None),
-    ("history", 1440): Place(12_463, None, None),
+    ("home", 360): Place(23_663, 735, 675),
+    ("home", 768): Place(18_429, 598, 535),
+    ("home", 1440): Place(18_268, 577, 514),
+    ("mine", 360): Place(14_126, 739, show=13_890),
+    ("mine", 768): Place(10_857, 593, show=10_631),
+    ("mine", 1440): Place(10_591, 593, show=10_364),
+    ("findings", 360): Place(2_120),
+    ("findings", 768): Place(1_838),
+    ("findings", 1440): Place(1_860),
+    ("request", 360): Place(2_864, 2_405, yes=697),
+    ("request", 768): Place(1_574, 1_157, yes=1_010),
+    ("request", 1440): Place(1_502, 1_085, yes=886),
+    ("own", 360): Place(1_144, 667),
+    ("own", 768): Place(1_024, 586),
+    ("own", 1440): Place(940, 562),
+    ("refused", 360): Place(1_040, 619, yes=677),
+    ("refused", 768): Place(1_024, 562, yes=834),
+    ("refused", 1440): Place(912, 562, yes=834),
+    ("approve", 360): Place(2_650, 2_384, 729, 729),
+    ("approve", 768): Place(1_427, 1_139, 1_010, 1_010),
+    ("approve", 1440): Place(1_355, 1_067, 886, 886),
+    ("several", 360): Place(3_761, 2_384, 729, 729),
+    ("several", 768): Place(2_311, 1_139, 1_010, 1_010),
+    ("several", 1440): Place(2_239, 1_067, 886, 886),
+    ("refuse", 360): Place(894, 736, yes=729),
+    ("refuse", 768): Place(1_024, 655, yes=758),
+    ("refuse", 1440): Place(900, 655, yes=758),
+    ("again", 360): Place(1_171, show=1_044),
+    ("again", 768): Place(1_024, show=817),
+    ("again", 1440): Place(942, show=796),
+    ("wrong", 360): Place(1_451, show=1_270),
+    ("wrong", 768): Place(1_189, show=989),
+    ("wrong", 1440): Place(1_147, show=947),
+    ("history", 360): Place(17_687, 827),
+    ("history", 768): Place(12_518, 667),
+    ("history", 1440): Place(12_518, 667),
 }
 
 
