@@ -84,9 +84,11 @@ def test_several_by_a_span_and_a_reason_that_is_signed(signing: Doored) -> None:
     found = signing.site.data("ann", "mine")
     assert isinstance(found, list)
     assert {it["verdicts"][0]["why"] for it in found} == {"not now, see OPS-9"}
-    assert "leave --why" in bob.run("approve", "ann", first, "--why", "yes", status=2)
+    ann.run(*ASK)
+    whose, waits = named(signing, 4)
+    assert "leave --why" in bob.run("approve", whose, waits, "--why", "yes", status=2)
     lying(signing, bob, 'told["why"] = "all is well"')
-    said = bob.run("refuse", "ann", first, "--why", "not now", status=2)
+    said = bob.run("refuse", whose, waits, "--why", "not now", status=2)
     assert "another reason than you typed" in said
 
 
@@ -323,7 +325,7 @@ def test_a_relay_that_writes_to_the_terminal(signing: Doored) -> None:
     assert said.isprintable() or all(it.isprintable() for it in said.splitlines())
     assert "\\x1b[8m" in said
     lying(signing, bob, f'print("{odd}"); sys.exit(1)')
-    said = bob.run("approve", *named(signing), status=2)
+    said = bob.run("revoke", *named(signing), status=2)
     assert all(it.isprintable() for it in said.splitlines()) and "\\x1b[8m" in said
 
 
