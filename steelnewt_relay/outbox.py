@@ -19,7 +19,8 @@ from typing import TypeVar
 from steelnewt_client.messages import BadWord, Request, Verdict, Wish, measured, read
 from steelnewt_client.moments import of_stamp, stamp
 from steelnewt_client.signed import Signed, reason_digest
-from steelnewt_relay.reasons import NONE, Reason
+from steelnewt_relay.own import Own
+from steelnewt_relay.reasons import NONE, Reason, Reasons
 from steelnewt_relay.reserve import NoRoom, Reserve
 
 SCHEMA = """
@@ -49,6 +50,14 @@ CREATE TABLE IF NOT EXISTS prepared (
 ) STRICT;
 CREATE TABLE IF NOT EXISTS signatures (
     id INTEGER PRIMARY KEY, signature TEXT NOT NULL, about TEXT NOT NULL, why TEXT NOT NULL
+) STRICT;
+CREATE TABLE IF NOT EXISTS people (
+    person TEXT PRIMARY KEY, zone TEXT NOT NULL DEFAULT '',
+    away_from TEXT NOT NULL DEFAULT '', away_until TEXT NOT NULL DEFAULT ''
+) STRICT;
+CREATE TABLE IF NOT EXISTS templates (
+    person TEXT NOT NULL, name TEXT NOT NULL, message INTEGER NOT NULL,
+    PRIMARY KEY (person, name)
 ) STRICT;
 """
 MADE = set(re.findall(r"IF NOT EXISTS (\w+)", SCHEMA))
@@ -140,6 +149,7 @@ class Outbox:
         """(`signs` is false where no door takes signatures: a desk itself takes messages alone)"""
         self.numbers, self.signs = numbers, signs
         self.path, self.reserve, self.is_reading = path, Reserve(path), False
+        self.own = Own(self)
         self.base = sqlite3.connect(":memory:")  # (until it is open)
         try:
             self.open()
@@ -161,8 +171,7 @@ class Outbox:
         # (whoever only looks at what is kept waits for nobody who writes)
         if not self.is_made():
             with self.writing():
-                for statement in SCHEMA.split(";"):
-                    self.base.execute(statement)
+                self.make_tables()
 
     def open_to_read(self) -> None:
         """On a full disk SQLite cannot make the file that those share who have the outbox open.
@@ -174,6 +183,23 @@ class Outbox:
         with closing(sqlite3.connect(self.path, timeout=20, isolation_level=None)) as alone:
             alone.execute("PRAGMA locking_mode = exclusive")
             alone.backup(self.base)
+        # (an older relay's outbox has not all of it)
+        self.make_tables()
+
+    def make_tables(self) -> None:
+        for statement in SCHEMA.split(";"):
+            self.base.execute(statement)
+
+    @property
+    def reasons(self) -> Reasons:
+        return Reasons(self.base)
+
+    def template(self, person: str, name: str) -> Kept | None:
+        """The request that a person saved under a name of their own."""
+        found = self.find(
+            "id = (SELECT message FROM templates WHERE person = ? AND name = ?)", person, name
+        )
+        return found[0] if found else None
 
     def is_made(self) -> bool:
         """Whether the file has all that the schema names."""
@@ -245,9 +271,7 @@ class Outbox:
             kept = self.insert(request, "request", by, request.no, once)
             if once:
                 self.base.execute("INSERT INTO said VALUES (?, ?)", (kept.id, words))
-            if reason:
-                row = (kept.id, reason.why, reason.ticket)
-                self.base.execute("INSERT INTO reasons VALUES (?, ?, ?)", row)
+            self.reasons.keep(kept.id, reason)
             return replace(kept, reason=reason)
 
     def check_words(self, old: Kept, wish: Wish, words: str) -> None:
@@ -261,9 +285,12 @@ class Outbox:
                 " has a key of its own"
             )
 
-    def keep_verdict(self, verdict: Verdict, once: str | None = None) -> Kept:
-        """Keeps a verdict. The same `once` again is the same verdict. Nobody approves what the
-        desk refused: their word would wait there for any other request of that name."""
+    def keep_verdict(
+        self, verdict: Verdict, once: str | None = None, why: str | None = None
+    ) -> Kept:
+        """Keeps a verdict and why it is given. The same `once` again is the same verdict. Nobody
+        approves what the desk refused: their word would wait there for any other request of that
+        name."""
         takes_away = verdict.kind in TAKES_AWAY
 
         def write() -> Kept:
@@ -272,7 +299,9 @@ class Outbox:
                     return old
                 if self.is_approval_of_refused(verdict):
                     raise BadWord(f"{UNASKED}: there is nothing to approve")
-                return self.insert(verdict, verdict.kind, verdict.of, verdict.no, once)
+                kept = self.insert(verdict, verdict.kind, verdict.of, verdict.no, once)
+                self.reasons.keep_verdict(kept.id, why)
+                return replace(self.entry(kept.id), is_new=kept.is_new)
 
         return self.spending(write, takes_away)
 
@@ -285,7 +314,8 @@ class Outbox:
             return request
 
     def prepare_verdict(self, verdict: Verdict, reason: Reason = NONE) -> None:
-        """Notes a verdict for its author to sign, with the reason that the request has."""
+        """Notes a verdict for its author to sign, with its reason; an approval's is that of its
+        request, which the approver was shown."""
         takes_away = verdict.kind in TAKES_AWAY
 
         def write() -> None:
@@ -318,14 +348,13 @@ class Outbox:
             if signed.why != reason_digest(*row):
                 raise BadWord("this was signed with another reason or ticket: begin again")
             message = read(signed.message)
-            is_request = isinstance(message, Request)
             of = message.by if isinstance(message, Request) else message.of
             kind = "request" if isinstance(message, Request) else message.kind
             kept = self.insert(message, kind, of, message.no, None)
             what = (kept.id, signed.signature, signed.about, signed.why)
             self.base.execute("INSERT OR IGNORE INTO signatures VALUES (?, ?, ?, ?)", what)
-            if is_request and row != ("", ""):
-                self.base.execute("INSERT OR IGNORE INTO reasons VALUES (?, ?, ?)", (kept.id, *row))
+            if kind != "approve":  # (an approval is signed over the reason of its request)
+                self.reasons.keep(kept.id, Reason(*row))
             return replace(self.entry(kept.id), is_new=kept.is_new)
 
     def is_approval_of_refused(self, verdict: Verdict) -> bool:
@@ -401,6 +430,10 @@ class Outbox:
 
     def entry(self, id: int) -> Kept:
         return self.find("id = ?", id)[0]
+
+    def with_reasons(self) -> list[Kept]:
+        """All requests, and the verdicts for which somebody gave a reason."""
+        return self.find("kind = 'request' OR reasons.why IS NOT NULL")
 
     def requests(self) -> list[Kept]:
         return self.find("kind = 'request'")

@@ -54,7 +54,7 @@ def asked(site: Site) -> str:
     words = "ask db-care --yes --on db1 --as root --for 1h /usr/bin/id"
     ran = site.run("ann", words)
     assert ran.returncode == 0, ran
-    return site.run("ann", "mine").stdout
+    return site.run("ann", "mine -l").stdout
 
 
 def test_it_reads_as_an_auditor(site: Site) -> None:

@@ -356,13 +356,13 @@ def revoked(room: Room) -> None:
     room.holds("a second before it", len(apart) == 2 and apart[0] - apart[1] == 1, (at, ends))
 
 
-def mails(room: Room, *subjects: str) -> str:
-    """The mails, once there is one of each subject."""
+def mails(room: Room, *kinds: str) -> str:
+    """The mails, once there is one of each kind of event."""
     text, until = "", time.monotonic() + PATIENCE
     while time.monotonic() < until:
         if os.path.exists(room.path("/tmp/mails")):
             text = room.read("/tmp/mails")
-        if all(f"Subject: [desk] {it}" in text for it in subjects):
+        if all(f"X-Desk-Event: {it}\n" in text for it in kinds):
             break
         time.sleep(0.1)
     return text
@@ -407,12 +407,12 @@ def no_approver(room: Room) -> None:
     done = room.follow(heading, 2)
     room.holds("the key approves", "It is in force from" in done.stdout, done)
     room.holds("everything on the host", room.may("/usr/bin/env"), done)
-    subjects = ("ann asks.", "glass approved ann 1.", "ann 1 is granted.")
-    rung = mails(room, *(f"BREAK-GLASS: {it}" for it in subjects))
-    for subject in subjects:
-        part = rung.partition(f"Subject: [desk] BREAK-GLASS: {subject}")[0].split("To: ")[-1]
-        everybody = all(f"{it}@site" in part for it in ("ann", "dave", "robert"))
-        room.holds(f"every bell: {subject}", everybody, rung)
+    rung = mails(room, "asked", "granted")
+    for kind in ("asked", "granted"):
+        head = rung.partition(f"X-Desk-Event: {kind}\n")[0].split("\nTo: ")[-1]
+        everybody = all(f"{it}@site" in head for it in ("ann", "dave", "robert"))
+        is_told = "[desk] BREAK-GLASS: ann: root on db1, 1 hour: db1 is down" in head
+        room.holds(f"every bell: {kind}", everybody and is_told, rung)
     done = room.follow(heading, 3)
     room.holds("it ends", done.returncode == 0 and not room.may("/usr/bin/env"), done)
     done = room.follow(heading, 4)

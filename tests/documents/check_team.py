@@ -39,6 +39,8 @@ NEEDED += " python3-waitress sqlite3 sudo"
 PEOPLE = ("ann", "ben", "carol")
 AT_DOOR = "/run/desk-door/desk.sock"
 AT_POSTS = "/run/desk-posts/desk.sock"
+# (it would change nothing: what matters is whether it is taken)
+REFUSE = "refuse ann 1 --yes --anyway"
 MINUTES = {"two": 2, "three": 3, "five": 5, "eight": 8, "ten": 10, "thirty": 30, "forty": 40}
 SSH = "Host desk\n    HostName desk.example\n    User desk-relay\n"
 # what systemd does of the door's unit
@@ -317,7 +319,7 @@ def key_lost(_: Page, room: Room) -> None:
     told = r"^\d{14}Z by relay chat: ann: ask ann 1 \(ack\), with SHA256:"
     is_told = re.search(told, done.stdout, re.MULTILINE) is not None
     room.holds("what it signed, and when that came", is_told, done)
-    said = as_person(room, "ann", "mydesk refuse ann 1 --yes")
+    said = as_person(room, "ann", f"mydesk {REFUSE}")
     room.holds("it signs no more", "A20 BadSignature" in said.stdout, said)
     word = room.run("desk-signer enrol ann").stdout.strip()
     made = as_person(
@@ -326,8 +328,8 @@ def key_lost(_: Page, room: Room) -> None:
     )  # fmt: skip
     done = room.run("yes | desk-signer add ann /home/ann/ann.line")
     room.holds("a new one", (made.returncode, done.returncode) == (0, 0), (made, done))
-    said = as_person(room, "ann", "mydesk --key new refuse ann 1 --yes")
-    room.holds("signs", "acknowledged that you refused it" in said.stdout, said)
+    said = as_person(room, "ann", f"mydesk --key new {REFUSE}")
+    room.holds("signs", "The desk has your refusal" in said.stdout, said)
 
 
 def signers_unread(_: Page, room: Room) -> None:
@@ -337,7 +339,7 @@ def signers_unread(_: Page, room: Room) -> None:
     newest = "$(ls -d /etc/desk/signers/*Z | tail -n 1)"
     room.run(f"cp -a {newest} /root/kept; basename {newest} > /root/name")
     room.run(f"echo odd >> {newest}/allowed_signers")
-    said = as_person(room, "ben", "mydesk refuse ann 1 --yes")
+    said = as_person(room, "ben", f"mydesk {REFUSE}")
     room.holds("nothing signed is taken", "K25 NoSigners" in said.stdout, said)
     room.says(heading, "root's socket still takes refusals and revocations")
     # (of now: one from before the approval would count)
@@ -354,13 +356,13 @@ def signers_unread(_: Page, room: Room) -> None:
     room.holds("it says why", done.returncode == 2 and is_told, done)
     room.says(heading, "or move it away: then the one before it holds")
     room.run(f"mv {newest} /root/away")
-    said = as_person(room, "ben", "mydesk refuse ann 1 --yes")
-    room.holds("the one before holds", "acknowledged that you refused it" in said.stdout, said)
+    said = as_person(room, "ben", f"mydesk {REFUSE}")
+    room.holds("the one before holds", "The desk has your refusal" in said.stdout, said)
     room.says(heading, "Bring that folder back from the backup")
     room.run("mv /root/kept /etc/desk/signers/$(cat /root/name)")
     done = room.run(check)
-    said = as_person(room, "ann", "mydesk --key new refuse ann 1 --yes")
-    is_taken = "acknowledged that you refused it" in said.stdout
+    said = as_person(room, "ann", f"mydesk --key new {REFUSE}")
+    is_taken = "The desk has your refusal" in said.stdout
     room.holds("and then the newest", is_taken, (said, done))
     room.holds("nothing is wrong", done.stdout.startswith("nothing is wrong"), done)
 
