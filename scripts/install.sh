@@ -55,8 +55,8 @@ for page in "$room"/pages/*.[1-8]; do
 done
 broker=(consume publish fill refused snapshot compare check-queues broker-definitions)
 for name in desk desk-audit desk-lint desk-import desk-used desk-evidence desk-change-roster \
-    desk-change-base desk-roster desk-demo desk-relay desk-relay-person desk-door desk-signer \
-    desk-verify mydesk desk-backup desk-restore "${broker[@]/#/desk-}"; do
+    desk-change-base desk-roster desk-standing desk-demo desk-relay desk-relay-person desk-door \
+    desk-signer desk-verify mydesk desk-backup desk-restore "${broker[@]/#/desk-}"; do
     put 0644 "$room/pages/$name.bash" "$PREFIX/share/bash-completion/completions/$name"
     put 0644 "$room/pages/_$name" "$PREFIX/share/zsh/$zsh/_$name"
 done
@@ -79,7 +79,7 @@ DEB_PYTHON_INSTALL_LAYOUT=$layout /usr/bin/python3 -m pip --disable-pip-version-
     --root-user-action=ignore --root "${root:-/}" "${where[@]}" "$room/python"
 packages=("$root$PREFIX"/lib/python3*/dist-packages)
 rm -f "${packages[0]}"/steelnewt-*.dist-info/{INSTALLER,RECORD,REQUESTED,direct_url.json}
-for name in desk-{lint,import,used,evidence,change-roster,change-base,roster,demo,relay} \
+for name in desk-{lint,import,used,evidence,change-roster,change-base,roster,standing,demo,relay} \
     desk-{relay-person,door,signer,verify,backup,restore} "${broker[@]/#/desk-}"; do
     # (nothing of the caller's environment, or of the folder that it is in, is imported)
     sed -i '1s,.*,#!/usr/bin/python3 -I,' "$root$PREFIX/bin/$name"

@@ -30,7 +30,7 @@ use Rattle.relay_http.specs.declared.status.ResponseStatus.TheVariants.{Done}
 
 -- The response of a desk of this roster, base and history to an action. `IsUp` says that the
 -- storage was honest and no failure has shut it, `old` and `new` which messages it holds before and
--- after, `Same` that it keeps what it kept. `Served` says what storage did, as `desk_store` defines:
+-- after, `Same` that it keeps what it kept. `Served` says what storage did, as `desk_store` says:
 -- by whether the answer tells of a failed storage, and whether of a want of memory or of storage.
 pub record IsAnswered (roster : Reading) (base : List Entry) (history : List ℕ)
     (IsUp : Type 0) (old new : Message → Type 0) (Same : Type 0)
