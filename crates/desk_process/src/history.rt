@@ -8,7 +8,7 @@ use std::{env, fmt, io, str};
 /// The variable of the environment that names the file of the history.
 const HISTORY_AT: &str = "DESK_HISTORY";
 
-/// The most bytes of a history that a desk tells. Of a longer one it tells the last lines.
+/// The most bytes of a history that a desk tells. Where there are more, it tells the last lines.
 const MOST_TOLD: usize = 1_048_576;
 
 /// The most bytes that are read of the file.
