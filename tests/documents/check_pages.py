@@ -148,7 +148,7 @@ def check_tools(tools: list[dict]) -> tuple[int, list[str]]:
         path = shutil.which(tool["name"], path=":".join(folders)) or tool["name"]
         words = [[path, *word, "--help"] for word in ([], *([it] for it in tool.get("words", [])))]
         texts = [subprocess.run(each, capture_output=True, text=True).stdout for each in words]
-        found = set(re.findall(r"^  (?:-h, )?(--[a-z]+)", "\n".join(texts), re.MULTILINE))
+        found = set(re.findall(r"^  (?:-h, )?(--[a-z][a-z0-9-]*)", "\n".join(texts), re.MULTILINE))
         if found != {name for name, _ in tool["options"]}:
             wrong.append(f"packaging/commands.toml: {tool['name']} has the options {found}")
     return sum("says" in each for each in tools), wrong
