@@ -113,14 +113,19 @@ def test_a_call_on_a_full_disk(small: Path) -> None:
         fill(small)
         mine = site.run("ann", "mine")
         assert mine.returncode == 0 and "ann 1" in mine.stdout, mine
-        asked = site.run("bob", ASK)
+        asked = site.run("ann", ASK.replace("ask ", "ask --again "))
         assert asked.returncode != 0 and "Kept" not in asked.stdout, asked
         assert "Nothing was sent" in asked.stderr
+        # (nor is anything kept in the copy alone that a call reads)
+        zone = site.run("ann", "set zone Europe/Berlin")
+        assert zone.returncode != 0 and "Your zone" not in zone.stdout, zone
+        saved = site.run("ann", "save the-usual 1")
+        assert saved.returncode != 0 and "is the-usual" not in saved.stdout, saved
         revoked = site.run("carol", "revoke ann 1 --yes")
         assert revoked.returncode == 0, revoked
-        assert "acknowledged that you revoked it" in revoked.stdout
+        assert "The desk has your revocation." in revoked.stdout
         assert site.ask(f"/v1/grants/{stamp(now())}") == ""
-        late = site.run("bob", ASK)
+        late = site.run("ann", ASK)
         assert "only refusals and revocations are kept" in late.stderr, late
     finally:
         site.close()
