@@ -35,6 +35,8 @@ OWNERS = {"desk.db": "desk", "outbox.db": "desk-relay"}
 @pytest.fixture
 def thief(quiet_site: Site) -> Iterator[Site]:
     """A relay's folder after somebody else had its account."""
+    for name in ("outbox.db", "outbox.db-wal", "outbox.db-shm"):
+        (quiet_site.folder / name).unlink(missing_ok=True)
     with closing(sqlite3.connect(quiet_site.folder / "outbox.db")) as base:
         base.execute("CREATE TABLE m (id INTEGER PRIMARY KEY, body TEXT)")
         base.execute("INSERT INTO m (body) VALUES (?)", (FORGED,))
