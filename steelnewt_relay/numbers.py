@@ -9,8 +9,8 @@ from steelnewt_relay.outbox import Outbox
 # How each request's text has its kind, in the one form that a message has.
 REQUEST = '"kind":"request"'
 UNHEARD = (
-    "this relay's outbox is new, and the desk has not told yet which numbers are used: {}. Nothing"
-    " was sent, so ask again in a while. (Who runs the relay may say it: desk-relay number-past)"
+    "it is not known here yet which numbers are used: {}. Ask again in a while, or tell the"
+    " operator"
 )
 
 

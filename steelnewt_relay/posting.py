@@ -92,7 +92,7 @@ def keep_posting(outbox: Outbox, desk: Desk, every: float, ended: threading.Even
             posted = post_kept(outbox, desk)
         except sqlite3.OperationalError as fault:
             posted = []
-            if trouble != (trouble := f"the outbox fails: {fault}"):
+            if trouble != (trouble := f"what is kept here fails: {fault}"):
                 log.warning("%s", trouble)
         for kept in posted:
             if kept.state != "kept":

@@ -247,7 +247,8 @@ def nobody_can_approve(books: Books) -> None:
     books.holds("whom an agent makes of one is named", "You are ann." in other.stdout, other)
     books.holds("what hosts know", "Each host has it with its next fetch" in done.stdout, done)
     books.holds("everything on the host", books.may("/usr/bin/env"), done)
-    on.wait(f"grep -q 'BREAK-GLASS: ann .* is granted' {sites.MAILS}", 60)
+    # (what follows the request itself)
+    on.wait(f"grep -q 'Re: .desk. BREAK-GLASS: ann: root on db1' {sites.MAILS}", 60)
     rung = on.out(f"cat {sites.MAILS}")
     books.holds("the bells", all(f"{it}@site" in rung for it in ("robert", "dave", "ann")), rung)
     done = books.follow(heading, 3, agent, number=number)
@@ -360,7 +361,8 @@ def ends_on_a_full_disk(books: Books, number: str, what: str) -> None:
     done = books.as_person("ann", "mine")
     books.holds(f"{what}: people read", f"ann {number}" in done.stdout, done)
     done = books.as_person("bob", f"revoke ann {number} --yes")
-    books.holds(f"{what}: it is kept", "Kept." in done.stdout, done)
+    is_kept = "The desk has your revocation." in done.stdout or "It is kept here" in done.stdout
+    books.holds(f"{what}: it is kept", is_kept, done)
     # (the desk may just be opening its store again)
     grants = f"{ASK}/v1/grants/$(date -u +%Y%m%d%H%M%SZ) > /tmp/g && ! grep '^ann {number} ' /tmp/g"
     books.holds(f"{what}: it is over", on.wait(grants, 30), done)
