@@ -315,6 +315,7 @@ def test_a_security_key_has_to_be_touched(doored: Doored, curve: bool) -> None:
 def robbed(fresh: Doored) -> Doored:
     """A site whose relay is somebody else's: ann has asked, and its outbox has her request."""
     behind_door(fresh)
+    fresh.site.hear()
     fresh.stop_door()
     ask = ("ask", "db-care", "--on", "db1", "--as", "root", "--for", "15m", "/usr/bin/id")
     assert "It is kept here" in Person(fresh, "ann").run(*ask, status=3)
