@@ -99,7 +99,7 @@ def built(room: Room) -> None:
     """The packages of build/deb, where their administrator has them."""
     folder = os.path.join(desk.BUILD, "deb")
     found = [it for it in os.listdir(folder) if it.endswith(".deb")]
-    room.holds("the packages are built: bash scripts/deb.sh", len(found) == 9, found)
+    room.holds("the packages are built: bash scripts/deb.sh", len(found) == 10, found)
     for name in found:
         shutil.copy(os.path.join(folder, name), room.path("/root"))
 
