@@ -3,8 +3,8 @@
 # steelnewt-host (what fetches a host's file), steelnewt-host-plugin (what sudo tells it),
 # steelnewt-tools, steelnewt-relay, steelnewt-door, steelnewt-backup, mydesk (a person's own),
 # steelnewt-broker, and python3-steelnewt-client, which five of these use. Nothing is proved, and
-# nothing built but sudo's plugin: the program is build/desk, byte for byte. Where that is not proved
-# (`make try`), the packages' version and description say so.
+# nothing built but sudo's plugin: the program is build/desk, byte for byte. Where that is not
+# proved (`make try`), the packages' version and description say so.
 set -euo pipefail
 cd "$(dirname "$0")/.."
 for tool in dpkg-buildpackage dh dh_python3; do
