@@ -1,8 +1,6 @@
 """No number is given twice, whatever became of the outbox."""
 
-import json
 import re
-import subprocess
 
 from relays.tests.site import Site
 from steelnewt_relay.outbox import Outbox
@@ -63,17 +61,6 @@ def test_number_past(site: Site) -> None:
     assert named(site, "ann", AGAIN) == "ann 41"
     assert named(site, "carol", ASKS) == "carol 41"
     assert named(site, "ann", AGAIN) == "ann 42"
-
-
-def test_what_was_sent_behind_a_number(site: Site) -> None:
-    """`desk-follow` asks so what is new: each message with its number and what the desk said."""
-    assert [named(site, "ann", it) for it in (ASKS, AGAIN)] == ["ann 1", "ann 2"]
-    ran = subprocess.run(
-        site.job("sent", "--after", "1"), capture_output=True, text=True, check=True
-    )
-    [line] = ran.stdout.splitlines()
-    number, state, text = line.split(" ", 2)
-    assert (number, state, json.loads(text)["no"]) == ("2", "acked", 2)
 
 
 def test_outbox_of_an_older_version(site: Site) -> None:
