@@ -37,7 +37,7 @@ def numbered(path: str, after: int) -> Iterator[str]:
 
 
 def rows(path: str, question: str, after: int) -> Iterator[tuple[str, list[Any]]]:
-    """Each message behind the one of this number, with what else the question asks of it."""
+    """Each message behind the one of this number, with the other columns of the question."""
     with closing(opened(path)) as base:
         for look in (PROGRAMS, COMPUTED):
             if found := [name for (name,) in base.execute(look)]:
