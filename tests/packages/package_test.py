@@ -293,6 +293,12 @@ def child(trial: Trial, process: subprocess.Popen[str]) -> int:
     return int(trial.read(f"/proc/{process.pid}/task/{process.pid}/children").split()[0])
 
 
+def family(trial: Trial, pid: int) -> list[int]:
+    """A process, and all below it."""
+    below = trial.read(f"/proc/{pid}/task/{pid}/children").split()
+    return [pid, *(it for each in below for it in family(trial, int(each)))]
+
+
 def traced(trial: Trial) -> None:
     """The service makes no system call that its unit does not let through."""
     trace = "/var/lib/desk/trace"
@@ -626,8 +632,9 @@ def while_it_is_down(trial: Trial) -> None:
     taken_over(trial, "stopped")
     killed = Service(trial)
     killed.wait_ready()
-    for pid in (child(trial, killed.process), killed.process.pid):
-        os.kill(pid, signal.SIGKILL)
+    for pid in family(trial, killed.process.pid):
+        with contextlib.suppress(ProcessLookupError):
+            os.kill(pid, signal.SIGKILL)
     killed.process.communicate(timeout=PATIENCE)
     stale = trial.path(SOCKET.removeprefix("unix:"))
     trial.check("a socket is left", os.path.exists(stale))
