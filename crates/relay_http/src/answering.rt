@@ -239,13 +239,15 @@ fn host_file_after<K: Keeper>(
     }
 }
 
-/// The file behind the line.
-fn followed(line: String, file: &str) -> Result<String, Refusal>
-    ensures text { IfOk result (λ s. string_bytes s ≡ string_bytes line ++ file.now) }
+/// The line, with the file behind it. The line is put before the file, where room for the file is
+/// already: a file may have a MiB.
+fn followed(line: String, file: String) -> Result<String, Refusal>
+    ensures text { IfOk result
+        (λ s. string_bytes s ≡ string_bytes line ++ string_bytes file) }
     ensures err { IfErr result (λ e. e ≡ Refusal.NoMemory) }
 {
-    let mut out = line;
-    out.push_str(file)?;
+    let mut out = file;
+    out.insert_str(0, line.as_str())?;
     Ok(out)
 }
 
@@ -254,7 +256,7 @@ fn joined(line: String, file: Result<String, Refusal>) -> Result<String, Refusal
     ensures { IsJoined line file result }
 {
     match file {
-        Ok(file) => followed(line, file.as_str()),
+        Ok(file) => followed(line, file),
         Err(refusal) => Err(refusal),
     }
 }
