@@ -1,6 +1,6 @@
 # The commands of the repository. `rt` is the toolchain's command.
 
-.PHONY: all desk demo test quick try cases gate-times edits docs picture contracts peers bench faults soak types relays-test door-test tools-test several hosts moving install deb release pages package-test clean
+.PHONY: all desk demo test quick try cases gate-times edits docs picture contracts peers bench faults soak types relays-test door-test tools-test several hosts lost moving install deb release pages package-test machines clean
 
 all: desk
 
@@ -83,6 +83,12 @@ soak: desk
 	env CHANGES=1000 python3 -m tests.soak.rosters
 	/usr/bin/python3 -m tests.soak.soak
 
+# A machine that is lost, in the long form: backup and restore killed at each of their system calls, and ten losses over 300 messages and 30 faked days, on
+# machines that boot (as root).
+lost: desk
+	python3 -m tests.backup.kills
+	WHOLE=1 bash tests/backup/machines.sh
+
 # The types and style of relays/, broker/ and tools/, by mypy and flake8 (it installs them where this is root).
 types:
 	bash scripts/types.sh
@@ -138,6 +144,12 @@ pages: build/desk
 
 package-test: build/desk build/desk-audit
 	$(GATE) packages
+
+# Machines that boot, over the packages of build/deb (as root): a machine's lives, TEAM and the runbooks. With LAST, the folder of the last release's packages,
+# also an upgrade from these, and machines of both versions.
+machines: deb
+	status=0; for part in lives team books; do LAST= python3 -m tests.machines.$$part || status=1; done; \
+	    if [ -n "$(LAST)" ]; then LAST="$(LAST)" python3 -m tests.machines.lives && python3 -m tests.machines.mixed "$(LAST)" || status=1; fi; exit $$status
 
 # Several desks behind a broker (docs/SEVERAL.md): the broker's package by its own tests, then three nodes of RabbitMQ and three desks on loopback while
 # messages go on and each is killed (as root; what it needs of Debian is installed). At most six minutes; `bash tests/several/several.sh --short` takes two.

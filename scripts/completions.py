@@ -99,7 +99,8 @@ def tool_bash(tool: dict) -> str:
     names = " ".join(name for name, _ in tool["options"])
     others = "|".join(name for name, kind in tool["options"] if kind == "other")
     function = "_" + tool["name"].replace("-", "_")
-    text = TOOL_BASH.replace("@NAMES@", names).replace("@FUNCTION@", function)
+    frame = ASKING_BASH if tool.get("asks") else TOOL_BASH
+    text = frame.replace("@NAMES@", names).replace("@FUNCTION@", function)
     text = text.replace("@WORDS@", " ".join(tool.get("words", [])))
     # (words stand behind the files where the first word may be one, and else in their place)
     behind = '-O "${#COMPREPLY[@]}" ' if tool.get("or_files") else ""
@@ -129,7 +130,46 @@ complete -F @FUNCTION@ @TOOL@
 """
 
 
+# (a program that knows the words of somewhere else is asked for them)
+ASKING_BASH = """\
+# What bash completes behind `@TOOL@`: its options, and what `@TOOL@ complete` says.
+@FUNCTION@() {
+    local current=${COMP_WORDS[COMP_CWORD]} before=${COMP_WORDS[COMP_CWORD - 1]}
+    COMPREPLY=()
+    case $before in
+        @OTHERS@) return ;;
+    esac
+    if [ "$COMP_CWORD" -eq 1 ]; then
+        mapfile -t COMPREPLY < <(compgen -W '@WORDS@ @NAMES@' -- "$current")
+        return
+    fi
+    local typed=("${COMP_WORDS[@]:1:COMP_CWORD}")
+    mapfile -t COMPREPLY < <(@TOOL@ complete "${typed[@]}" < /dev/null 2> /dev/null)
+    if [ "${#COMPREPLY[@]}" -eq 0 ]; then
+        compopt -o filenames 2> /dev/null
+        mapfile -t COMPREPLY < <(compgen -f -- "$current")
+    fi
+}
+complete -F @FUNCTION@ @TOOL@
+"""
+ASKING_ZSH = """\
+#compdef @TOOL@
+# What zsh completes behind `@TOOL@`: its words and options, and what `@TOOL@ complete` says.
+if (( CURRENT == 2 )); then
+    compadd -- @WORDS@ @NAMES@
+else
+    local -a found
+    found=("${(@f)$(@TOOL@ complete "${(@)words[2,CURRENT]}" 2> /dev/null < /dev/null)}")
+    if [[ -n ${found[1]} ]]; then compadd -- $found; else _files; fi
+fi
+"""
+
+
 def tool_zsh(tool: dict) -> str:
+    if tool.get("asks"):
+        names = " ".join(name for name, _ in tool["options"])
+        text = ASKING_ZSH.replace("@NAMES@", names).replace("@WORDS@", " ".join(tool["words"]))
+        return text.replace("@TOOL@", tool["name"])
     values = {"": "", "file": ":FILE:_files", "other": ":WORD: "}
     options = " ".join(f"'{name}[{name[2:]}]{values[kind]}'" for name, kind in tool["options"])
     words = ""

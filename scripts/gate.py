@@ -43,7 +43,9 @@ SOAK = "root cc visudo unshare mount prlimit setpriv"
 PAGES = "root mandoc zsh unshare ip visudo sudo faketime curl jq sqlite3 nginx openssl"
 DEBIAN = "root dpkg-buildpackage dh dh_python3"
 PACKAGES = f"{DEBIAN} faketime sudo unshare ip nginx haproxy openssl strace epmd"
+MACHINES = "root systemctl dbus-daemon nsenter unshare ip dpkg-deb nginx sshd sudo"
 HOSTS = "root debootstrap unshare sudo visudo cvtsudoers faketime ip cc"
+BACKUP = "root unshare strace sqlite3 curl flock age gpg"
 MOVING = "root apt-get unshare sudo visudo cvtsudoers ip sshd ansible debootstrap"
 APT = "root apt-get"
 
@@ -89,6 +91,10 @@ PARTS = (
     Part("relays/crowd", "bash relays/test.sh crowd", APT, alone=True),
     Part("tools", "bash tools/test.sh", APT, 6, cores=2),
     Part("hosts", "/usr/bin/python3 -m tests.hosts.hosts --short", HOSTS, 7, cores=2),
+    Part("backup/listed", "python3 -m tests.backup.listed", "", 0.1),
+    Part("backup/backups", "python3 -m tests.backup.backups", BACKUP, 2),
+    Part("backup/kills", "python3 -m tests.backup.kills 20", BACKUP, 3),
+    Part("backup/machines", "bash tests/backup/machines.sh 3", f"{BACKUP} nginx openssl ip cc", 3),
     Part("moving/here", "/usr/bin/python3 -m tests.moving.moving --short", MOVING, 3),
     Part("moving/13", "/usr/bin/python3 -m tests.moving.moving --short 13", MOVING, 2),
     Part("pages/make", "python3 scripts/make_pages.py build/pages", PAGES),
@@ -119,6 +125,9 @@ PARTS = (
         minutes=2,
         after="packages/make",
     ),
+    Part("machines/lives", "python3 -m tests.machines.lives", MACHINES, 2, after="packages/make"),
+    Part("machines/team", "python3 -m tests.machines.team", MACHINES, 2, after="packages/make"),
+    Part("machines/books", "python3 -m tests.machines.books", MACHINES, 3, after="packages/make"),
     Part("several", "bash tests/several/several.sh --short", "root unshare mount", 3),
 )
 

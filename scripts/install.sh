@@ -24,8 +24,8 @@ put() {
 
 # Writes the places of the programs into a text, and puts that in place.
 fill() {
-    sed "s,@LIBEXECDIR@,$libexec,g; s,@SBINDIR@,$PREFIX/sbin,g; s,@BINDIR@,$PREFIX/bin,g" \
-        "$1" > "$room/filled"
+    sed "s,@LIBEXECDIR@,$libexec,g; s,@SBINDIR@,$PREFIX/sbin,g; s,@BINDIR@,$PREFIX/bin,g" "$1" |
+        sed "s,@PREFIX@,$PREFIX,g" > "$room/filled"
     put "$2" "$room/filled" "$3"
 }
 
@@ -38,21 +38,25 @@ put 0755 build/desk-audit "$PREFIX/bin/desk-audit"
 put 0755 packaging/desk-serve "$libexec/desk-serve"
 put 0755 packaging/mydesk "$PREFIX/bin/mydesk"
 put 0755 packaging/desk-memory "$libexec/desk-memory"
+put 0755 packaging/desk-reserve "$libexec/desk-reserve"
 put 0755 packaging/desk-history "$libexec/desk-history"
+put 0755 packaging/desk-signals "$libexec/desk-signals"
 python3 scripts/host_program.py "$room/desk-host"
 put 0755 "$room/desk-host" "$PREFIX/sbin/desk-host"
 # (it is of this machine's kind, and needs a C compiler and the header of Debian's package sudo)
 bash scripts/plugin.sh "$room/desk_host.so"
 put 0644 "$room/desk_host.so" "$libexec/desk_host.so"
 put 0644 packaging/host/desk-defaults "$PREFIX/share/doc/steelnewt-host/desk-defaults"
+# (in the package sudo reads it at once; elsewhere an administrator copies it)
+[ "$PREFIX" != /usr ] || put 0440 packaging/host/desk-defaults /etc/sudoers.d/desk-defaults
 put 0755 examples/monitoring/check_desk.py "$PREFIX/lib/nagios/plugins/check_desk"
 for page in "$room"/pages/*.[1-8]; do
     put 0644 "$page" "$PREFIX/share/man/man${page##*.}/$(basename "$page")"
 done
 broker=(consume publish fill refused snapshot compare check-queues broker-definitions)
 for name in desk desk-audit desk-lint desk-import desk-used desk-evidence desk-change-roster \
-    desk-change-base desk-roster desk-demo desk-relay desk-relay-person desk-door desk-signer \
-    desk-verify mydesk "${broker[@]/#/desk-}"; do
+    desk-change-base desk-roster desk-standing desk-demo desk-relay desk-relay-person desk-door \
+    desk-signer desk-verify mydesk desk-backup desk-restore "${broker[@]/#/desk-}"; do
     put 0644 "$room/pages/$name.bash" "$PREFIX/share/bash-completion/completions/$name"
     put 0644 "$room/pages/_$name" "$PREFIX/share/zsh/$zsh/_$name"
 done
@@ -68,20 +72,20 @@ case $PREFIX in
     /usr/local) layout='' where=() ;;
 esac
 mkdir -p "$room/python/build/python"
-cp -r --parents pyproject.toml steelnewt_client steelnewt_relay steelnewt_door broker/desk_broker \
+cp -r --parents pyproject.toml steelnewt_{client,relay,door,backup} broker/desk_broker \
     tools/desk_tools tools/schemas docs/CODES.md "$room/python"
 DEB_PYTHON_INSTALL_LAYOUT=$layout /usr/bin/python3 -m pip --disable-pip-version-check install \
     --quiet --no-index --no-deps --no-build-isolation --ignore-installed --no-warn-script-location \
     --root-user-action=ignore --root "${root:-/}" "${where[@]}" "$room/python"
 packages=("$root$PREFIX"/lib/python3*/dist-packages)
 rm -f "${packages[0]}"/steelnewt-*.dist-info/{INSTALLER,RECORD,REQUESTED,direct_url.json}
-for name in desk-{lint,import,used,evidence,change-roster,change-base,roster,demo,relay} \
-    desk-{relay-person,door,signer,verify} "${broker[@]/#/desk-}"; do
+for name in desk-{lint,import,used,evidence,change-roster,change-base,roster,standing,demo,relay} \
+    desk-{relay-person,door,signer,verify,backup,restore} "${broker[@]/#/desk-}"; do
     # (nothing of the caller's environment, or of the folder that it is in, is imported)
     sed -i '1s,.*,#!/usr/bin/python3 -I,' "$root$PREFIX/bin/$name"
 done
 mkdir -p "$root$PREFIX/sbin"
-for name in desk-relay-person desk-signer; do
+for name in desk-relay-person desk-signer desk-backup desk-restore; do
     mv "$root$PREFIX/bin/$name" "$root$PREFIX/sbin/$name"
 done
 # (the lines of people's keys that earlier versions wrote call the relay there)
@@ -104,6 +108,7 @@ done
 put 0755 examples/front-ca.sh "$PREFIX/share/doc/steelnewt-relay/examples/front-ca.sh"
 put 0644 examples/door/desk.conf "$PREFIX/share/doc/steelnewt-door/examples/desk.conf"
 [ -e "$root/etc/desk/door.toml" ] || put 0644 door/door.example.toml /etc/desk/door.toml
+[ -e "$root/etc/desk/backup.toml" ] || put 0644 packaging/backup.toml /etc/desk/backup.toml
 [ -e "$root/etc/desk/relay.toml" ] || put 0644 relays/relay.example.toml /etc/desk/relay.toml
 # Several desks behind a broker: its settings.
 for file in rabbitmq.conf tls.conf; do
@@ -119,7 +124,7 @@ for conf in serve.conf fetch.conf; do
     [ -e "$root/etc/desk/$conf" ] || put 0644 "packaging/$conf" "/etc/desk/$conf"
 done
 for text in README.md CHANGELOG.md \
-    docs/{OPERATING,RUNBOOKS,HTTP,RELAYS,AUDITING,ROSTER,SUDOERS,MESSAGES,STORE}.md \
+    docs/{OPERATING,RUNBOOKS,RESTORING,HTTP,RELAYS,AUDITING,ROSTER,SUDOERS,MESSAGES,STORE}.md \
     docs/{CODES,proof/PROOFS,LINT,IMPORT,SECURITY,HOSTS,USED,EVIDENCE,CONTROLS,CHANGING}.md \
     docs/{PEOPLE,TEAM,SEVERAL,SIGNING,CONCEPTS,PROGRAMS}.md; do
     python3 scripts/installed.py "$text" > "$room/filled"

@@ -145,6 +145,7 @@ In a folder with the files of
 .Xr desk-evidence 1 ,
 .Xr desk-import 1 ,
 .Xr desk-lint 1 ,
+.Xr desk-standing 1 ,
 .Xr desk-used 1 ,
 .Xr desk-message 5 ,
 .Xr desk-policy 5 ,

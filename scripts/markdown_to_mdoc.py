@@ -31,6 +31,7 @@ INSTALLED = (
     "PROGRAMS.md",
     "OPERATING.md",
     "RUNBOOKS.md",
+    "RESTORING.md",
     "SECURITY.md",
     "HTTP.md",
     "RELAYS.md",

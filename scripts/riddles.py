@@ -115,7 +115,7 @@ def code_files() -> Iterator[tuple[str, str]]:
     """The files of Python and of the shell, by their names, with their texts: also those that have
     no ending."""
     kept = {"build", "crates", "docs", ".git"}
-    for folder, folders, names in sorted(os.walk(repository.ROOT)):
+    for folder, folders, names in os.walk(repository.ROOT):
         folders[:] = sorted(it for it in folders if it not in kept)
         for name in sorted(names):
             path = os.path.relpath(os.path.join(folder, name), repository.ROOT)

@@ -42,6 +42,9 @@ done
 # What `make quick` asks of the scripts themselves.
 /usr/bin/python3 -c 'import pyflakes' 2>/dev/null || wanted+=(python3-pyflakes)
 command -v ip >/dev/null || wanted+=(iproute2)
+# Whom a backup's secrets are sealed to: `tests/backup`.
+command -v age >/dev/null || wanted+=(age)
+command -v gpg >/dev/null || wanted+=(gnupg)
 # A host's sudo at a terminal, and the roots of other Debians: `make hosts`.
 command -v debootstrap >/dev/null || wanted+=(debootstrap)
 command -v tmux >/dev/null || wanted+=(tmux)

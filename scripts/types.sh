@@ -23,7 +23,7 @@ typed() {
         --no-error-summary "$@"
 }
 
-mapfile -t relays < <(python_of relays door steelnewt_client steelnewt_relay steelnewt_door)
+mapfile -t relays < <(python_of relays door steelnewt_{client,relay,door,backup})
 mapfile -t broker < <(python_of broker)
 mapfile -t tools < <(python_of tools)
 mapfile -t host < <(python_of steelnewt_host)

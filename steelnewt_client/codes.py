@@ -68,7 +68,7 @@ def judge(status: int, text: str) -> Answer:
 
 # What a front means that answers by itself.
 FRONT_MEANS = {
-    403: "it does not let this relay's certificate do that",
+    403: "it does not let this certificate do that",
     413: "it lets no message of that length through",
     429: "it lets no more messages through now",
     502: "the desk behind it is away",
@@ -155,12 +155,27 @@ SENTENCES = {
         "do not approve it: find out who showed its approver something else",
     ),
 }
+# What somebody reads who only asks or approves, where the table speaks to whoever runs the desk.
+FOR_PEOPLE = {
+    "A1 UnknownPerson": (
+        "nobody here has that name",
+        "compare it, or ask whoever keeps the list of people",
+    ),
+    "A2 UnknownCeiling": (
+        "there is no ceiling of that name",
+        "take one of those that you may ask for",
+    ),
+    "A21 NotOfNow": (
+        "the message came too late",
+        "say it anew, and tell the operator if that does not help: a clock may be wrong",
+    ),
+}
 
 
 def in_words(refusal: str) -> str:
     """A refusal such as `A7 WindowTooLong`, with what it means and what to do."""
     if refusal not in SENTENCES:
         return refusal
-    when, then = SENTENCES[refusal]
+    when, then = FOR_PEOPLE.get(refusal, SENTENCES[refusal])
     plain = when.replace("`", "'")
     return f"{refusal}: {plain}. What to do: {then.replace('`', chr(39))}."

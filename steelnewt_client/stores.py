@@ -17,8 +17,10 @@ HEADER = 32  # the log's first bytes: they are others after the log began anew
 # A file's time is that of the system's last tick: a change within one may leave it the same.
 TICK = 0.1
 
+Mark = tuple[int, int, int, bytes]
 
-def mark(store: str) -> tuple[int, int, int, bytes]:
+
+def mark(store: str) -> Mark:
     """What is another after a checkpoint, or after the log began anew."""
     found = os.stat(store)
     header = b""
@@ -27,10 +29,15 @@ def mark(store: str) -> tuple[int, int, int, bytes]:
     return found.st_ino, found.st_size, found.st_mtime_ns, header
 
 
+def is_settled(before: Mark) -> bool:
+    """Whether the file's time would show the next change."""
+    return abs(time.time() - before[2] / 1e9) >= TICK
+
+
 def copy_once(store: str, copy: str) -> bool:
     """Copies the store and its log; whether there was no checkpoint meanwhile."""
     before = mark(store)
-    if time.time() - before[2] / 1e9 < TICK:
+    if not is_settled(before):
         return False
     shutil.copyfile(store, copy)
     with contextlib.suppress(FileNotFoundError):

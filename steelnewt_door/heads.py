@@ -7,6 +7,7 @@ from dataclasses import dataclass
 from steelnewt_client.signed import MOST_LINE
 
 MOST_HEAD, MOST_FIELDS = 8_192, 32
+END = re.compile(rb"\r?\n\r?\n")
 LINE = re.compile(rb"([!#$%&'*+.^_`|~0-9A-Za-z-]+) ([!-~]+) HTTP/1\.([01])")
 FIELD = re.compile(rb"([!#$%&'*+.^_`|~0-9A-Za-z-]+):[ \t]*([^\x00-\x08\x0a-\x1f\x7f]*?)[ \t]*")
 PHRASES = {
@@ -71,19 +72,25 @@ def head_of(given: bytes) -> Head:
     return Head(found[1].decode("ascii"), found[2].decode("ascii"), lengths, is_coded)
 
 
+def head_in(given: bytes) -> tuple[Head, bytes] | None:
+    """A head, and what came behind it; None where more of it may come."""
+    given = given.lstrip(b"\r\n")
+    if ended := END.search(given):
+        if ended.end() > MOST_HEAD:
+            raise Bad(400, "T1 BadHead")
+        return head_of(given[: ended.start()]), given[ended.end() :]
+    return None
+
+
 async def read_head(reader: asyncio.StreamReader) -> tuple[Head, bytes]:
     """A head, and what came behind it."""
     given = b""
-    while True:
-        if ended := re.search(rb"\r?\n\r?\n", given.lstrip(b"\r\n")):
-            given = given.lstrip(b"\r\n")
-            if ended.end() > MOST_HEAD:
-                raise Bad(400, "T1 BadHead")
-            return head_of(given[: ended.start()]), given[ended.end() :]
+    while (found := head_in(given)) is None:
         piece = await reader.read(MOST_HEAD) if len(given) <= MOST_HEAD else b""
         if not piece:
             raise Bad(400, "T1 BadHead")
         given += piece
+    return found
 
 
 async def read_body(reader: asyncio.StreamReader, begun: bytes, length: int) -> bytes:

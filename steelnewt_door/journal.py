@@ -49,7 +49,7 @@ class Batch:
 
     rows: list[Row]
     takes_away: bool
-    done: threading.Event = field(default_factory=threading.Event)
+    is_done: bool = False
     numbers: list[int] = field(default_factory=list)
     fault: Exception | None = None
 
@@ -68,6 +68,12 @@ def rows_of(path: str) -> Iterator[Row]:
                 yield read_row(line)
             except BadRow as fault:
                 raise BadJournal(f"{path}: line {number} {fault}") from None
+
+
+def rows_in(folder: str) -> Iterator[Row]:
+    """All rows of a folder, in their order."""
+    for _, path in files_of(folder):
+        yield from rows_of(path)
 
 
 def is_row(line: bytes) -> bool:
@@ -98,14 +104,12 @@ class Journal:
             self.let_go()
             raise
         self.reserve()
-        self.waiting: queue.SimpleQueue[Batch | None] = queue.SimpleQueue()
-        self.writer = threading.Thread(target=self.write_all, daemon=True)
-        self.writer.start()
+        self.waiting: queue.SimpleQueue[Batch] = queue.SimpleQueue()
+        self.writing = threading.Lock()
 
     def close(self) -> None:
-        self.waiting.put(None)
-        self.writer.join()
-        self.let_go()
+        with self.writing:
+            self.let_go()
 
     def let_go(self) -> None:
         if self.file >= 0:
@@ -225,34 +229,35 @@ class Journal:
 
     def rows(self) -> Iterator[Row]:
         """All rows that are here, in their order."""
-        for _, path in files_of(self.folder):
-            yield from rows_of(path)
+        return rows_in(self.folder)
 
     def append(self, rows: list[Row], takes_away: bool = False) -> list[int]:
-        """Writes rows, and is back with their numbers when they are on the disk."""
+        """Writes rows, and is back with their numbers when they are on the disk. Who comes first
+        writes what all wait for, with one sync, and the others find it done."""
         batch = Batch(rows, takes_away)
         self.waiting.put(batch)
-        batch.done.wait()
+        with self.writing:
+            while not batch.is_done:
+                self.write_waiting()
         if batch.fault:
             raise batch.fault
         return batch.numbers
 
-    def write_all(self) -> None:
-        """Writes what waits, all of it with one sync."""
-        is_ended = False
-        while not is_ended:
-            batches = [self.waiting.get()]
-            with contextlib.suppress(queue.Empty):
-                while len(batches) < MOST_BATCH and batches[-1]:
-                    batches.append(self.waiting.get_nowait())
-            is_ended = batches[-1] is None
-            found = [it for it in batches if it]
-            try:
-                self.write(found)
-            except Exception as fault:  # (whoever waits is answered, whatever happens)
-                self.refuse(found, BadJournal(f"the journal in {self.folder} fails: {fault!r}"))
-            for it in found:
-                it.done.set()
+    def write_waiting(self) -> None:
+        """Writes what waits, the oldest first."""
+        found = list[Batch]()
+        with contextlib.suppress(queue.Empty):
+            while len(found) < MOST_BATCH:
+                found.append(self.waiting.get_nowait())
+        self.write_batches(found)
+
+    def write_batches(self, batches: list[Batch]) -> None:
+        try:
+            self.write(batches)
+        except Exception as fault:  # (whoever waits is answered, whatever happens)
+            self.refuse(batches, BadJournal(f"the journal in {self.folder} fails: {fault!r}"))
+        for it in batches:
+            it.is_done = True
 
     def refuse(self, batches: list[Batch], fault: Exception) -> None:
         for it in batches:

@@ -4,6 +4,7 @@ import argparse
 import asyncio
 import contextlib
 import logging
+import mmap
 import os
 import signal
 import socket
@@ -11,18 +12,23 @@ import sqlite3
 import stat
 import sys
 from collections.abc import Iterator
+from dataclasses import replace
+from multiprocessing.connection import Connection
+from typing import Any
 
 from steelnewt_client.codes import NO_ROUTE
 from steelnewt_client.desk import Silent
+from steelnewt_door.crew import Asked, Crew, Keeper, Locks
 from steelnewt_door.index import Index
 from steelnewt_door.journal import BadJournal, files_of
 from steelnewt_door.refusals import Refused
-from steelnewt_door.serving import Serving
+from steelnewt_door.serving import BACKLOG, Serving, bound
 from steelnewt_door.settings import CONFIG, BadSettings, Settings, read_settings
 from steelnewt_door.signers import BadSigners
-from steelnewt_door.taking import Door
+from steelnewt_door.taking import LOCKS, Door
 
 log = logging.getLogger("desk-door")
+Places = list[tuple[socket.socket, bool]]
 
 
 def parser() -> argparse.ArgumentParser:
@@ -48,32 +54,59 @@ def told_ready() -> None:
             peer.sendall(b"READY=1")
 
 
-async def until_ended(serving: Serving, settings: Settings) -> None:
-    def ready() -> None:
-        log.info("the door of %s is at unix:%s", settings.site, settings.listen)
-        print(f"listening unix:{settings.listen}", flush=True)
-        told_ready()
-
-    job = asyncio.current_task()
+async def until_ended(serving: Serving, places: Places, line: Connection) -> None:
+    """Serves until SIGTERM, or until the process that has the journal is gone."""
+    loop, job = asyncio.get_running_loop(), asyncio.current_task()
     assert job
     for number in (signal.SIGTERM, signal.SIGINT):
-        asyncio.get_running_loop().add_signal_handler(number, job.cancel)
-    try:
-        await serving.serve((settings.listen, settings.root), ready)
-    except asyncio.CancelledError:
-        log.info("ended, as it was asked to")
+        loop.add_signal_handler(number, job.cancel)
+    loop.add_reader(line, os._exit, 1)
+    with contextlib.suppress(asyncio.CancelledError):
+        await serving.serve(places)
 
 
 def serve(settings: Settings) -> int:
     for path in (settings.listen, settings.root):
         check_place(path)
-    door = settings.door()
-    try:
-        told(door, settings)
-        asyncio.run(until_ended(Serving(door, settings.questions), settings))
-    finally:
-        door.journal.close()
-    return 0
+    with contextlib.ExitStack() as held:
+        places = [
+            (held.enter_context(bound(path, mode)), is_root)
+            for path, mode, is_root in (
+                (settings.listen, 0o660, False), (settings.root, 0o600, True)
+            )
+        ]  # fmt: skip
+        locks, lag = Locks(LOCKS), mmap.mmap(-1, 1)
+
+        def work(ends: list[Connection], line: Connection) -> None:
+            locks.own()
+            # (it has of a journal, and of a share, what a door uses as it takes messages)
+            asked: Any = Asked(settings.journal, ends, lag)
+            door = replace(settings.door(asked), locks=locks, share=asked)
+            asyncio.run(until_ended(Serving(door, settings.questions), places, line))
+
+        crew = Crew(work)
+        held.callback(crew.end)
+        journal = settings.kept()
+        held.callback(journal.close)
+        journal.note_torn()
+        told(settings.door(journal), settings)
+        run(crew, Keeper(journal, lag), settings, [it for it, _ in places])
+    return 1 if crew.has_failed else 0
+
+
+def run(crew: Crew, keeper: Keeper, settings: Settings, places: list[socket.socket]) -> None:
+    """Lets connections in, and has the crew take what comes, until it is asked to end."""
+    for number in (signal.SIGTERM, signal.SIGINT):
+        signal.signal(number, crew.stop)
+    for place in places:
+        place.listen(BACKLOG)
+    crew.go()
+    log.info("the door of %s is at unix:%s", settings.site, settings.listen)
+    print(f"listening unix:{settings.listen}", flush=True)
+    told_ready()
+    keeper.serve(crew.ends, crew.is_gone)
+    if not crew.has_failed:
+        log.info("ended, as it was asked to")
 
 
 def told(door: Door, settings: Settings) -> None:
@@ -83,7 +116,6 @@ def told(door: Door, settings: Settings) -> None:
     else:
         with suppress_signers():
             log.info("signers of %s", door.signers.now().at)
-    door.journal.note_torn()
     try:
         if count := door.settle():
             log.warning("%d messages had no answer in the journal: the desk was asked", count)

@@ -10,33 +10,40 @@ import os
 import re
 import socket
 import struct
-from collections.abc import Awaitable, Callable
+import threading
+import time
+from collections.abc import Callable
 from concurrent.futures import ThreadPoolExecutor
 from contextlib import suppress
+from dataclasses import replace
 
 from steelnewt_client.desk import answer_in, route
 from steelnewt_client.names import LABEL
-from steelnewt_door.heads import Bad, Head, read_body, read_head, reply
+from steelnewt_door.crew import PROCESSES, WORKERS
+from steelnewt_door.heads import MOST_HEAD, Bad, Head, head_in, read_body, read_head, reply
 from steelnewt_door.refusals import STATUSES, Refused
 from steelnewt_door.taking import Door, Reply, Way
 
 log = logging.getLogger("desk-door")
 MOST_REPLY = 65_536
 COMES_IN, ANSWERS_IN, GOES_IN = 10.0, 60.0, 30.0  # seconds
-MOST_OPEN = 1_024  # connections
-WORKERS = 16
+MOST_OPEN = 1_024 // PROCESSES  # connections of each process
+BACKLOG = 512  # that wait to be taken
 POSTS = re.compile(rf"/v1/relays/({LABEL})/messages")
 
 
 def post_to(path: str, patience: float = ANSWERS_IN) -> Callable[[str, str], Reply]:
     """What posts a message to the desk at a socket, and gives back its bytes."""
+    until = struct.pack("@ll", int(patience), int(patience % 1 * 1e6))
 
     def post(relay: str, message: str) -> Reply:
         body = message.encode("utf-8")
         head = f"POST {route(relay)} HTTP/1.1\r\nHost: desk\r\nContent-Length: {len(body)}\r\n\r\n"
         try:
             with socket.socket(socket.AF_UNIX) as peer:
-                peer.settimeout(patience)
+                # (the kernel keeps the time: Python's own timeout is two calls for each)
+                for option in (socket.SO_RCVTIMEO, socket.SO_SNDTIMEO):
+                    peer.setsockopt(socket.SOL_SOCKET, option, until)
                 peer.connect(path)
                 peer.sendall(head.encode("ascii") + body)
                 raw = b""
@@ -51,6 +58,73 @@ def post_to(path: str, patience: float = ANSWERS_IN) -> Callable[[str, str], Rep
     return post
 
 
+def post_in(given: bytes) -> tuple[str, int, int] | None:
+    """The relay of a post whose head is there, how long its line is, and how much of that is still to
+    come; None where more of the head is. Raises where it is something else, or more."""
+    if (found := head_in(given)) is None:
+        if len(given) > MOST_HEAD:
+            raise Bad(400, "T1 BadHead")
+        return None
+    head, begun = found
+    posts = POSTS.fullmatch(head.target)
+    if not posts or head.method != "POST" or len(begun) > head.length:
+        raise Other
+    return posts[1], head.length, head.length - len(begun)
+
+
+class Other(Exception):
+    """A request that is no post, or has something behind it."""
+
+
+class Coming:
+    """A connection whose request may be a post. One that is, is answered by a worker as soon as it
+    is whole, and the loop has no more to do with it: of all that comes it is what many wait for.
+    Whatever else it is, or becomes, goes to `Serving.hear`, with what was read."""
+
+    def __init__(self, serving: "Serving", peer: socket.socket, way: Way) -> None:
+        self.serving, self.peer, self.way, self.given = serving, peer, way, b""
+        self.length, self.missing = 0, -1  # (-1 while its head is to come)
+        self.timer: asyncio.TimerHandle | None = None
+
+    def read(self) -> None:
+        try:
+            self.take(self.peer.recv(MOST_REPLY))
+        except BlockingIOError:
+            pass
+        except (OSError, Bad, Other):
+            self.leave_loop()
+            self.serving.hear_on(self.peer, self.way, self.given)
+            return
+        if self.missing == 0:
+            self.leave_loop()
+            line = self.given[len(self.given) - self.length :]
+            self.serving.give(self.peer, self.way, line)
+        elif not self.timer:
+            loop = asyncio.get_running_loop()
+            loop.add_reader(self.peer, self.read)
+            self.timer = loop.call_later(COMES_IN, self.end)
+
+    def take(self, piece: bytes) -> None:
+        """The next bytes. (A head is looked at until it is whole, and bytes of a line are counted.)"""
+        self.given += piece
+        if self.missing > 0:
+            self.missing -= len(piece)
+        elif found := post_in(self.given):
+            relay, self.length, self.missing = found
+            self.way = replace(self.way, relay=relay)
+        if not piece or (self.missing < 0 and self.length):
+            raise Other
+
+    def leave_loop(self) -> None:
+        if self.timer:
+            self.timer.cancel()
+            asyncio.get_running_loop().remove_reader(self.peer)
+
+    def end(self) -> None:
+        self.leave_loop()
+        self.serving.let_go(self.peer)
+
+
 class Serving:
     """One door at its sockets. What comes at root's is root's word; `questions` is where the desk
     answers them."""
@@ -58,43 +132,82 @@ class Serving:
     def __init__(self, door: Door, questions: str) -> None:
         self.door, self.questions = door, questions
         self.workers = ThreadPoolExecutor(WORKERS, "take")
-        self.open = 0
+        self.open, self.counting = 0, threading.Lock()
+        self.tasks = set[asyncio.Task[None]]()
 
-    async def serve(self, paths: tuple[str, str], ready: Callable[[], None]) -> None:
-        """Serves at the socket for all, and at root's, until it is cancelled."""
-        servers = []
-        for path, mode, is_root in ((paths[0], 0o660, False), (paths[1], 0o600, True)):
-            with suppress(FileNotFoundError):
-                os.unlink(path)
-            before = os.umask(0o777 - mode)
-            servers.append(await asyncio.start_unix_server(self.heard(is_root), path, backlog=512))
-            os.umask(before)
-        ready()
+    async def serve(self, places: list[tuple[socket.socket, bool]]) -> None:
+        """Serves at these sockets, of which some are root's, until it is cancelled."""
+        loop = asyncio.get_running_loop()
+        for place, is_root in places:
+            loop.add_reader(place, self.accept, place, is_root)
         try:
-            await asyncio.gather(*(it.serve_forever() for it in servers))
+            await loop.create_future()
         finally:
-            for it in servers:
-                it.close()
             self.workers.shutdown()
 
-    def heard(
-        self, is_root: bool
-    ) -> Callable[[asyncio.StreamReader, asyncio.StreamWriter], Awaitable[None]]:
-        async def hear(reader: asyncio.StreamReader, writer: asyncio.StreamWriter) -> None:
+    def accept(self, place: socket.socket, is_root: bool) -> None:
+        """Takes a connection that waits at a socket. (Others may be taken by other processes.)"""
+        try:
+            self.begin(place.accept()[0], is_root)
+        except BlockingIOError:
+            pass
+        except OSError as fault:  # (no descriptor is left)
+            log.warning("no connection is taken for a moment: %s", fault)
+            time.sleep(0.1)
+
+    def begin(self, peer: socket.socket, is_root: bool) -> None:
+        with self.counting:
             self.open += 1
-            account = account_of(writer)
-            is_roots = account in (0, os.geteuid())
+        peer.setblocking(False)
+        account = account_of(peer)
+        if self.open <= MOST_OPEN and (account in (0, os.geteuid()) or not is_root):
+            Coming(self, peer, Way("", f"uid {account}", is_root)).read()
+        else:
+            self.let_go(peer)
+
+    def let_go(self, peer: socket.socket) -> None:
+        with self.counting:
+            self.open -= 1
+        peer.close()
+
+    def give(self, peer: socket.socket, way: Way, line: bytes) -> None:
+        """Has a worker take a message and answer it."""
+
+        def work() -> None:
             try:
-                if self.open <= MOST_OPEN and (is_roots or not is_root):
-                    await self.answer(reader, writer, Way("", f"uid {account}", is_root))
-            except (OSError, asyncio.TimeoutError, EOFError):
+                said = self.take(way, line)
+                peer.settimeout(GOES_IN)
+                peer.sendall(said)
+            except OSError:
                 pass  # (nobody is there to be answered)
             finally:
-                self.open -= 1
-                with suppress(OSError):
-                    writer.close()
+                self.let_go(peer)
 
-        return hear
+        self.workers.submit(work)
+
+    def hear_on(self, peer: socket.socket, way: Way, given: bytes) -> None:
+        """Answers whatever else a connection is, of which so much was read."""
+        task = asyncio.get_running_loop().create_task(self.hear(peer, way, given))
+        self.tasks.add(task)
+        task.add_done_callback(self.tasks.discard)
+
+    async def hear(self, peer: socket.socket, way: Way, given: bytes) -> None:
+        loop = asyncio.get_running_loop()
+        reader = asyncio.StreamReader()
+        reader.feed_data(given)
+        try:
+            protocol = asyncio.StreamReaderProtocol(reader)
+            transport, _ = await loop.connect_accepted_socket(lambda: protocol, peer)
+            writer = asyncio.StreamWriter(transport, protocol, reader, loop)
+            try:
+                await self.answer(reader, writer, way)
+            finally:
+                writer.close()
+        except (OSError, asyncio.TimeoutError, EOFError):
+            pass  # (nobody is there to be answered)
+        finally:
+            with self.counting:
+                self.open -= 1
 
     async def answer(
         self, reader: asyncio.StreamReader, writer: asyncio.StreamWriter, way: Way
@@ -106,7 +219,8 @@ class Serving:
             if (posts := POSTS.fullmatch(head.target)) and head.method == "POST":
                 body = read_body(reader, begun, head.length)
                 line = await asyncio.wait_for(body, COMES_IN)
-                said = await self.take(Way(posts[1], way.peer, way.is_root), line)
+                loop, taken = asyncio.get_running_loop(), replace(way, relay=posts[1])
+                said = await loop.run_in_executor(self.workers, self.take, taken, line)
             else:
                 await self.pass_on(head, writer)
                 return
@@ -115,10 +229,10 @@ class Serving:
         writer.write(said)
         await asyncio.wait_for(writer.drain(), GOES_IN)
 
-    async def take(self, way: Way, line: bytes) -> bytes:
-        loop = asyncio.get_running_loop()
+    def take(self, way: Way, line: bytes) -> bytes:
+        """The response to a message, whatever becomes of it."""
         try:
-            return await loop.run_in_executor(self.workers, self.door.take, way, line)
+            return self.door.take(way, line)
         except Refused as fault:
             log.warning("refused: %s, relay %s%s", fault.code, way.relay, said_why(fault))
             return reply(STATUSES[fault.code], f"{fault.code}\n".encode())
@@ -153,9 +267,24 @@ def said_why(fault: Refused) -> str:
     return f": {plain[:300]}" if plain else ""
 
 
-def account_of(writer: asyncio.StreamWriter) -> int:
+def bound(path: str, mode: int) -> socket.socket:
+    """A socket at this path, with this mode from its first moment on. Nobody listens there yet."""
+    with suppress(FileNotFoundError):
+        os.unlink(path)
+    found, before = socket.socket(socket.AF_UNIX), os.umask(0o777 - mode)
+    try:
+        found.bind(path)
+        found.setblocking(False)
+    except BaseException:
+        found.close()
+        raise
+    finally:
+        os.umask(before)
+    return found
+
+
+def account_of(peer: socket.socket) -> int:
     """Which account is at the other end of a socket."""
-    peer = writer.get_extra_info("socket")
     size = struct.calcsize("3i")
     _, uid, _ = struct.unpack("3i", peer.getsockopt(socket.SOL_SOCKET, socket.SO_PEERCRED, size))
     return int(uid)

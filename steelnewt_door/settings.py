@@ -59,8 +59,11 @@ class Settings:
         """The desk at its socket for questions."""
         return Desk(f"unix:{self.questions}", "")
 
-    def door(self) -> Door:
-        parts = Signers(self.signers), Journal(self.journal, self.site, self.room), self.asked()
+    def kept(self) -> Journal:
+        return Journal(self.journal, self.site, self.room)
+
+    def door(self, journal: Journal | None = None) -> Door:
+        parts = Signers(self.signers), journal or self.kept(), self.asked()
         return Door(self.rules, self.judge(), *parts, post_to(self.desk))
 
 

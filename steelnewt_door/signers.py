@@ -98,13 +98,14 @@ class Version:
     def state(self) -> tuple[object, ...]:
         """Marks of the version's files, which differ if somebody changed one, against the rules."""
         found: list[object] = [self.folder]
-        try:
-            for name in (ALLOWED, REVOKED, KRL):
-                if name != KRL or self.has(name):
-                    it = os.stat(self.path(name))
-                    found += [it.st_ino, it.st_mtime_ns, it.st_size]
-        except OSError as fault:
-            raise BadSigners(f"{self.path(name)} cannot be read: {fault.strerror}") from None
+        for name in (ALLOWED, REVOKED, KRL):
+            try:
+                it = os.stat(f"{self.folder}/{name}")
+            except OSError as fault:
+                if name == KRL and not self.has(name):
+                    continue
+                raise BadSigners(f"{self.path(name)} cannot be read: {fault.strerror}") from None
+            found += [it.st_ino, it.st_mtime_ns, it.st_size]
         return tuple(found)
 
     def signers(self) -> list[Signer]:

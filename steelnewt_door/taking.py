@@ -2,7 +2,6 @@
 and then what the desk itself says."""
 
 import json
-import threading
 import time
 from collections.abc import Callable
 from contextlib import suppress
@@ -13,8 +12,9 @@ from steelnewt_client.messages import Request, Verdict, canonical
 from steelnewt_client.moments import seconds, stamp_of
 from steelnewt_client.signed import BadLine, Signed, digest, read_line, said_in
 from steelnewt_door.changes import Two
+from steelnewt_door.crew import Locks
 from steelnewt_door.index import ACK, Known
-from steelnewt_door.journal import BadJournal, Full, Journal
+from steelnewt_door.journal import BadJournal, Full, Journal, rows_in
 from steelnewt_door.judge import Judge, JudgeAway
 from steelnewt_door.refusals import Refused, Share
 from steelnewt_door.rows import Row, answered, came, came_broken
@@ -81,9 +81,7 @@ class Door:
     desk: Desk
     post: Callable[[str, str], Reply]
     clock: Callable[[], float] = time.time
-    locks: list[threading.Lock] = field(
-        default_factory=lambda: [threading.Lock() for _ in range(LOCKS)]
-    )
+    locks: Locks = field(default_factory=lambda: Locks(LOCKS))
     share: Share = field(default_factory=Share)
     checked: tuple[float, tuple[str, str]] = (0.0, ("", ""))
     good: set[tuple[object, ...]] = field(default_factory=set)
@@ -100,7 +98,7 @@ class Door:
             refused = Refused(str(fault))
             self.note_broken(way, line, refused)
             raise refused from None
-        with self.locks[hash(name_of(message)) % LOCKS]:
+        with self.locks.held(name_of(message)):
             return self.take_one(way, signed, message)
 
     def take_one(self, way: Way, signed: Signed, message: Message) -> bytes:
@@ -317,7 +315,7 @@ class Door:
         if not numbers:
             return 0
         held = set(self.desk.get("/v1/messages").splitlines())
-        for row in self.journal.rows():
+        for row in rows_in(self.journal.folder):
             if row["no"] in numbers:
                 is_held = row["message"] in held and row["how"] != "refused"
                 code = ACK if is_held else "K23 DoorFails"

@@ -5,7 +5,7 @@ import hashlib
 import struct
 from collections.abc import Iterator
 from dataclasses import dataclass
-from functools import lru_cache
+from functools import cached_property, lru_cache
 
 from cryptography.exceptions import InvalidSignature, UnsupportedAlgorithm
 from cryptography.hazmat.primitives import hashes
@@ -56,7 +56,7 @@ class Parts:
     hashed: bytes
     signature: bytes
 
-    @property
+    @cached_property
     def kind(self) -> bytes:
         return next(strings(self.key))
 
@@ -69,6 +69,7 @@ class Parts:
     def is_of_security_key(self) -> bool:
         return self.kind.startswith(b"sk-")
 
+    @cached_property
     def tail(self) -> tuple[bytes, bytes, bytes]:
         """The algorithm, the signature itself, and what a security key says behind it."""
         fields = strings(self.signature)
@@ -83,7 +84,7 @@ def parts_of(raw: bytes) -> Parts:
         if raw[:6] != MAGIC or raw[6:10] != b"\0\0\0\1":
             raise ValueError("no signature of ssh-keygen's")
         found = Parts(*strings(raw[10:]))
-        _, _, behind = found.tail()
+        _, _, behind = found.tail
         is_touched = not found.is_of_security_key or bool(behind[0] & IS_TOUCHED)
     except (struct.error, TypeError, ValueError, StopIteration, IndexError):
         raise BadSignature("it has not the form of a signature of ssh-keygen's") from None
@@ -108,7 +109,7 @@ def check(parts: Parts, namespace: str, what: bytes) -> None:
 
 def check_by_kind(parts: Parts, told: bytes) -> None:
     kind, *fields = strings(parts.key)
-    algorithm, itself, behind = parts.tail()
+    algorithm, itself, behind = parts.tail
     if kind == b"ssh-rsa":
         check_rsa(fields, algorithm, itself, told)
         return

@@ -5,21 +5,25 @@ from __future__ import annotations
 import contextlib
 import email.utils
 import http.client
+import queue
 import re
-import signal
 import ssl
+import threading
 import time
-import types
 import urllib.parse
-from collections.abc import Iterator
-from typing import NamedTuple, NoReturn, Optional
+from collections.abc import Callable, Sequence
+from typing import NamedTuple, TypeVar, Union
 
 from steelnewt_host.faults import Fault
 from steelnewt_host.settings import Settings
 from steelnewt_host.telling import say
 
-PATIENCE = 60  # the seconds that a desk has for one answer
+PATIENCE = 60  # the seconds that the desks have for their answers
+SOON = 10  # and once one of them has answered
+AT_ONCE = 8  # so many desks are asked at a time: the unit may have 16 tasks
 MOST = 16 * 1024 * 1024  # the bytes that a policy may have
+
+Answered = TypeVar("Answered")
 
 
 class Reply(NamedTuple):
@@ -49,23 +53,7 @@ def connection(settings: Settings, desk: str) -> tuple[http.client.HTTPConnectio
     return made, prefix
 
 
-@contextlib.contextmanager
-def within(seconds: int) -> Iterator[None]:
-    """The end of patience, however the bytes are spread over the time."""
-
-    def end(_signal: int, _frame: Optional[types.FrameType]) -> NoReturn:
-        raise TimeoutError(f"no whole answer in {seconds} seconds")
-
-    before = signal.signal(signal.SIGALRM, end)
-    signal.setitimer(signal.ITIMER_REAL, seconds)
-    try:
-        yield
-    finally:
-        signal.setitimer(signal.ITIMER_REAL, 0)
-        signal.signal(signal.SIGALRM, before)
-
-
-def whole(reply: http.client.HTTPResponse) -> bytes:
+def whole(reply: http.client.HTTPResponse, most: int) -> bytes:
     """The body of a 200, where nothing is missing, folded or said twice."""
 
     def one(name: str) -> str:
@@ -78,29 +66,74 @@ def whole(reply: http.client.HTTPResponse) -> bytes:
         raise Fault("its 200 has no Content-Length, so nobody sees whether it came whole")
     if not re.fullmatch("text/plain(; *charset=(utf-8|us-ascii))?", one("Content-Type").lower()):
         raise Fault(f"its 200 is no text/plain: {reply.headers.get('Content-Type')}")
-    if int(one("Content-Length")) > MOST:
-        raise Fault(f"its 200 is longer than {MOST} bytes")
+    if int(one("Content-Length")) > most:
+        raise Fault(f"its 200 is longer than {most} bytes")
     text = reply.read()
     if len(text) != int(one("Content-Length")):
         raise Fault("its 200 was cut short")
     return text
 
 
-def ask(settings: Settings, desk: str, route: str, patience: int = PATIENCE) -> Reply:
+def ask(settings: Settings, desk: str, route: str, most: int = MOST) -> Reply:
     """One GET of a desk, on a connection of its own."""
     peer, prefix = connection(settings, desk)
     try:
-        with within(patience), contextlib.closing(peer):
+        with contextlib.closing(peer):
             peer.request("GET", prefix + route, headers={"Connection": "close"})
             reply = peer.getresponse()
             date = reply.headers.get("Date", "")
             if reply.status == 200:
-                return Reply(200, whole(reply), date)
+                return Reply(200, whole(reply, most), date)
             return Reply(reply.status, reply.read(200).partition(b"\n")[0], date)
     except http.client.IncompleteRead as why:
         raise Fault("its 200 was cut short") from why
     except (OSError, http.client.HTTPException, ValueError) as why:
         raise Fault(f"{why or type(why).__name__}{clock_hint(str(why))}") from why
+
+
+def side_by_side(
+    desks: Sequence[str], ask_one: Callable[[str], Answered]
+) -> dict[str, Union[Answered, Fault]]:
+    """What each desk answers, or why it gives nothing. All are asked at once: whoever hangs, or
+    sends a byte now and then, costs its time once. Where one has answered, the others have no
+    longer than `SOON`."""
+    waiting: queue.Queue[str] = queue.Queue()
+    done: queue.Queue[tuple[str, Union[Answered, Fault]]] = queue.Queue()
+    for desk in desks:
+        waiting.put(desk)
+
+    def ask_some() -> None:
+        with contextlib.suppress(queue.Empty):
+            while True:
+                desk = waiting.get_nowait()
+                try:
+                    done.put((desk, ask_one(desk)))
+                except Fault as why:
+                    done.put((desk, why))
+                except Exception as why:  # (what one desk sends ends the asking of no other)
+                    done.put((desk, Fault(f"its answer cannot be read: {why!r}")))
+
+    for _ in range(min(len(desks), AT_ONCE)):
+        threading.Thread(target=ask_some, daemon=True).start()
+    return gathered(desks, done)
+
+
+def gathered(
+    desks: Sequence[str], done: queue.Queue[tuple[str, Union[Answered, Fault]]]
+) -> dict[str, Union[Answered, Fault]]:
+    """The answers as they come, until the time is over."""
+    found: dict[str, Union[Answered, Fault]] = {}
+    began = time.monotonic()
+    while len(found) < len(desks):
+        has_one = any(not isinstance(it, Fault) for it in found.values())
+        patience = SOON if has_one else PATIENCE
+        try:
+            desk, told = done.get(timeout=max(began + patience - time.monotonic(), 0))
+        except queue.Empty:
+            late = Fault(f"no whole answer in {patience} seconds")
+            return {desk: found.get(desk, late) for desk in desks}
+        found[desk] = told
+    return {desk: found[desk] for desk in desks}
 
 
 def clock_hint(why: str) -> str:

@@ -23,6 +23,7 @@ from steelnewt_host.telling import say, shown
 from steelnewt_host.watched import (
     certificate_end,
     look_age,
+    refused,
     unended,
     unkept,
     wrong_certificate,
@@ -57,6 +58,7 @@ def wrong_plugin() -> Iterator[Finding]:
 def findings(settings: Settings) -> Iterator[Finding]:
     """All of them."""
     yield from wrong_rights(settings)
+    yield from refused(settings)
     yield from wrong_plugin()
     yield from wrong_run(settings)
     yield from unended(settings)

@@ -1,130 +1,136 @@
-"""How far a desk is, and what this host has had."""
+"""Which of two states of a site is newer, and what this host has had.
+
+A state is a roster and a base, each by its digest, and of both nothing but a history tells which
+came later: a digest has no order, and a state that nobody knows is not newer for that."""
 
 from __future__ import annotations
 
+import enum
+import itertools
 import json
 import os
-import re
-from collections.abc import Iterator, Sequence
-from typing import NamedTuple, Optional, Union
+from collections.abc import Sequence
+from typing import NamedTuple, Optional
 
-from steelnewt_host.asking import PATIENCE, ask, needed, refusal
 from steelnewt_host.faults import Fault
-from steelnewt_host.settings import Settings
 from steelnewt_host.state import write_state
 
-SOON = 10  # and, where there are several, to say first how far it is
-KNOWN = 64  # how many rosters and bases the record goes back
+KNOWN = 64  # how many states the record goes back
+
+State = tuple[str, str]  # the digests of a roster and of a base
+Past = Sequence[State]  # the states of a site in their order, the last of which is there now
+
+
+class Order(enum.Enum):
+    """How one past stands to another."""
+
+    SAME = "same"
+    NEWER = "newer"
+    BEHIND = "behind"
+    UNKNOWN = "unknown"
+
+
+def overlap(one: Sequence[str], other: Sequence[str]) -> int:
+    """How many are the same in both, counted from their ends."""
+    pairs = zip(reversed(one), reversed(other))
+    return sum(1 for _ in itertools.takewhile(lambda it: it[0] == it[1], pairs))
+
+
+def goes_on(one: Sequence[str], other: Sequence[str]) -> int:
+    """How much of the other's end the one has and left; nothing where it does not have it."""
+    ends = (at for at in range(1, len(one)) if one[at - 1] == other[-1])
+    return max((overlap(one[:at], other) for at in ends), default=0)
+
+
+def order(one: Sequence[str], other: Sequence[str]) -> Order:
+    """How one row of digests stands to another. Where a site went back to what it had left, each
+    may have left the other's: then the longer piece that both have decides, and else nothing."""
+    if one[-1] == other[-1]:
+        return Order.SAME
+    ahead, behind = goes_on(one, other), goes_on(other, one)
+    if ahead == behind:
+        return Order.UNKNOWN
+    return Order.NEWER if ahead > behind else Order.BEHIND
+
+
+def row(past: Past, part: int) -> list[str]:
+    """The rosters of a past, or its bases, each as often as it came anew."""
+    return [it for it, _ in itertools.groupby(state[part] for state in past)]
+
+
+def orders(one: Past, other: Past) -> tuple[Order, Order]:
+    """How the roster of one stands to that of another, and how its base does."""
+    return order(row(one, 0), row(other, 0)), order(row(one, 1), row(other, 1))
 
 
 class Count(NamedTuple):
-    """What a desk says of itself: how many messages it holds, of which roster and base."""
+    """How many messages there were of a roster and base."""
 
     messages: int
     roster: str
     base: str
 
-
-def count_of(
-    settings: Settings, desk: str, host: str, patience: int = PATIENCE
-) -> Optional[Count]:
-    """What the desk says; nothing where it has no such route, and the operator allows that."""
-    reply = ask(settings, desk, "/v1/count", patience)
-    if reply.status == 200:
-        found = re.fullmatch(rb"(0|[1-9][0-9]{0,18}) ([0-9a-f]{64}) ([0-9a-f]{64})\n", reply.text)
-        if not found:
-            raise Fault(f"its /v1/count is not a desk's: {reply.text[:80]!r}")
-        return Count(int(found[1]), found[2].decode(), found[3].decode())
-    if reply.status not in (403, 404):
-        raise refusal(reply, host)
-    why = "the desk is too old"
-    if reply.status == 403:
-        why = f"its front lets no host ask, or refuses this certificate ({needed(host)})"
-    why = f"it does not say how many messages it holds: {why}"
-    if not settings.without_count:
-        raise Fault(f"{why}. So it may lag, and bring back what was revoked (WITHOUT_COUNT)")
-    return None
+    @property
+    def state(self) -> State:
+        return self.roster, self.base
 
 
-ASKED_ALL_THE_SAME = "It is asked all the same, as WITHOUT_COUNT says"
-
-
-def first_counts(settings: Settings, host: str) -> dict[str, Union[Count, Fault, None]]:
-    """What each of several desks says of itself, or why it says nothing."""
-    found: dict[str, Union[Count, Fault, None]] = {}
-    for desk in settings.desks if len(settings.desks) > 1 else ():
-        try:
-            found[desk] = count_of(settings, desk, host, SOON)
-        except Fault as why:
-            found[desk] = why
-    return found
-
-
-def in_order(desks: Sequence[str], first: dict[str, Union[Count, Fault, None]]) -> list[str]:
-    """The desks as they are asked for the file: of those with the same roster and base the one that
-    holds the most messages first, and last those that did not say how many."""
-
-    def rank(desk: str) -> tuple[bool, int, int]:
-        now = first.get(desk)
-        if not isinstance(now, Count):
-            return isinstance(now, Fault), desks.index(desk), 0
-        same = [isinstance(it, Count) and it[1:] == now[1:] for it in map(first.get, desks)]
-        return False, same.index(True), -now.messages
-
-    return sorted(dict.fromkeys(desks), key=rank)
-
-
-def count_with(before: Count, after: Optional[Count]) -> Count:
-    """How far a desk was at most as it wrote a file, by its counts before and after that."""
-    if after is None or after[1:] != before[1:]:
-        raise Fault("its roster or base changed while it was asked; the next fetch asks again")
-    if after.messages < before.messages:
-        raise Fault("it holds fewer messages than a moment ago: is it several desks?")
-    return after
+def counted(each: list[object]) -> Count:
+    """One row of a record."""
+    messages, roster, base = each
+    if isinstance(messages, int) and isinstance(roster, str) and isinstance(base, str):
+        return Count(messages, roster, base)
+    raise ValueError(f"no count: {each!r}")
 
 
 class Record:
-    """The greatest count of each roster and base that this host installed a file of, the last
-    installed at the end: a file of the state's folder."""
+    """What this host will not go below: the states that it knows in their order, the last of which
+    is that of its file, with the greatest count that it installed a file of. It is a file of the
+    state's folder, and is on the disk before the host's file is."""
 
     def __init__(self, folder: str, host: str) -> None:
+        self.host = host
         self.path = os.path.join(folder, f"{host}.json")
         self.known: list[Count] = []
+
+    def read(self) -> None:
+        """Reads what is there. One that cannot be read is no empty one."""
         try:
             with open(self.path, encoding="ascii") as file:
-                self.known = [Count(*each) for each in json.load(file)["installed"]]
+                self.known = [counted(each) for each in json.load(file)["installed"]]
         except FileNotFoundError:
             return
         except (OSError, ValueError, KeyError, TypeError) as why:
-            told = "look at it; without it, the next file is taken whatever its count"
+            told = f"say which roster and base hold: {self.how()}"
             raise Fault(f"cannot read the record {self.path} ({why}): {told}") from why
 
-    def behind(self, now: Count) -> Optional[str]:
-        """Why a desk is behind what this host has had; nothing where it is not."""
-        if not self.known:
-            return None
-        last = self.known[-1]
-        if now.roster != last.roster and now.roster in (it.roster for it in self.known):
-            return f"it has a roster that this host has left (sha256 {now.roster[:16]}..)"
-        if now.base != last.base and now.base in (it.base for it in self.known):
-            return f"it has a base that this host has left (sha256 {now.base[:16]}..)"
-        most = max((it.messages for it in self.known if it.roster == now.roster), default=0)
-        if now.messages < most:
-            return f"it holds {now.messages} messages, and this host's file is made of {most}"
-        return None
+    def how(self, state: Optional[State] = None) -> str:
+        """The command by which an administrator says what holds."""
+        return " ".join(("desk-host accept", self.host, *(state or ("ROSTER", "BASE"))))
 
-    def news(self, now: Count) -> Iterator[str]:
-        """What is told of a roster or base that is another than the last."""
-        if self.known and now.roster != self.known[-1].roster:
-            yield f"the roster is another (sha256 {now.roster[:16]}..): its count begins anew"
-        elif self.known and now.base != self.known[-1].base:
-            yield f"the base is another (sha256 {now.base[:16]}..)"
+    @property
+    def past(self) -> list[State]:
+        return [it.state for it in self.known]
 
-    def keep(self, now: Count) -> None:
-        """Writes down what was installed, the greatest count of its roster and base."""
-        same = [it for it in self.known if it[1:] == now[1:]]
-        most = max(it.messages for it in (*same, now))
-        known = [it for it in self.known if it[1:] != now[1:]]
-        known.append(Count(most, now.roster, now.base))
+    @property
+    def last(self) -> Optional[Count]:
+        return self.known[-1] if self.known else None
+
+    def keep(self, messages: int, past: Past) -> None:
+        """Writes down what is installed next. One of the last's state leaves what is known of the
+        time before."""
+        known = self.known[:-1]
+        if self.last is None or past[-1] != self.last.state:
+            known = [Count(0, *it) for it in past[:-1]]
+        self.write([*known, Count(messages, *past[-1])])
+
+    def accept(self, state: State) -> None:
+        """Has that state hold after all that is known, whatever a desk says of it; the count of
+        its messages begins anew."""
+        self.write([*self.known, Count(0, *state)])
+
+    def write(self, known: list[Count]) -> None:
+        known = known[-KNOWN:]
         if known != self.known:
-            write_state(self.path, json.dumps({"installed": known[-KNOWN:]}) + "\n")
+            write_state(self.path, json.dumps({"installed": known}) + "\n")
+            self.known = known

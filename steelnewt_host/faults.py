@@ -3,7 +3,9 @@
 from __future__ import annotations
 
 
-FAULT, UNFIT = 1, 3  # statuses; 2 is argparse's, for wrong words
+# statuses; 2 is argparse's, for wrong words; with 4 a file was taken, and somebody has to look at
+# what another desk says
+FAULT, UNFIT, REFUSED = 1, 3, 4
 
 
 class Fault(Exception):

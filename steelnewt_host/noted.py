@@ -14,7 +14,7 @@ from steelnewt_host.state import read_some, write_state
 from steelnewt_host.telling import log
 
 MOST = 64 * 1024  # the bytes of such a note
-STALE = ("changed", "since", "looked", "lost", "unclear", "clock", "told")
+STALE = ("changed", "since", "looked", "lost", "unclear", "clock", "told", "heard", "refused")
 
 
 class Notes:

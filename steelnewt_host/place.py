@@ -14,7 +14,7 @@ from typing import NamedTuple, Optional
 from steelnewt_host.changes import tell_change
 from steelnewt_host.faults import Fault
 from steelnewt_host.settings import Settings
-from steelnewt_host.state import write_state
+from steelnewt_host.state import fill, is_full, spares, write_state
 from steelnewt_host.sudo import visudo
 from steelnewt_host.telling import say
 
@@ -29,9 +29,10 @@ class Held(NamedTuple):
 class Place:
     """The host's file: its folder held open, so that no name leads elsewhere meanwhile."""
 
-    def __init__(self, path: str) -> None:
+    def __init__(self, path: str, room: str = "") -> None:
+        """`room` is the folder whose spare files a full disk may take."""
         folder, self.name = os.path.split(os.path.abspath(path))
-        self.path = path
+        self.path, self.room = path, room
         try:
             flags = os.O_RDONLY | os.O_DIRECTORY | os.O_NOFOLLOW | os.O_CLOEXEC
             self.folder = os.open(folder, flags)
@@ -64,18 +65,30 @@ class Place:
             return Held(file.read(), seen)
 
     def write(self, text: bytes) -> str:
-        """The text in a new file beside it, which sudo skips for the dot in its name."""
+        """The text in a new file beside it, which sudo skips for the dot in its name. A full disk
+        gives up the room that is kept for that."""
+        try:
+            return self.written(text)
+        except OSError as why:
+            kept = spares(self.room) if is_full(why) else []
+            if not kept or os.stat(self.room).st_dev != os.fstat(self.folder).st_dev:
+                raise
+        os.unlink(kept[0])
+        return self.written(text)
+
+    def written(self, text: bytes) -> str:
         name = f"{self.name}.new.{secrets.token_hex(8)}"
         flags = os.O_WRONLY | os.O_CREAT | os.O_EXCL | os.O_NOFOLLOW
         handle = os.open(name, flags, 0o400, dir_fd=self.folder)
-        with os.fdopen(handle, "wb") as file:
-            file.write(text)
-            seen = os.fstat(file.fileno())
+        try:
+            seen = os.fstat(handle)
             if (seen.st_uid, seen.st_gid) != (0, 0):
-                os.fchown(file.fileno(), 0, 0)
-            os.fchmod(file.fileno(), 0o440)
-            file.flush()
-            os.fsync(file.fileno())
+                os.fchown(handle, 0, 0)
+            os.fchmod(handle, 0o440)
+            fill(handle, text)
+        except OSError:
+            os.unlink(name, dir_fd=self.folder)
+            raise
         return name
 
     def put(self, name: str) -> None:

@@ -30,8 +30,11 @@ def parser() -> argparse.ArgumentParser:
         one.add_argument(f"--{name}", metavar="FILE", default="")
     one.add_argument("--state", metavar="FOLDER", default=STATE)
     one.add_argument("--back-after", metavar="SECONDS", default="")
-    one.add_argument("--without-count", action="store_true")
     one.add_argument("words", nargs="+", metavar="HOST | DESK.. HOST FILE")
+    one = parts.add_parser("accept", allow_abbrev=False, help="say which roster and base hold")
+    one.add_argument("--conf", default=CONF)
+    for name in ("host", "roster", "base"):
+        one.add_argument(name, metavar=name.upper())
     for name, what in (
         ("check", "say what of this host is not as it has to be"),
         ("end-sessions", "end what runs under a sudo that no longer allows it"),
@@ -76,7 +79,6 @@ def fetch_words(given: argparse.Namespace, made: argparse.ArgumentParser) -> int
         file=file,
         state=given.state,
         back_after=back,
-        without_count=given.without_count,
         run=RUN if given.state == STATE else given.state,
     )
     return fetch(settings, host)
@@ -103,6 +105,10 @@ def begin(given: argparse.Namespace, made: argparse.ArgumentParser) -> int:
         from steelnewt_host.ending import end_sessions
 
         return end_sessions(settings)
+    if given.part == "accept":
+        from steelnewt_host.fetching import accept
+
+        return accept(settings, given.host, (given.roster, given.base))
     if given.part in ("starting", "end-at"):
         from steelnewt_host import ends
 

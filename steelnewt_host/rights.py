@@ -14,6 +14,7 @@ from steelnewt_host.finding import CRITICAL, Finding
 from steelnewt_host.lawful import unlawful
 from steelnewt_host.place import Place, is_sound
 from steelnewt_host.settings import Settings
+from steelnewt_host.silence import stale
 from steelnewt_host.sudo import program, run, visudo
 
 STALE = 3600  # the seconds after which a file is called old
@@ -22,7 +23,7 @@ STALE = 3600  # the seconds after which a file is called old
 def wrong_rights(settings: Settings) -> Iterator[Finding]:
     """All that is wrong with what sudo reads."""
     for text in (
-        *wrong_file(settings.file),
+        *wrong_file(settings),
         *(f"visudo -c: {line}" for line in visudo()[:5]),
         *wrong_order(settings.file),
         *contradicted(settings),
@@ -30,8 +31,9 @@ def wrong_rights(settings: Settings) -> Iterator[Finding]:
         yield Finding(CRITICAL, text)
 
 
-def wrong_file(path: str) -> Iterator[str]:
+def wrong_file(settings: Settings) -> Iterator[str]:
     """What is wrong with the host's file."""
+    path = settings.file
     with contextlib.closing(Place(path)) as place:
         held = place.read()
     if held is None:
@@ -42,6 +44,9 @@ def wrong_file(path: str) -> Iterator[str]:
     wrong = unlawful(held.text)
     if wrong:
         yield f"{path} is none of a desk's: {wrong}"
+    why = stale(settings, held)
+    if why is not None:
+        yield why
     old = int(time.time() - held.seen.st_mtime)
     if old > STALE:
         yield f"{path} was fetched {old} seconds ago"

@@ -26,7 +26,7 @@ class Settings(NamedTuple):
     file: str = "/etc/sudoers.d/desk"
     state: str = STATE
     back_after: Optional[int] = None
-    without_count: bool = False
+    stale_after: Optional[int] = None
     prompt: int = 60
     sessions: str = "end"
     grace: int = 60
@@ -69,7 +69,7 @@ def read_conf(path: str) -> dict[str, str]:
 def settings_of(conf: dict[str, str]) -> Settings:
     """The settings of a file's lines; what is left out, or empty, is as it is by itself."""
     plain = Settings()
-    back = conf.get("BACK_AFTER", "")
+    back, stale = conf.get("BACK_AFTER", ""), conf.get("STALE_AFTER", "")
     return Settings(
         desks=tuple(conf.get("DESKS", "").split()),
         cert=conf.get("CERT", ""),
@@ -78,7 +78,7 @@ def settings_of(conf: dict[str, str]) -> Settings:
         file=conf.get("FILE") or plain.file,
         state=conf.get("STATE") or plain.state,
         back_after=number("BACK_AFTER", back) if back else None,
-        without_count=one_of(conf, "WITHOUT_COUNT", ("yes", "no"), "no") == "yes",
+        stale_after=number("STALE_AFTER", stale) if stale else None,
         prompt=number("PROMPT", conf.get("PROMPT") or str(plain.prompt)),
         sessions=one_of(conf, "SESSIONS", WHAT_TO_DO, plain.sessions),
         grace=number("GRACE", conf.get("GRACE") or str(plain.grace)),

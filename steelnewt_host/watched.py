@@ -21,7 +21,7 @@ from steelnewt_host.finding import CRITICAL, WARNING, Finding
 from steelnewt_host.lawful import HOST
 from steelnewt_host.noted import Notes, is_of_another_start
 from steelnewt_host.settings import Settings
-from steelnewt_host.state import read_some, write_state
+from steelnewt_host.state import SPARES, read_some, spares, write_state
 from steelnewt_host.sudo import program, run
 from steelnewt_host.timers import has_systemd
 
@@ -127,6 +127,16 @@ def wrong_run(settings: Settings) -> Iterator[Finding]:
     except OSError as why:
         told = f"{settings.run} cannot be written to ({why.strerror})"
         yield Finding(CRITICAL, f"{told}: sudo starts nothing for others than root")
+
+
+def refused(settings: Settings) -> Iterator[Finding]:
+    """What the last fetch left for somebody to look at, and whether a full disk would keep the next
+    revocation away."""
+    for line in Notes(settings).read("refused").splitlines():
+        yield Finding(CRITICAL, line)
+    if own_host(settings) is not None and len(spares(settings.state)) < SPARES:
+        told = f"{settings.state} keeps no room for a revocation: free space there"
+        yield Finding(WARNING, told)
 
 
 def unended(settings: Settings) -> Iterator[Finding]:

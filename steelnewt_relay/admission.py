@@ -1,38 +1,84 @@
-"""What the desk would refuse of a request, by the roster that this relay reads: said before a
-person says yes. The desk decides all the same, and its roster may be another by then."""
+"""What cannot be granted of a request, by the roster that this relay reads: said before a person
+says yes. The desk decides all the same, and its roster may be another by then."""
 
 from datetime import datetime, timedelta
+from typing import NamedTuple
 
 from steelnewt_client.messages import Wish
 from steelnewt_client.moments import of_stamp
 from steelnewt_relay.moments import spoken
-from steelnewt_relay.roster import Roster
+from steelnewt_relay.roster import Ceiling, Roster
+
+# A window that ends later is not looked at: who holds which duty then is not settled yet.
+MOST_DAYS = 31
+
+
+class Fault(NamedTuple):
+    """What is wrong with a word of a request, by the name of that word, with what would do."""
+
+    field: str
+    text: str
+
+
+def faults(roster: Roster, person: str, wish: Wish, at: datetime) -> list[Fault]:
+    """Why a request cannot be granted, whoever says yes to it; empty where it can."""
+    found = refusals(roster, person, wish, at)
+    few = "" if found else lacking(roster, person, wish, at)
+    return [*found, Fault("ceiling", few)] if few else found
+
+
+def surely_refused(roster: Roster, person: str, wish: Wish, at: datetime) -> list[str]:
+    return [it.text for it in faults(roster, person, wish, at)]
+
+
+def lacking(roster: Roster, person: str, wish: Wish, at: datetime) -> str:
+    """Why too few people may approve a request as long as its window lasts; empty where enough
+    may. (One approval of each is counted, on whichever day they hold the duty.)"""
+    ceiling, left = roster.ceilings.get(wish.ceiling), (of_stamp(wish.ends).date() - at.date()).days
+    if ceiling is None or left > MOST_DAYS:
+        return ""
+    days = [at + timedelta(days=it) for it in range(left + 1)]
+    may = sorted({it for day in days for it in roster.approvers(person, wish.ceiling, day)})
+    if len(may) >= ceiling.needs:
+        return ""
+    who = f"only {', '.join(may)} may" if may else "nobody may"
+    many = "1 approval" if ceiling.needs == 1 else f"approvals of {ceiling.needs} people"
+    return f"it needs {many}, and {who} approve it for {person} until it ends"
 
 
 def objections(roster: Roster, person: str, wish: Wish, at: datetime) -> list[str]:
-    """What is wrong with a request, each with what would do."""
+    """What the desk would refuse of a request, each with what would do."""
+    return [it.text for it in refusals(roster, person, wish, at)]
+
+
+def refusals(roster: Roster, person: str, wish: Wish, at: datetime) -> list[Fault]:
     if person not in roster.people:
-        return ["your name is not in the roster"]
+        return [Fault("ceiling", "nobody here has your name")]
     ceiling = roster.ceilings.get(wish.ceiling)
     if ceiling is None:
         labels = [it.label for it in roster.may_ask(person, at)]
-        return [f"the roster has no ceiling {wish.ceiling}: {listed(labels)}"]
+        return [Fault("ceiling", f"there is no ceiling {wish.ceiling}: {listed(labels)}")]
     found = []
     if not roster.holds(person, ceiling.ask, at):
-        found.append(f"you do not hold the duty {ceiling.ask}, which {ceiling.label} needs")
-    if outside := [it for it in wish.hosts if it not in ceiling.hosts]:
-        found.append(f"{', '.join(outside)} is outside {ceiling.label}: {listed(ceiling.hosts)}")
-    if wish.runas not in ceiling.runas:
-        found.append(f"{wish.runas} is outside {ceiling.label}: {listed(ceiling.runas)}")
-    found += [
-        f"{it} is outside {ceiling.label}: {listed(ceiling.commands)}"
-        for it in wish.commands
-        if not any(lies_inside(it, wide) for wide in ceiling.commands)
-    ]
+        text = f"you do not hold the duty {ceiling.ask}, which {ceiling.label} needs"
+        found.append(Fault("ceiling", text))
+    found += outside("hosts", wish.hosts, ceiling.hosts, ceiling)
+    found += outside("runas", (wish.runas,), ceiling.runas, ceiling)
+    far = [it for it in wish.commands if not any(lies_inside(it, to) for to in ceiling.commands)]
+    found += [each for it in far for each in outside("commands", (it,), ceiling.commands, ceiling)]
     if of_stamp(wish.ends) - of_stamp(wish.begins) > timedelta(seconds=ceiling.longest):
         longest = spoken(timedelta(seconds=ceiling.longest))
-        found.append(f"{ceiling.label} gives at most {longest}")
+        found.append(Fault("length", f"{ceiling.label} gives at most {longest}"))
     return found
+
+
+def outside(
+    field: str, asked: tuple[str, ...], given: tuple[str, ...], ceiling: Ceiling
+) -> list[Fault]:
+    """The words of a request that a ceiling does not have."""
+    far = [it for it in asked if it not in given]
+    text = f"{', '.join(far)} is outside {ceiling.label}: {listed(given)}"
+    return [Fault(field, text)] if far else []
 
 
 def listed(words: list[str] | tuple[str, ...]) -> str:

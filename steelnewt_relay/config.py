@@ -7,6 +7,7 @@ from dataclasses import dataclass
 from datetime import tzinfo
 
 from steelnewt_client.desk import BadAddress, Desk, Place
+from steelnewt_client.names import is_label
 from steelnewt_client.signed import SITE
 from steelnewt_relay.caller import Files
 from steelnewt_relay.moments import zone_of
@@ -17,7 +18,8 @@ from steelnewt_relay.roster import Roster
 KEYS = {"desk", "relay", "roster", "outbox", "zone", "numbers", "auditors"}
 KEYS |= {"tls", "page", "why", "notify", "ssh", "signing"}
 SIGNING_KEYS = {"site", "required"}
-NOTIFY_KEYS = {"program", "seconds", "link"}
+NOTIFY_KEYS = {"program", "seconds", "link", "first", "minutes"}
+MOST_MINUTES = 1440  # for which the people who are told first are the only ones
 MOST_SECONDS = 600  # that a program may take to tell: the unit's stop waits longer
 PAGE_KEYS = {"listen", "secret", "signing_key"}
 TLS_KEYS = {"certificate", "key", "ca", "reader_certificate", "reader_key"}
@@ -37,11 +39,14 @@ class BadConfig(ValueError):
 
 @dataclass(frozen=True)
 class Notify:
-    """What is run for each event, for how long at most, and what its text ends with."""
+    """What is run for each event, for how long at most, where the page is, and which duty is told
+    first, how many minutes before the others."""
 
     program: list[str]
     seconds: float
     link: str
+    first: str
+    minutes: int
 
 
 def notify_of(table: dict[str, object]) -> Notify:
@@ -57,7 +62,12 @@ def notify_of(table: dict[str, object]) -> Notify:
         raise ValueError(f"[notify] seconds is a number from 1 to {MOST_SECONDS}")
     if not isinstance(link, str) or not link.isprintable():
         raise ValueError("[notify] link is no text of one line")
-    return Notify(words, seconds, link)
+    first, minutes = table.get("first", ""), table.get("minutes", 10)
+    if not isinstance(first, str) or (first and not is_label(first)):
+        raise ValueError("[notify] first is a duty, such as on-call")
+    if not isinstance(minutes, int) or not 1 <= minutes <= MOST_MINUTES:
+        raise ValueError(f"[notify] minutes is a number from 1 to {MOST_MINUTES}")
+    return Notify(words, seconds, link, first, minutes)
 
 
 @dataclass(frozen=True)

@@ -2,7 +2,7 @@
 
 from collections.abc import Iterator
 from dataclasses import dataclass
-from datetime import timedelta, tzinfo
+from datetime import UTC, timedelta, tzinfo
 
 from steelnewt_client.codes import in_words
 from steelnewt_client.desk import Silent
@@ -10,28 +10,54 @@ from steelnewt_client.messages import Verdict
 from steelnewt_client.moments import stamp
 from steelnewt_client.told import Grant
 from steelnewt_relay import telling
+from steelnewt_relay.config import Config
+from steelnewt_relay.letters import plain
 from steelnewt_relay.moments import shown
 from steelnewt_relay.outbox import Kept
-from steelnewt_relay.standing import Knowledge, Said, Standing, State
+from steelnewt_relay.standing import Knowledge, Said, Standing, State, name_of
+from steelnewt_relay.summary import headline
+from steelnewt_relay.woken import CALLS, ENDS, Woken
 
 SOON = timedelta(minutes=15)
-KINDS = ("asked", "approved", "granted", "refused", "revoked", "void", "ends-soon", "uncounted")
 
 
 @dataclass(frozen=True)
 class Event:
-    """`message` is the outbox's message that it is about: a verdict, or else the request."""
+    """`message` is the outbox's message that it is about: a verdict, or else the request. Without
+    data nobody is told."""
 
     kind: str
     message: int
     data: dict[str, object]
 
 
+@dataclass(frozen=True)
+class Manner:
+    """How people are told: in which zone, where the page is, what they type, which duty is told
+    first, and how long the others sleep on (nothing: all are told at once)."""
+
+    zone: tzinfo = UTC
+    link: str = ""
+    program: str = "ssh desk"
+    first: str = ""
+    patience: timedelta = timedelta(minutes=10)
+
+    @staticmethod
+    def of(config: Config) -> "Manner":
+        """How the settings have people told."""
+        program = "mydesk" if config.is_signed else "ssh desk"
+        if (told := config.notify) is None:
+            return Manner(config.zone, "", program)
+        patience = timedelta(minutes=told.minutes)
+        return Manner(config.zone, told.link, program, told.first, patience)
+
+
 class Finder:
     """Finds what happened, as far as the outbox and the desk tell now."""
 
-    def __init__(self, knowledge: Knowledge, zone: tzinfo, link: str = "") -> None:
-        self.knowledge, self.zone, self.link = knowledge, zone, link
+    def __init__(self, knowledge: Knowledge, manner: Manner = Manner()) -> None:
+        self.knowledge, self.manner = knowledge, manner
+        self.woken, self.own = Woken(knowledge.outbox), knowledge.outbox.own
 
     def of_message(self, kept: Kept) -> Iterator[Event]:
         """What a message came to that the desk has answered."""
@@ -51,15 +77,21 @@ class Finder:
         return self.knowledge.outbox.request(kept.verdict.of, kept.verdict.no)
 
     def of_verdict(self, kept: Kept, verdict: Verdict) -> Iterator[Event]:
+        """What a verdict came to. Nobody hears one thing twice: the approval that is the last one
+        needed is told as the grant, and one that changes nothing is not told."""
         request = self.request_of(kept)
         standing = self.standing(request) if request else None
-        did = f"{verdict.by} {telling.DONE[verdict.kind]} {verdict.of} {verdict.no}"
+        did = did_of(kept, verdict, standing)
+        kind = telling.DONE[verdict.kind]
         if why := uncounted(kept, standing):
             yield self.event("uncounted", kept, standing, f"{did}, but {why}.")
-            return
-        yield self.event(telling.DONE[verdict.kind], kept, standing, f"{did}.")
-        if verdict.kind == "approve" and request and standing and standing.grant:
-            yield self.event("granted", request, standing, f"{standing.name} is granted.")
+        elif not (request and standing and standing.grant and verdict.kind == "approve"):
+            yield self.event(kind, kept, standing, f"{did}.")
+        else:
+            if not self.knowledge.changes_nothing(standing, verdict):
+                said = f"{did}: it is granted."
+                yield self.event("granted", request, standing, said, verdict.by)
+            yield Event(kind, kept.id, {})
 
     def standing(self, kept: Kept) -> Standing:
         """What became of a request. `Silent` while the desk does not answer."""
@@ -72,13 +104,27 @@ class Finder:
         standing = self.standing(kept)
         return self.event("granted", kept, standing, f"{standing.name} is granted.")
 
+    def late(self) -> list[Kept]:
+        """Requests on which the people who were told first said nothing for a while."""
+        if not self.manner.first:
+            return []
+        late = self.woken.late(self.knowledge.now, self.manner.patience)
+        return [self.knowledge.outbox.entry(it) for it in late]
+
+    def of_late(self, kept: Kept) -> Event:
+        """The next people are told; where nobody is left or nothing waits, that is noted."""
+        standing = self.standing(kept)
+        found = self.event("asked-next", kept, standing, f"{standing.request.by} still waits.")
+        return found if found.data["to"] else Event("asked-next", kept.id, {})
+
     def is_ending(self, grant: Grant) -> bool:
         """Whether a grant in force ends soon, and was not as short from the beginning on."""
         return grant.ends - grant.begins > SOON >= grant.ends - self.knowledge.now
 
     def of_end(self, grant: Grant, kept: Kept) -> Event:
         standing = self.standing(kept)
-        when = f"{standing.name} ends at {shown(grant.ends, self.zone)}."
+        zone = self.own.zone(standing.request.by, self.manner.zone)
+        when = f"{standing.name} ends at {shown(grant.ends, zone)}."
         return self.event("ends-soon", kept, standing, when)
 
     def of_past(self, kept: Kept) -> Event | None:
@@ -91,31 +137,56 @@ class Finder:
             return self.event("void", kept, standing, f"{standing.name} was not granted in time.")
         return None
 
-    def event(self, kind: str, kept: Kept, standing: Standing | None, said: str) -> Event:
-        by = kept.message.by
-        who, no = (kept.verdict.of, kept.verdict.no) if is_verdict(kept) else (by, kept.request.no)
+    def event(
+        self, kind: str, kept: Kept, standing: Standing | None, said: str, by: str = ""
+    ) -> Event:
+        """An event; `by` is who did it, where that is not the message's author."""
+        by = by or kept.message.by
+        who, no = (kept.verdict.of, kept.verdict.no) if is_verdict(kept) else name_of(kept.request)
         data: dict[str, object] = {"event": kind, "at": stamp(self.knowledge.now), "by": by}
-        data |= {"who": who, "no": no, "subject": said}
-        approvers: list[str] = []
-        told = [said]
-        if standing:
-            asked = telling.as_data(standing)
-            data |= {name: asked[name] for name in COPIED}
-            approvers = self.approvers(standing)
-            lines = telling.kept_lines(standing.kept, self.zone)
-            told += [*telling.rows(lines), self.fate(standing)]
-        to = told_to(kind, by, who, standing, approvers)
+        data |= {"who": who, "no": no, "thread": f"{who}-{no}", "said": said, "subject": said}
+        data |= {"approvers": [], "verdict_why": kept.reason.why if is_verdict(kept) else None}
         # (whoever gives a verdict may name anybody, and a mail goes to that name at the site)
         people = self.knowledge.roster.people
-        data |= {"approvers": approvers, "to": [it for it in to if it in people]}
-        if kind == "asked" and approvers:
-            told.append(f"To approve it they write: approve {who} {no}")
-        text = "\n".join([*told, *([self.link] if self.link else [])])
-        return Event(kind, kept.id, data | {"text": text})
+        data["to"] = to = [it for it in self.told_to(kind, by, who, standing) if it in people]
+        told = [said]
+        if standing:
+            asked, wish = telling.as_data(standing), standing.request.wish
+            data |= {name: asked[name] for name in COPIED}
+            data["approvers"] = self.approvers(standing)
+            data["subject"] = headline(who, wish, standing.kept.reason)
+            lines = telling.kept_lines(standing.kept, self.zone_for(to))
+            told += [*telling.rows(lines), self.fate(standing, self.zone_for(to))]
+            told += self.next_step(kind, standing, to)
+        data["link"] = link = self.link(who, no) if standing else self.manner.link
+        data["text"] = "\n".join([*told, *([link] if link else [])])
+        return Event(kind, kept.id, data)
 
-    def fate(self, standing: Standing) -> str:
+    def next_step(self, kind: str, standing: Standing, to: list[str]) -> Iterator[str]:
+        """What whoever is told can do now, in the words that they type."""
+        name, program = standing.name, self.manner.program
+        if kind in CALLS and to:
+            yield f"To approve it: {program} approve {name}"
+        no = standing.request.no
+        if kind == "full":
+            yield f"To ask for it: {program} again {no}"
+        if kind == "ends-soon":
+            yield f"To go on without a gap: {program} again {no} --from end"
+        if kind in ENDS and set(to) - {standing.request.by}:
+            yield "Nothing is left to do for who was asked."
+
+    def link(self, who: str, no: int) -> str:
+        """Where the page shows a request."""
+        return f"{self.manner.link.rstrip('/')}/r/{who}/{no}" if self.manner.link else ""
+
+    def zone_for(self, to: list[str]) -> tzinfo:
+        """The zone in which all of these people read times; the relay's, where they differ."""
+        zones = {str(it): it for it in (self.own.zone(name, self.manner.zone) for name in to)}
+        return next(iter(zones.values())) if len(zones) == 1 else self.manner.zone
+
+    def fate(self, standing: Standing, zone: tzinfo) -> str:
         knowledge = self.knowledge
-        return telling.fate(standing, self.zone, knowledge.roster, knowledge.now)
+        return telling.fate(standing, zone, knowledge.roster, knowledge.now)
 
     def approvers(self, standing: Standing) -> list[str]:
         """Who may approve it now and did not, while that could matter."""
@@ -124,6 +195,48 @@ class Finder:
         request, knowledge = standing.request, self.knowledge
         may = knowledge.roster.approvers(request.by, request.wish.ceiling, knowledge.now)
         return [it for it in may if not standing.is_approved_by(it)]
+
+    def awake(self, people: list[str]) -> list[str]:
+        """The people who are not away, or everybody if all of them are."""
+        now, zone = self.knowledge.now, self.manner.zone
+        return [it for it in people if not self.own.is_away(it, now, zone)] or people
+
+    def called(self, kind: str, standing: Standing) -> list[str]:
+        """Whom a request wakes: first whoever holds the duty that is told first, then the rest."""
+        approvers, roster, now = self.approvers(standing), self.knowledge.roster, self.knowledge.now
+        if kind == "asked-next":
+            told = {name for name, _ in self.woken.calls(standing.kept.id)}
+            rest = [it for it in approvers if it not in told]
+            return [it for it in rest if not self.own.is_away(it, now, self.manner.zone)]
+        found = self.awake(approvers)
+        on_call = [it for it in found if roster.holds(it, self.manner.first, now)]
+        return on_call or found
+
+    def told_to(self, kind: str, by: str, who: str, standing: Standing | None) -> list[str]:
+        """Whom an event is for: who has to act, or had to, or whose request it is; not who did it
+        just now."""
+        if kind in CALLS:
+            return self.called(kind, standing) if standing else []
+        if kind == "uncounted":
+            return sorted({by, who})
+        # (what is in force already may not be marked in the outbox yet)
+        said = [it for it in standing.said if not it.barred] if standing else []
+        given = {it.verdict.by for it in said if it.verdict.kind == "approve"}
+        left = self.woken.left(standing) if standing and kind in ENDS else set()
+        if kind == "granted":
+            return sorted((given | left) - {by} | {who})
+        if kind in ("refused", "revoked"):
+            return sorted(({who} | given | left) - {by})
+        return sorted({who} | left)
+
+
+def did_of(kept: Kept, verdict: Verdict, standing: Standing | None) -> str:
+    """Who did what, and the reason that they gave."""
+    why = f': "{plain(kept.reason.why)}"' if kept.reason.why else ""
+    is_own = verdict.kind == "revoke" and verdict.by == verdict.of
+    was_open = standing is not None and standing.grant is None
+    did = "withdrew" if is_own and was_open else telling.DONE[verdict.kind]
+    return f"{verdict.by} {did} {verdict.of} {verdict.no}{why}"
 
 
 COPIED = (
@@ -141,21 +254,3 @@ def uncounted(kept: Kept, standing: Standing | None) -> str:
         return f"the desk refused that: {in_words(kept.answer).rstrip('.')}"
     said: list[Said] = [it for it in standing.said if it.kept.id == kept.id] if standing else []
     return telling.uncounted(said[0].barred) if said and said[0].barred else ""
-
-
-def told_to(
-    kind: str, by: str, who: str, standing: Standing | None, approvers: list[str]
-) -> list[str]:
-    """Whom an event is for: who has to act, or whose request it is; not who did it just now."""
-    if kind == "asked":
-        return approvers
-    if kind == "uncounted":
-        return sorted({by, who})
-    # (what is in force already may not be marked in the outbox yet)
-    said = [it for it in standing.said if not it.barred] if standing else []
-    given = {it.verdict.by for it in said if it.verdict.kind == "approve"}
-    if kind == "granted":
-        return sorted({who} | given)
-    if kind in ("refused", "revoked"):
-        return sorted(({who} | given) - {by})
-    return [who]

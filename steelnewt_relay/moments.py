@@ -37,12 +37,16 @@ def length_of(text: str) -> timedelta:
     return timedelta(seconds=found)
 
 
+def as_asked(length: timedelta) -> timedelta:
+    """A length as it was asked for: over five minutes it is rounded up to whole minutes, for its
+    odd seconds went by while the asker read the confirmation."""
+    left = int(length.total_seconds())
+    return timedelta(seconds=left + (-left % 60 if left > 300 else 0))
+
+
 def in_units(length: timedelta) -> str:
-    """A length of time as a person writes it, such as 1h30m. A length over five minutes is rounded
-    up to whole minutes: its odd seconds went by while the asker read the confirmation."""
-    left, words = int(length.total_seconds()), ""
-    if left > 300:
-        left += -left % 60
+    """A length of time as a person writes it, such as 1h30m, rounded as it was asked for."""
+    left, words = int(as_asked(length).total_seconds()), ""
     for unit, size in UNITS.items():
         count, left = divmod(left, size)
         words += f"{count}{unit}" if count else ""
@@ -125,3 +129,11 @@ def spoken(length: timedelta) -> str:
         if count:
             words.append(f"{count} {name}{'' if count == 1 else 's'}")
     return " ".join(words) or "no time"
+
+
+def clock(at: datetime, zone: tzinfo, today: datetime) -> str:
+    """A moment in short, with its zone; with its day where that is another than today's."""
+    local = at.astimezone(zone)
+    days = abs((local.date() - today.astimezone(zone).date()).days)
+    day = "" if not days else f"{local:%a} " if days < 7 else f"{local:%Y-%m-%d} "
+    return f"{day}{local:%H:%M} {local.tzname()}"

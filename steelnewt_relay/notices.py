@@ -11,6 +11,7 @@ import logging
 import os
 import secrets
 import signal
+import sqlite3
 import subprocess
 import threading
 import time
@@ -41,6 +42,7 @@ CREATE TABLE IF NOT EXISTS notices (
     UNIQUE (message, kind)
 ) STRICT;
 CREATE INDEX IF NOT EXISTS due_notices ON notices (state) WHERE state = 'due';
+CREATE INDEX IF NOT EXISTS open_calls ON notices (body ->> '$.until') WHERE kind = 'asked';
 CREATE TABLE IF NOT EXISTS told_from (
     one INTEGER PRIMARY KEY CHECK (one = 1), message INTEGER NOT NULL
 ) STRICT;
@@ -71,7 +73,7 @@ class Notices:
     """The events of an outbox, each once."""
 
     def __init__(self, outbox: Outbox) -> None:
-        self.outbox, self.base = outbox, outbox.base
+        self.outbox = outbox
         with outbox.writing():
             for statement in SCHEMA.split(";"):
                 self.base.execute(statement)
@@ -79,6 +81,10 @@ class Notices:
             self.base.execute(
                 "INSERT OR IGNORE INTO told_from SELECT 1, coalesce(max(id), 0) FROM messages"
             )
+
+    @property
+    def base(self) -> sqlite3.Connection:
+        return self.outbox.base
 
     def untold(self) -> list[Kept]:
         return self.outbox.find(UNTOLD)
@@ -97,11 +103,16 @@ class Notices:
         )
         return found.fetchone() is not None
 
-    def record(self, events: list[Event], state: str = "due") -> None:
-        """Keeps events that are new; all of them, or none."""
+    def is_noted(self, kept: Kept) -> bool:
+        """Whether anything is recorded of a message."""
+        found = self.base.execute("SELECT 1 FROM notices WHERE message = ?", (kept.id,))
+        return found.fetchone() is not None
+
+    def record(self, events: list[Event]) -> None:
+        """Keeps events that are new; all of them, or none. One without data is told to nobody."""
         with self.outbox.writing():
             for event in events:
-                id = secrets.token_hex(16)
+                id, state = secrets.token_hex(16), "due" if event.data else "needless"
                 self.base.execute(
                     "INSERT INTO notices (id, message, kind, body, state, began)"
                     " VALUES (?, ?, ?, ?, ?, ?) ON CONFLICT DO NOTHING",
@@ -138,27 +149,35 @@ class Notices:
 def find(notices: Notices, finder: Finder) -> Iterator[Event]:
     """What happened and is not recorded yet. `Silent` where the desk does not answer."""
     untold, knowledge = notices.untold(), finder.knowledge
-    about = [finder.request_of(it) for it in untold] + notices.past(stamp(knowledge.now))
+    late = finder.late()
+    about = [finder.request_of(it) for it in untold] + notices.past(stamp(knowledge.now)) + late
     with suppress(Silent):
         knowledge.ask([it for it in about if it], is_live=True)
     for kept in untold:
         yield from finder.of_message(kept)
+    for kept in late:
+        yield finder.of_late(kept)
     for grant in knowledge.live():
         request = knowledge.asked_here(grant)
-        if request and notices.is_new(request) and not notices.has(request, "granted"):
+        is_untold = request and notices.is_new(request) and not notices.has(request, "granted")
+        if request and is_untold and not is_under_way(notices, request, untold):
             yield finder.of_grant(request)
         if request and finder.is_ending(grant) and not notices.has(request, "ends-soon"):
             yield finder.of_end(grant, request)
 
 
+def is_under_way(notices: Notices, request: Kept, untold: list[Kept]) -> bool:
+    """Whether a verdict on a request was sent that nothing was told of, and is not looked at now:
+    what it brought is told with it, as its author's doing."""
+    verdicts = notices.outbox.verdicts(request.request.by, request.request.no)
+    now_looked_at = {it.id for it in untold}
+    return any(it.id not in now_looked_at and not notices.is_noted(it) for it in verdicts)
+
+
 def settle(notices: Notices, finder: Finder) -> None:
     """Records what became of requests whose window is over."""
     for kept in notices.past(stamp(finder.knowledge.now)):
-        event = finder.of_past(kept)
-        if event:
-            notices.record([event])
-        else:
-            notices.record([Event("void", kept.id, {})], "needless")
+        notices.record([finder.of_past(kept) or Event("void", kept.id, {})])
 
 
 def look(notices: Notices, make: Callable[[], Finder]) -> str:
@@ -241,9 +260,12 @@ def keep_telling(
     """Looks and tells, again and again, until `ended`."""
     trouble = ""
     while not ended.is_set():
-        why = look(notices, finder)
+        # (what was told could not be noted on a full disk, and would be told again)
+        has_room = notices.outbox.has_room()
+        why = look(notices, finder) if has_room else "the disk is full, so nobody is told"
         if why and why != trouble:
             log.warning("what happened is not known: %s", why)
         trouble = why
-        tell(notices, *program, ended)
+        if has_room:
+            tell(notices, *program, ended)
         ended.wait(every)

@@ -1,23 +1,27 @@
 """The outbox: each message is on the disk before the person has an answer.
 
 A database of SQLite. Several programs may have it at a time: an ssh call each, the page, and what
-posts. A message is written once, by one transaction that also gives a request its number.
+posts. A message is written once, by one transaction that also gives a request its number. On a full
+disk it is read without writing, and refusals and revocations have a reserve (reserve.py).
 """
 
 import json
 import os
 import re
 import sqlite3
-from collections.abc import Iterable, Iterator
-from contextlib import contextmanager
+from collections.abc import Callable, Iterable, Iterator, Mapping
+from contextlib import closing, contextmanager, suppress
 from dataclasses import dataclass, replace
 from datetime import timedelta
 from functools import lru_cache
+from typing import TypeVar
 
 from steelnewt_client.messages import BadWord, Request, Verdict, Wish, measured, read
 from steelnewt_client.moments import of_stamp, stamp
 from steelnewt_client.signed import Signed, reason_digest
-from steelnewt_relay.reasons import NONE, Reason
+from steelnewt_relay.own import Own
+from steelnewt_relay.reasons import NONE, Reason, Reasons
+from steelnewt_relay.reserve import NoRoom, Reserve
 
 SCHEMA = """
 CREATE TABLE IF NOT EXISTS messages (
@@ -47,6 +51,14 @@ CREATE TABLE IF NOT EXISTS prepared (
 CREATE TABLE IF NOT EXISTS signatures (
     id INTEGER PRIMARY KEY, signature TEXT NOT NULL, about TEXT NOT NULL, why TEXT NOT NULL
 ) STRICT;
+CREATE TABLE IF NOT EXISTS people (
+    person TEXT PRIMARY KEY, zone TEXT NOT NULL DEFAULT '',
+    away_from TEXT NOT NULL DEFAULT '', away_until TEXT NOT NULL DEFAULT ''
+) STRICT;
+CREATE TABLE IF NOT EXISTS templates (
+    person TEXT NOT NULL, name TEXT NOT NULL, message INTEGER NOT NULL,
+    PRIMARY KEY (person, name)
+) STRICT;
 """
 MADE = set(re.findall(r"IF NOT EXISTS (\w+)", SCHEMA))
 COLUMNS = (
@@ -58,8 +70,13 @@ ON_NAMES = """kind <> 'request'
  AND (of, no) IN (SELECT value ->> 0, value ->> 1 FROM json_each(?))"""
 # The requests of such names.
 NAMED = ON_NAMES.replace("<>", "=")
+# What takes a right away, or keeps one from being given.
+TAKES_AWAY = ("refuse", "revoke")
 # How long somebody may take to sign what was prepared.
 PREPARED_FOR = timedelta(hours=1)
+# (no person's name is empty)
+EVERYBODY = ""
+Made = TypeVar("Made")
 # Why an approval is not posted.
 UNASKED = "the desk refused the request that it approves"
 
@@ -95,6 +112,10 @@ class Kept:
         return self.message
 
     @property
+    def takes_away(self) -> bool:
+        return isinstance(self.message, Verdict) and self.message.kind in TAKES_AWAY
+
+    @property
     def line(self) -> bytes:
         """What is posted: the message, and its author's signature where there is one."""
         return Signed(self.message.text(), *self.signature).line().encode("utf-8")
@@ -113,25 +134,72 @@ def kept_of(
     return Kept(id, read(body), state, answer, True, Reason(*reason), signature)
 
 
+def is_taking_away(text: str) -> bool:
+    """Whether a text, whoever wrote it, is a message that takes a right away."""
+    with suppress(ValueError, TypeError, KeyError, AttributeError, RecursionError):
+        message = read(text)
+        return isinstance(message, Verdict) and message.kind in TAKES_AWAY
+    return False
+
+
 class Outbox:
     def __init__(
         self, path: str, numbers: tuple[int, int] = (1, 999_999_999), signs: bool = True
     ) -> None:
         """(`signs` is false where no door takes signatures: a desk itself takes messages alone)"""
         self.numbers, self.signs = numbers, signs
+        self.path, self.reserve, self.is_reading = path, Reserve(path), False
+        self.own = Own(self)
+        self.base = sqlite3.connect(":memory:")  # (until it is open)
+        try:
+            self.open()
+        except sqlite3.OperationalError as fault:
+            if not self.reserve.is_full(fault) or not os.path.exists(path):
+                raise
+            self.open_to_read()
+
+    def open(self) -> None:
         try:
             # (SQLite gives its log the rights of the file)
-            os.close(os.open(path, os.O_CREAT | os.O_RDWR, 0o600))
+            os.close(os.open(self.path, os.O_CREAT | os.O_RDWR, 0o600))
         except OSError as fault:
             raise sqlite3.OperationalError(str(fault)) from None
-        self.base = sqlite3.connect(path, timeout=20, isolation_level=None)
+        self.base = sqlite3.connect(self.path, timeout=20, isolation_level=None)
         self.base.execute("PRAGMA journal_mode = wal")
         self.base.execute("PRAGMA synchronous = full")
+        self.is_reading = False
         # (whoever only looks at what is kept waits for nobody who writes)
         if not self.is_made():
             with self.writing():
-                for statement in SCHEMA.split(";"):
-                    self.base.execute(statement)
+                self.make_tables()
+
+    def open_to_read(self) -> None:
+        """On a full disk SQLite cannot make the file that those share who have the outbox open.
+        Then nobody has: it is copied into memory without that file, under a lock that no other
+        has beside it, and is read there."""
+        self.base.close()
+        self.base = sqlite3.connect(":memory:", isolation_level=None)
+        self.is_reading = True
+        with closing(sqlite3.connect(self.path, timeout=20, isolation_level=None)) as alone:
+            alone.execute("PRAGMA locking_mode = exclusive")
+            alone.backup(self.base)
+        # (an older relay's outbox has not all of it)
+        self.make_tables()
+
+    def make_tables(self) -> None:
+        for statement in SCHEMA.split(";"):
+            self.base.execute(statement)
+
+    @property
+    def reasons(self) -> Reasons:
+        return Reasons(self.base)
+
+    def template(self, person: str, name: str) -> Kept | None:
+        """The request that a person saved under a name of their own."""
+        found = self.find(
+            "id = (SELECT message FROM templates WHERE person = ? AND name = ?)", person, name
+        )
+        return found[0] if found else None
 
     def is_made(self) -> bool:
         """Whether the file has all that the schema names."""
@@ -142,15 +210,47 @@ class Outbox:
         self.base.close()
 
     @contextmanager
-    def writing(self) -> Iterator[None]:
-        """All that is written inside is on the disk at the end, or none of it."""
+    def writing(self, takes_away: bool = False) -> Iterator[None]:
+        """All that is written inside is on the disk at the end, or none of it. While the reserve is
+        given up, only what takes a right away is written."""
+        if not takes_away and not self.reserve.is_there():
+            raise NoRoom
+        self.open_again()
         self.base.execute("BEGIN IMMEDIATE")
         try:
             yield
+            self.base.execute("COMMIT")
         except BaseException:
-            self.base.execute("ROLLBACK")
+            if self.base.in_transaction:
+                self.base.execute("ROLLBACK")
             raise
-        self.base.execute("COMMIT")
+
+    def open_again(self) -> None:
+        """Opens an outbox for writing that was opened to be read."""
+        if self.is_reading:
+            self.base.close()
+            try:
+                self.open()
+            except sqlite3.OperationalError:
+                self.open_to_read()
+                raise
+
+    def spending(self, write: Callable[[], Made], takes_away: bool) -> Made:
+        """Writes; what takes a right away once more where the disk is full, in the reserve's
+        room."""
+        try:
+            return write()
+        except sqlite3.OperationalError as fault:
+            if not takes_away or not self.reserve.is_full(fault) or not self.reserve.free():
+                raise
+        return write()
+
+    def has_room(self) -> bool:
+        """Whether anything is kept and posted here. (One that was opened to be read is opened anew:
+        it sees nothing of what others wrote since.)"""
+        with suppress(sqlite3.OperationalError):
+            self.open_again()
+        return not self.is_reading and self.reserve.has_room()
 
     def keep_request(
         self,
@@ -171,9 +271,7 @@ class Outbox:
             kept = self.insert(request, "request", by, request.no, once)
             if once:
                 self.base.execute("INSERT INTO said VALUES (?, ?)", (kept.id, words))
-            if reason:
-                row = (kept.id, reason.why, reason.ticket)
-                self.base.execute("INSERT INTO reasons VALUES (?, ?, ?)", row)
+            self.reasons.keep(kept.id, reason)
             return replace(kept, reason=reason)
 
     def check_words(self, old: Kept, wish: Wish, words: str) -> None:
@@ -187,15 +285,25 @@ class Outbox:
                 " has a key of its own"
             )
 
-    def keep_verdict(self, verdict: Verdict, once: str | None = None) -> Kept:
-        """Keeps a verdict. The same `once` again is the same verdict. Nobody approves what the
-        desk refused: their word would wait there for any other request of that name."""
-        with self.writing():
-            if old := self.same(verdict.by, once):
-                return old
-            if self.is_approval_of_refused(verdict):
-                raise BadWord(f"{UNASKED}: there is nothing to approve")
-            return self.insert(verdict, verdict.kind, verdict.of, verdict.no, once)
+    def keep_verdict(
+        self, verdict: Verdict, once: str | None = None, why: str | None = None
+    ) -> Kept:
+        """Keeps a verdict and why it is given. The same `once` again is the same verdict. Nobody
+        approves what the desk refused: their word would wait there for any other request of that
+        name."""
+        takes_away = verdict.kind in TAKES_AWAY
+
+        def write() -> Kept:
+            with self.writing(takes_away):
+                if old := self.same(verdict.by, once):
+                    return old
+                if self.is_approval_of_refused(verdict):
+                    raise BadWord(f"{UNASKED}: there is nothing to approve")
+                kept = self.insert(verdict, verdict.kind, verdict.of, verdict.no, once)
+                self.reasons.keep_verdict(kept.id, why)
+                return replace(self.entry(kept.id), is_new=kept.is_new)
+
+        return self.spending(write, takes_away)
 
     def prepare_request(self, by: str, wish: Wish, at: str, reason: Reason = NONE) -> Request:
         """Gives a wish the person's next number, for its author to sign. It is sent once it comes
@@ -206,11 +314,17 @@ class Outbox:
             return request
 
     def prepare_verdict(self, verdict: Verdict, reason: Reason = NONE) -> None:
-        """Notes a verdict for its author to sign, with the reason that the request has."""
-        with self.writing():
-            if self.is_approval_of_refused(verdict):
-                raise BadWord(f"{UNASKED}: there is nothing to approve")
-            self.prepare(verdict, reason)
+        """Notes a verdict for its author to sign, with its reason; an approval's is that of its
+        request, which the approver was shown."""
+        takes_away = verdict.kind in TAKES_AWAY
+
+        def write() -> None:
+            with self.writing(takes_away):
+                if self.is_approval_of_refused(verdict):
+                    raise BadWord(f"{UNASKED}: there is nothing to approve")
+                self.prepare(verdict, reason)
+
+        self.spending(write, takes_away)
 
     def prepare(self, message: Request | Verdict, reason: Reason) -> None:
         old = stamp(of_stamp(message.at) - PREPARED_FOR)
@@ -221,7 +335,11 @@ class Outbox:
     def keep_signed(self, by: str, signed: Signed) -> Kept:
         """Keeps a message that was prepared for this person, with the signature. The same message
         again is the same, with the signature that came first."""
-        with self.writing():
+        takes_away = is_taking_away(signed.message)
+        return self.spending(lambda: self.try_signed(by, signed, takes_away), takes_away)
+
+    def try_signed(self, by: str, signed: Signed, takes_away: bool) -> Kept:
+        with self.writing(takes_away):
             row = self.base.execute(
                 "SELECT why, ticket FROM prepared WHERE body = ? AND by = ?", (signed.message, by)
             ).fetchone()
@@ -230,14 +348,13 @@ class Outbox:
             if signed.why != reason_digest(*row):
                 raise BadWord("this was signed with another reason or ticket: begin again")
             message = read(signed.message)
-            is_request = isinstance(message, Request)
             of = message.by if isinstance(message, Request) else message.of
             kind = "request" if isinstance(message, Request) else message.kind
             kept = self.insert(message, kind, of, message.no, None)
             what = (kept.id, signed.signature, signed.about, signed.why)
             self.base.execute("INSERT OR IGNORE INTO signatures VALUES (?, ?, ?, ?)", what)
-            if is_request and row != ("", ""):
-                self.base.execute("INSERT OR IGNORE INTO reasons VALUES (?, ?, ?)", (kept.id, *row))
+            if kind != "approve":  # (an approval is signed over the reason of its request)
+                self.reasons.keep(kept.id, Reason(*row))
             return replace(self.entry(kept.id), is_new=kept.is_new)
 
     def is_approval_of_refused(self, verdict: Verdict) -> bool:
@@ -262,8 +379,9 @@ class Outbox:
 
     def next_number(self, person: str) -> int:
         first, last = self.numbers
-        row = self.base.execute("SELECT last FROM numbers WHERE person = ?", (person,)).fetchone()
-        number: int = max(first, row[0] + 1) if row else first
+        rows = "SELECT last FROM numbers WHERE person IN (?, ?)"
+        used = [row[0] for row in self.base.execute(rows, (person, EVERYBODY))]
+        number: int = max([first, *(it + 1 for it in used)])
         if number > last:
             raise OutOfNumbers(
                 f"{person} has used the numbers up to {last}: ask the desk's operator"
@@ -274,6 +392,24 @@ class Outbox:
             (person, number),
         )
         return number
+
+    def has_heard(self) -> bool:
+        """Whether it knows which numbers are used: it gave some, or was told (numbers.py)."""
+        return self.base.execute("SELECT 1 FROM numbers").fetchone() is not None
+
+    def number_past(self, number: int) -> None:
+        """From here on nobody is given a number up to this one: another outbox may have given
+        it, or this one before it was lost."""
+        self.heard({EVERYBODY: number})
+
+    def heard(self, used: Mapping[str, int]) -> None:
+        """From here on no person is given a number up to the one beside the name."""
+        with self.writing():
+            self.base.executemany(
+                "INSERT INTO numbers VALUES (?, ?)"
+                " ON CONFLICT (person) DO UPDATE SET last = max(last, excluded.last)",
+                [(EVERYBODY, 0), *used.items()],
+            )
 
     def find(self, where: str, *values: object) -> list[Kept]:
         """Messages in the order in which they were kept."""
@@ -294,6 +430,10 @@ class Outbox:
 
     def entry(self, id: int) -> Kept:
         return self.find("id = ?", id)[0]
+
+    def with_reasons(self) -> list[Kept]:
+        """All requests, and the verdicts for which somebody gave a reason."""
+        return self.find("kind = 'request' OR reasons.why IS NOT NULL")
 
     def requests(self) -> list[Kept]:
         return self.find("kind = 'request'")
@@ -340,11 +480,16 @@ class Outbox:
 
     def answered(self, id: int, state: str, answer: str = "") -> None:
         """Notes what became of a message. An answer of the desk stays."""
-        with self.writing():
-            self.base.execute(
-                "UPDATE messages SET state = ?, answer = ? WHERE id = ? AND state = 'kept'",
-                (state, answer, id),
-            )
+        takes_away = self.entry(id).takes_away
+
+        def write() -> None:
+            with self.writing(takes_away):
+                self.base.execute(
+                    "UPDATE messages SET state = ?, answer = ? WHERE id = ? AND state = 'kept'",
+                    (state, answer, id),
+                )
+
+        self.spending(write, takes_away)
 
     def post_again(self) -> int:
         """Marks all that was acknowledged as not posted: for a desk that lost its store."""

@@ -13,6 +13,7 @@ from collections.abc import Iterator
 from steelnewt_client.names import PERSON
 from steelnewt_client.places import place
 from steelnewt_relay.calls import end_calls
+from steelnewt_relay.config import BadConfig, read_config
 from steelnewt_relay.keys import (
     KEY,
     KEYS,
@@ -24,7 +25,9 @@ from steelnewt_relay.keys import (
     holders_in,
     lines_of,
 )
+from steelnewt_relay.roster import BadRoster
 
+CONFIG = "/etc/desk/relay.toml"
 RELAY = place("relays/desk-relay", "bin/desk-relay")
 # The longest file that is read: a public key of 16,384 bits has some 3,000 bytes.
 MOST = 8192
@@ -148,6 +151,18 @@ def add(keys: Keys, name: str, path: str, config: str | None) -> str:
     return f"{name} may call with {print_of}"
 
 
+def unlisted(name: str, config: str) -> str:
+    """What to say of somebody whom the roster does not have: a slip in the name shows days later."""
+    try:
+        settings = read_config(config)
+        people = settings.read_roster().people
+    except (BadConfig, BadRoster, OSError):
+        return ""
+    if name in people:
+        return ""
+    return f"{settings.roster} has nobody whose name is {name}: until it has, calls get no answer"
+
+
 def remove(keys: Keys, name: str) -> str:
     """Takes away a person's keys, and ends the calls that began with one of them."""
     gone = {holder: it for holder, it in keys.known().items() if holder.name == name}
@@ -219,6 +234,8 @@ def main(words: list[str] | None = None) -> int:
             return show(keys)
         if said.job == "add":
             print(add(keys, said.name, said.file, said.config))
+            if told := unlisted(said.name, said.config or CONFIG):
+                print(f"desk-relay-person: {told}", file=sys.stderr)
         elif said.job == "remove":
             print(remove(keys, said.name))
         else:

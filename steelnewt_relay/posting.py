@@ -1,6 +1,8 @@
-"""Posts what the outbox keeps, until the desk has answered each message."""
+"""Posts what the outbox keeps, until the desk has answered each message. Where a disk is full,
+refusals and revocations go first, and alone (reserve.py)."""
 
 import logging
+import sqlite3
 import threading
 from contextlib import suppress
 
@@ -8,15 +10,26 @@ from steelnewt_client.codes import Fate
 from steelnewt_client.desk import Desk, Silent
 from steelnewt_client.messages import Request
 from steelnewt_relay.outbox import UNASKED, Kept, Outbox
+from steelnewt_relay.reserve import DeskReserve
 
+FULL = "503 K4 Storage"  # what a desk says whose disk is full
+HELD = "the desk's disk is full: refusals and revocations go first"
 log = logging.getLogger("desk-relay")
 
 
 def post_one(outbox: Outbox, desk: Desk, kept: Kept) -> Kept:
     """Posts a message once. Where the desk does not answer it stays kept, with the reason."""
+    if kept.state == "kept" and not kept.takes_away and not is_room_at(desk):
+        outbox.answered(kept.id, "kept", HELD)
+        return outbox.entry(kept.id)
     with suppress(Silent):
         try_to_post(outbox, desk, kept)
     return outbox.entry(kept.id)
+
+
+def is_room_at(desk: Desk) -> bool:
+    """Whether a desk on this machine has its reserve of disk: else that room is a revocation's."""
+    return not desk.place.is_here or DeskReserve().is_there()
 
 
 def try_to_post(outbox: Outbox, desk: Desk, kept: Kept) -> None:
@@ -24,6 +37,8 @@ def try_to_post(outbox: Outbox, desk: Desk, kept: Kept) -> None:
     if kept.state != "kept" or not is_ready(outbox, kept):
         return
     answer = desk.post(desk.relay, kept.line)
+    if answer.said == FULL and kept.takes_away and desk.place.is_here and DeskReserve().free():
+        answer = desk.post(desk.relay, kept.line)
     if answer.fate is Fate.TAKEN:
         outbox.answered(kept.id, "acked", "")
     elif answer.fate is Fate.FINAL:
@@ -56,17 +71,29 @@ def post_kept(outbox: Outbox, desk: Desk) -> list[Kept]:
     before the desk does not let through holds up no other."""
     tried: list[Kept] = []
     with suppress(Silent):
-        for kept in outbox.unposted():
+        for kept in to_post(outbox, desk):
             tried.append(kept)
             try_to_post(outbox, desk, kept)
     return [outbox.entry(kept.id) for kept in tried]
+
+
+def to_post(outbox: Outbox, desk: Desk) -> list[Kept]:
+    """What is kept; where a disk is full, what takes rights away alone."""
+    # (asked in each round: a reserve is made anew before anything else)
+    has_room = outbox.has_room() and is_room_at(desk)
+    return [it for it in outbox.unposted() if has_room or it.takes_away]
 
 
 def keep_posting(outbox: Outbox, desk: Desk, every: float, ended: threading.Event) -> None:
     """Posts what is kept, again and again, and says what changed."""
     trouble = ""
     while not ended.is_set():
-        posted = post_kept(outbox, desk)
+        try:
+            posted = post_kept(outbox, desk)
+        except sqlite3.OperationalError as fault:
+            posted = []
+            if trouble != (trouble := f"what is kept here fails: {fault}"):
+                log.warning("%s", trouble)
         for kept in posted:
             if kept.state != "kept":
                 trouble = ""

@@ -11,18 +11,18 @@ import sys
 import threading
 from collections.abc import Iterable
 
-from steelnewt_client.messages import BadWord, checked
+from steelnewt_client.messages import BadWord, Verdict, checked
 from steelnewt_client.moments import now
 from steelnewt_relay import ssh
 from steelnewt_relay.caller import Caller, Keyed, certified
 from steelnewt_relay.calls import open_calls
 from steelnewt_relay.config import BadConfig, Config, read_config
-from steelnewt_relay.events import Finder
+from steelnewt_relay.events import Finder, Manner
 from steelnewt_relay.keys import BadKey
 from steelnewt_relay.notices import Notices, keep_telling, locked
 from steelnewt_relay.outbox import Kept
 from steelnewt_relay.posting import keep_posting
-from steelnewt_relay.sent import BadOutbox, bodies
+from steelnewt_relay.sent import BadOutbox, bodies, numbered
 from steelnewt_relay.standing import Knowledge
 
 CONFIG = "/etc/desk/relay.toml"
@@ -44,8 +44,12 @@ def parser() -> argparse.ArgumentParser:
     notify.add_argument("--every", type=float, default=5.0, help="seconds between two rounds")
     jobs.add_parser("page", help="serve the page, until SIGTERM")
     jobs.add_parser("post-again", help="post again all that was acknowledged")
-    jobs.add_parser("sent", help="print the outbox's messages, whoever may have written it")
-    jobs.add_parser("reasons", help="print why each request was asked, as lines of JSON")
+    past = jobs.add_parser("number-past", help="give no number up to this one, to nobody")
+    past.add_argument("number", metavar="NUMBER", type=int)
+    sent = jobs.add_parser("sent", help="print the outbox's messages, whoever may have written it")
+    said = "only those behind this number, each with its number and state"
+    sent.add_argument("--after", type=int, metavar="NUMBER", help=said)
+    jobs.add_parser("reasons", help="print why people asked and decided, as lines of JSON")
     return found
 
 
@@ -113,13 +117,13 @@ def notify(config: Config, every: float) -> int:
     if (told := config.notify) is None:
         print("desk-relay: nobody is told anything: the settings have no [notify]", file=sys.stderr)
         return 0
-    link, ended = told.link, ended_by_signal()
+    ended, manner = ended_by_signal(), Manner.of(config)
     outbox, desk = config.open_outbox(), config.open_desk()
     lock = locked(f"{config.outbox}.notify")
 
     def finder() -> Finder:
         knowledge = Knowledge(outbox, desk, config.read_roster(), now())
-        return Finder(knowledge, config.zone, link)
+        return Finder(knowledge, manner)
 
     keep_telling(Notices(outbox), finder, (told.program, told.seconds), every, ended)
     os.close(lock)
@@ -127,9 +131,14 @@ def notify(config: Config, every: float) -> int:
 
 
 def reason_line(kept: Kept) -> str:
-    """A request's name, and why it was asked: a line for the evidence."""
-    request = kept.request
-    name = {"who": request.by, "no": request.no, "at": request.at, "ceiling": request.wish.ceiling}
+    """A request's name or a verdict, and why somebody asked or gave it: a line for the evidence."""
+    name: dict[str, object] = {}
+    if isinstance(kept.message, Verdict):
+        name |= vars(kept.verdict)
+    else:
+        request = kept.request
+        name |= {"who": request.by, "no": request.no, "at": request.at}
+        name["ceiling"] = request.wish.ceiling
     state = {"state": kept.state, "answer": kept.answer or None}
     return json.dumps(name | kept.reason.data() | state)
 
@@ -148,10 +157,16 @@ def run_job(config: Config, job: str, said: argparse.Namespace) -> int:
         return notify(config, said.every)
     if job == "post-again":
         return print_lines([f"{config.open_outbox().post_again()} messages are posted again"])
+    if job == "number-past":
+        config.open_outbox().number_past(said.number)
+        return print_lines([f"numbers go on behind {said.number}"])
     if job == "sent":
+        after: int | None = said.after
+        if after is not None:
+            return print_lines(numbered(config.outbox, after))
         return print_lines(bodies(config.outbox))
     if job == "reasons":
-        return print_lines(reason_line(it) for it in config.open_outbox().requests())
+        return print_lines(reason_line(it) for it in config.open_outbox().with_reasons())
     # (Flask takes a moment to load, and a call by ssh has no use for it)
     from steelnewt_relay.page import serve
 

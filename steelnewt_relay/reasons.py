@@ -1,6 +1,8 @@
-"""Why somebody asks: a text and a ticket, kept beside the request. The desk's message has none."""
+"""Why somebody asks, approves, refuses or revokes: a text, and a request's ticket, kept beside the
+message. The desk's message has none."""
 
 import re
+import sqlite3
 from collections.abc import Iterator
 from dataclasses import dataclass, field
 
@@ -50,6 +52,32 @@ class Reason:
 NONE = Reason()
 
 
+class Reasons:
+    """The reasons that an outbox keeps, each beside its message."""
+
+    def __init__(self, base: sqlite3.Connection) -> None:
+        self.base = base
+
+    def keep(self, message: int, reason: Reason) -> None:
+        """Keeps the reason of a message, whose first one stays."""
+        if reason:
+            row = (message, reason.why, reason.ticket)
+            self.base.execute("INSERT OR IGNORE INTO reasons VALUES (?, ?, ?)", row)
+
+    def keep_verdict(self, message: int, why: str | None) -> None:
+        """Keeps why somebody gave a verdict."""
+        self.keep(message, Reason.of(why, ""))
+
+    def of_verdict(self, by: str, kind: str, of_asker: str, of_no: int) -> str | None:
+        """Why a person gave a verdict on a request, the last time that they did."""
+        found = self.base.execute(
+            "SELECT why FROM messages JOIN reasons USING (id)"
+            " WHERE by = ? AND kind = ? AND of = ? AND no = ? ORDER BY id DESC LIMIT 1",
+            (by, kind, of_asker, of_no),
+        ).fetchone()
+        return str(found[0]) if found else None
+
+
 @dataclass(frozen=True)
 class Demand:
     """What this relay demands: of every request (True), or under some ceilings."""
@@ -68,14 +96,25 @@ class Demand:
     def reason(self, ceiling: str, why: str | None, ticket: str | None) -> Reason:
         """The reason of a request under a ceiling. Raises where it needs another."""
         found = Reason.of(why, ticket)
+        found = Reason(found.why, self.spelled(found.ticket))
         self.check(ceiling, found)
         return found
 
+    def spelled(self, ticket: str) -> str:
+        """A ticket in capitals, where the site's tickets have them: ops-7 is OPS-7."""
+        is_other = not self.form.fullmatch(ticket) and self.form.fullmatch(ticket.upper())
+        return ticket.upper() if is_other else ticket
+
     def check(self, ceiling: str, reason: Reason) -> None:
-        why, ticket = self.wants(ceiling)
-        if why and not reason.why:
+        self.check_why(ceiling, reason)
+        self.check_ticket(ceiling, reason)
+
+    def check_why(self, ceiling: str, reason: Reason) -> None:
+        if self.wants(ceiling)[0] and not reason.why:
             raise BadWord(f"say why: a request under {ceiling} needs a reason (--why TEXT)")
-        if ticket and not reason.ticket:
+
+    def check_ticket(self, ceiling: str, reason: Reason) -> None:
+        if self.wants(ceiling)[1] and not reason.ticket:
             raise BadWord(f"name a ticket: a request under {ceiling} needs one (--ticket ID)")
         if reason.ticket and not self.form.fullmatch(reason.ticket):
             raise BadWord(

@@ -64,7 +64,7 @@ class Roster:
             found = os.stat(path)
             return roster_of(path, found.st_ino, found.st_size, found.st_mtime_ns)
         except (OSError, ValueError, KeyError, TypeError, AttributeError) as fault:
-            raise BadRoster(f"the roster {path} cannot be read: {fault!r}") from None
+            raise BadRoster(f"the list of people, {path}, cannot be read: {fault!r}") from None
 
     def duties(self, person: str, at: datetime) -> frozenset[str]:
         """The duties that a person holds at a moment."""

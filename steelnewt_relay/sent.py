@@ -5,6 +5,7 @@ import sqlite3
 import urllib.parse
 from collections.abc import Iterator
 from contextlib import closing
+from typing import Any
 
 from steelnewt_client.messages import MOST_BYTES, read
 
@@ -12,7 +13,10 @@ from steelnewt_client.messages import MOST_BYTES, read
 PROGRAMS = """SELECT type || ' ' || name FROM sqlite_schema
  WHERE type IN ('view', 'trigger') OR sql LIKE 'CREATE VIRTUAL%' ORDER BY name"""
 COMPUTED = "SELECT 'column ' || name FROM pragma_table_xinfo('messages') WHERE hidden <> 0"
-BODIES = f"SELECT CAST(body AS BLOB) FROM messages WHERE length(body) <= {MOST_BYTES} ORDER BY rowid"
+BEHIND = f"FROM messages WHERE rowid > ? AND length(body) <= {MOST_BYTES} ORDER BY rowid"
+BODIES = f"SELECT CAST(body AS BLOB) {BEHIND}"
+NUMBERED = f"SELECT CAST(body AS BLOB), rowid, state {BEHIND}"
+STATES = ("kept", "acked", "refused")
 
 
 class BadOutbox(ValueError):
@@ -21,15 +25,28 @@ class BadOutbox(ValueError):
 
 def bodies(path: str) -> Iterator[str]:
     """The messages that an outbox has, each its canonical text on a line of its own."""
+    return (text for text, _ in rows(path, BODIES, 0))
+
+
+def numbered(path: str, after: int) -> Iterator[str]:
+    """The messages behind the one of this number: before each its own number, and what the desk
+    said to it (kept, acked or refused)."""
+    for text, (number, state) in rows(path, NUMBERED, after):
+        if state in STATES:
+            yield f"{number} {state} {text}"
+
+
+def rows(path: str, question: str, after: int) -> Iterator[tuple[str, list[Any]]]:
+    """Each message behind the one of this number, with the other columns of the question."""
     with closing(opened(path)) as base:
-        for question in (PROGRAMS, COMPUTED):
-            if found := [name for (name,) in base.execute(question)]:
+        for look in (PROGRAMS, COMPUTED):
+            if found := [name for (name,) in base.execute(look)]:
                 raise BadOutbox(f"{path}: no relay makes this in an outbox: {', '.join(found)}")
         base.set_authorizer(allowed)
-        for (body,) in base.execute(BODIES):
+        for body, *more in base.execute(question, (after,)):
             text = body.decode("utf-8", "replace")
             if is_message(text):
-                yield text
+                yield text, more
 
 
 def opened(path: str) -> sqlite3.Connection:

@@ -11,20 +11,25 @@ from steelnewt_client.messages import VERDICTS, BadWord, Request, Verdict
 from steelnewt_client.moments import now, stamp
 from steelnewt_client.signed import MOST_LINE, MOST_LISTED, BadLine, Signed, read_line
 from steelnewt_relay import telling
-from steelnewt_relay.admission import objections
+from steelnewt_relay.numbers import hear
 from steelnewt_relay.posting import post_one
 from steelnewt_relay.reasons import NONE, Reason
-from steelnewt_relay.sending import DONE, again_of, asked_of, told_request, told_verdict
+from steelnewt_relay.call import DONE
+from steelnewt_relay.sending import (
+    again_of,
+    asked_of,
+    hopeless,
+    saved_of,
+    told_request,
+    told_verdict,
+)
 
 if TYPE_CHECKING:
     from steelnewt_client.messages import Wish
-    from steelnewt_relay.ssh import Call
+    from steelnewt_relay.call import Call
 
 Item = dict[str, object]
-SIGN = (
-    "this site takes signed messages alone: write mydesk in place of ssh and the relay's name"
-    " (man mydesk)"
-)
+SIGN = "this site takes signed messages alone: write mydesk in place of ssh desk (man mydesk)"
 
 
 def item(text: str, request: str | None, reason: Reason, notes: list[str]) -> Item:
@@ -34,26 +39,44 @@ def item(text: str, request: str | None, reason: Reason, notes: list[str]) -> It
 
 
 def prepare_request(call: Call, wish: Wish, reason: Reason) -> Item:
-    """A request, which is sent once it comes back signed."""
-    at = now()
-    note = telling.objected(objections(call.roster, call.person, wish, at))
+    """A request, which is sent once it comes back signed. What cannot be granted is not prepared,
+    but for whoever wants it in any case."""
+    at, note = now(), hopeless(call, wish)
+    if note and not call.said.anyway:
+        raise BadWord(f"{note.rstrip('.')}. Change that, or write --anyway")
+    hear(call.outbox, call.desk)
     request = call.outbox.prepare_request(call.person, wish.as_of(at), stamp(at), reason)
     return item(request.text(), None, reason, [note])
 
 
 def prepare_verdict(call: Call, kind: str, of: str, no: int) -> Item:
-    """A verdict, the request's text if this relay brought it, and how that stands."""
+    """A verdict, the request's text if somebody asked it here, and how that stands."""
     verdict, kept = Verdict(call.person, kind, of, no, stamp(now())), call.outbox.request(of, no)
-    notes, reason = [telling.unseen(kind, of, no)] if kept is None else [], NONE
-    if kept is not None:
+    own, reason, notes = Reason.of(call.said.why, ""), NONE, list[str]()
+    if kept is None:
+        notes.append(telling.unseen(kind, of, no))
+    else:
         if kind == "approve":
             telling.approvable(kept)
         knowledge = call.knowledge()
         standing, reason = knowledge.standing(kept), kept.reason
         notes.append(telling.fate(standing, call.zone, call.roster, now()))
-        notes.append(telling.warning(kind, knowledge.bar_now(standing, kind, call.person)))
+        notes.append(vain(call, kind, knowledge.bar_now(standing, kind, call.person)))
+    if kind != "approve":
+        reason = own
+    elif own:
+        raise BadWord("where people sign, an approval is signed over the reason of its request:"
+                      " leave --why (a refusal and a revocation have one)")  # fmt: skip
     call.outbox.prepare_verdict(verdict, reason)
     return item(verdict.text(), kept.request.text() if kept else None, reason, notes)
+
+
+def vain(call: Call, kind: str, why: str) -> str:
+    """The warning of a verdict that would not count, for whoever gives it in any case."""
+    text = telling.warning(kind, why)
+    if text and not call.said.anyway:
+        raise BadWord(f"{text.rstrip('.')}. Write --anyway to say it all the same")
+    return text
 
 
 def told(items: list[Item]) -> None:
@@ -78,23 +101,31 @@ def signed_lines() -> list[Signed]:
 def prepare(call: Call) -> int:
     """Writes messages for their author to sign, with what they have to see of each."""
     call.said = call.said.said
+    if call.said.command == "withdraw":
+        call.said.command, numbers = "revoke", call.said.names
+        call.said.names = [(call.person, no) for no in numbers]
     if call.said.command in VERDICTS:
         names = call.said.names
         told([prepare_verdict(call, call.said.command, *it) for it in names])
     else:
-        wish, reason = again_of(call) if call.said.command == "again" else asked_of(call)
+        ways = {"again": again_of, "saved": saved_of, "ask": asked_of}
+        wish, reason = ways[call.said.command](call)
         told([prepare_request(call, wish, reason)])
     return DONE
 
 
 def send_signed(call: Call) -> int:
     """Keeps messages that their author signed, posts them, and says what became of each."""
-    status = DONE
+    status, data = DONE, list[dict[str, object]]()
     for kept in [call.outbox.keep_signed(call.person, it) for it in signed_lines()]:
         if isinstance(kept.message, Request):
             call.say_strong(f"Kept as {call.person} {kept.request.no}.")
             status = max(status, told_request(call, post_one(call.outbox, call.desk, kept)))
         else:
             call.say(f"Kept: {kept.verdict.kind} {kept.verdict.of} {kept.verdict.no}.")
-            status = max(status, told_verdict(call, post_one(call.outbox, call.desk, kept)))
+            found, fate = told_verdict(call, post_one(call.outbox, call.desk, kept))
+            status = max(status, found)
+            data.append(fate)
+    if data:
+        call.give_data(data[0] if len(data) == 1 else data)
     return status

@@ -301,6 +301,14 @@ class Knowledge:
             return "objected"
         return why or ("over" if of_stamp(wish.ends) < self.now else "")
 
+    def changes_nothing(self, standing: Standing, verdict: Verdict) -> bool:
+        """Whether an approval came when enough others had approved."""
+        ceiling = self.roster.ceilings.get(standing.request.wish.ceiling)
+        counted = [it.verdict for it in standing.said if not it.barred]
+        given = [it for it in counted if it.kind == "approve" and it.by != verdict.by]
+        before = [it for it in given if (it.at, it.by) < (verdict.at, verdict.by)]
+        return verdict.kind == "approve" and bool(completed(before, ceiling))
+
     def is_past(self, standing: Standing) -> bool:
         """Whether the moment has passed at which enough people had approved: a refusal of that very
         second still counts."""

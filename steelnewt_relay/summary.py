@@ -2,11 +2,17 @@
 for how long. Whoever says yes to it has read at least that."""
 
 from collections.abc import Sequence
+from datetime import datetime, timedelta
 
 from steelnewt_client.messages import Wish
-from steelnewt_relay.moments import spoken
+from steelnewt_client.moments import of_stamp
+from steelnewt_relay.letters import plain
+from steelnewt_relay.moments import as_asked, spoken
+from steelnewt_relay.reasons import Reason
+from steelnewt_relay.words import unescaped
 
-MOST_NAMED, LONGEST = 3, 48  # hosts, or commands; characters of a command
+# hosts, or commands; characters of a command, and of a reason in a subject
+MOST_NAMED, LONGEST, MOST_WHY = 3, 48, 80
 # (of those that reach alike these come first, under whatever path)
 SHELLS = frozenset("sh bash dash zsh ksh mksh fish csh tcsh rbash busybox su sudo env".split())
 
@@ -35,6 +41,7 @@ def by_reach(commands: Sequence[str]) -> list[str]:
 def reached(command: str) -> str:
     """A command, with what it allows beyond its words."""
     beyond = ("", " (any file in it)", " (any arguments)", "")[reach(command)]
+    command = unescaped(command)
     is_long = len(command) > LONGEST
     return (command[: LONGEST - 1] + "…" if is_long else command) + beyond
 
@@ -51,4 +58,27 @@ def summed_up(by: str, wish: Wish) -> str:
     widest = [reached(it) for it in listed if reach(it) == reach(listed[0])]
     said = f"{len(listed)} commands, widest " if len(listed) > 1 else ""
     who = f"{by} as {wish.runas} on {few(wish.hosts)}"
-    return f"{who}: {said}{few(widest)}, for {spoken(wish.length())}"
+    return f"{who}: {said}{few(widest)}, for {spoken(as_asked(wish.length()))}"
+
+
+def headline(by: str, wish: Wish, reason: Reason) -> str:
+    """Who wants to be whom, where and how long, and why, as a subject has it: one line."""
+    length = spoken(as_asked(wish.length()))
+    why = plain(reason.why)
+    why = f": {why[: MOST_WHY - 1]}…" if len(why) > MOST_WHY else f": {why}" if why else ""
+    ticket = f" ({plain(reason.ticket)})" if reason.ticket else ""
+    return f"{by}: {wish.runas} on {few(wish.hosts)}, {length}{why}{ticket}"
+
+
+def left_of_window(wish: Wish, now: datetime) -> str:
+    """How much is left of a window that began before enough people had approved; empty where it is
+    whole, or over."""
+    whole = as_asked(wish.length())
+    left = of_stamp(wish.ends) - max(now, of_stamp(wish.begins))
+    if left < timedelta(0) or whole - left < timedelta(minutes=1):
+        return ""
+    return f"{minutes(left)} of the {minutes(whole)} minutes are left"
+
+
+def minutes(length: timedelta) -> int:
+    return int(length.total_seconds()) // 60

@@ -7,13 +7,14 @@ from steelnewt_client.codes import in_words
 from steelnewt_client.messages import BadWord, Verdict, Wish
 from steelnewt_client.moments import of_stamp, stamp
 from steelnewt_client.told import Grant
-from steelnewt_relay.letters import wrapped
-from steelnewt_relay.moments import shown, spoken
+from steelnewt_relay.letters import plain, wrapped
+from steelnewt_relay.moments import as_asked, shown, spoken
 from steelnewt_relay.outbox import UNASKED, Kept
 from steelnewt_relay.reasons import Demand, Reason
 from steelnewt_relay.roster import Ceiling, Roster
 from steelnewt_relay.standing import Said, Standing, State
 from steelnewt_relay.summary import by_reach, few
+from steelnewt_relay.words import unescaped
 
 DONE = {"approve": "approved", "refuse": "refused", "revoke": "revoked"}
 BARS = {
@@ -33,6 +34,8 @@ BARS_NOW = {
     "objected": "the desk grants nothing of it any more",
     "over": "its window is over",
 }
+# Within which time each host fetches its file (desk-fetch@.timer).
+FETCHED = "within 5 minutes"
 NOUNS = {"approve": "approval", "refuse": "refusal", "revoke": "revocation"}
 FINDINGS = {
     "LIVE": "grants in force, and whether each is needed",
@@ -69,7 +72,7 @@ def rows(lines: Lines) -> Iterator[str]:
 
 def command_lines(commands: Sequence[str]) -> Lines:
     """What may be run, the widest first."""
-    return [("may run", it) for it in by_reach(commands)]
+    return [("may run", unescaped(it)) for it in by_reach(commands)]
 
 
 def brief_lines(kept: Kept, zone: tzinfo) -> Lines:
@@ -94,7 +97,7 @@ def few_commands(commands: Sequence[str], name: str) -> Lines:
         fits += 1
     found = command_lines(listed[:fits])
     if not fits:
-        found = [("may run", f"{listed[0][: MOST_ROWS * ROOM - 1]}…")]
+        found = [("may run", f"{unescaped(listed[0])[: MOST_ROWS * ROOM - 1]}…")]
         return [*found, ("may run", f"the whole, and {len(listed) - 1} more: show {name}")]
     left = len(listed) - fits
     return [*found, ("may run", f"and {left} more: show {name}")] if left else found
@@ -110,7 +113,7 @@ def wish_lines(wish: Wish, zone: tzinfo) -> Lines:
         *command_lines(wish.commands),
         ("from", shown(first, zone)),
         ("until", shown(last, zone)),
-        ("how long", spoken(last - first)),
+        ("how long", spoken(as_asked(last - first))),
     ]
 
 
@@ -149,6 +152,12 @@ def approvals(count: int) -> str:
     return "1 approval" if count == 1 else f"approvals of {count} people"
 
 
+def said_lines(said: Said, zone: tzinfo) -> list[str]:
+    """A verdict, and below it the reason that its author wrote."""
+    why = [("why", plain(said.kept.reason.why))] if said.kept.reason.why else []
+    return [f"  {said_line(said, zone)}", *rows(why)]
+
+
 def said_line(said: Said, zone: tzinfo) -> str:
     """A verdict on one line: its author, its moment, and why it does not count, if it does not."""
     verdict = said.verdict
@@ -168,7 +177,8 @@ def uncounted(barred: str) -> str:
 def warning(kind: str, why: str) -> str:
     """What whoever is about to give a verdict has to know, where it would not count."""
     said = BARS_NOW.get(why, why)
-    return f"Your {NOUNS[kind]} will not count: {said}." if why else ""
+    will = "would change nothing" if why == "complete" else "will not count"
+    return f"Your {NOUNS[kind]} {will}: {said}." if why else ""
 
 
 def fate(standing: Standing, zone: tzinfo, roster: Roster, now: datetime) -> str:
@@ -204,22 +214,37 @@ def waits_for(standing: Standing, roster: Roster, now: datetime) -> str:
     needed = f"It needs {approvals(ceiling.needs)}" if ceiling else "It waits for approvals"
     left = [it for it in roster.approvers(asker, wish.ceiling, now) if it not in given]
     so_far = f"approved so far by {', '.join(given)}" if given else "nobody approved it yet"
-    may = f"{', '.join(left)} may approve it" if left else "by the roster nobody may now"
-    return f"{needed}; {so_far}; {may}."
+    may = f"{', '.join(left)} may approve it" if left else "nobody may now"
+    few = bool(ceiling and len(given) + len(left) < ceiling.needs)
+    return f"{needed}; {so_far}; {may}." + (" So it cannot be granted now." if few else "")
 
 
-def verdict_fate(kind: str, state: str, answer: str, barred: str = "") -> str:
-    """What became of a verdict when it was posted, and that it does not count, where it does
-    not."""
+def verdict_fate(
+    kind: str, state: str, answer: str, barred: str = "", is_idle: bool = False
+) -> str:
+    """What became of a verdict when it was posted, and that it does not count or changes nothing,
+    where that is so."""
     but = f" But {uncounted(barred)}." if barred else ""
+    if is_idle:
+        but = " But it changes nothing: enough people had approved it before."
     if state == "acked":
-        return f"The desk acknowledged that you {DONE[kind]} it.{but}"
+        return f"The desk has your {NOUNS[kind]}.{but}"
     if state == "refused" and answer == UNASKED:
         return f"It was not posted: {answer}."
     if state == "refused":
         return f"The desk refused that. {in_words(answer)}"
     kept = f"It is kept here and not yet at the desk: {answer}. It is posted again by itself."
     return kept + but
+
+
+def on_hosts(kind: str, standing: Standing) -> str:
+    """What a verdict means on the hosts, which know what the desk says by their next fetch; empty
+    where it changes nothing there."""
+    if kind == "approve" and standing.state is State.IN_FORCE:
+        return f"Each host has it with its next fetch, {FETCHED}."
+    if kind != "approve" and standing.is_cut:
+        return f"Each host takes it away with its next fetch, {FETCHED}: until then sudo allows it."
+    return ""
 
 
 def approvable(request: Kept) -> None:
@@ -232,13 +257,15 @@ def approvable(request: Kept) -> None:
         )
 
 
-def unseen(kind: str, of: str, no: int) -> str:
-    """What to say of a verdict on a request that this relay did not bring. Nobody approves what
-    they cannot see: an approval may come before its request, which could then ask for anything."""
-    text = f"this relay brought no request {of} {no}, so it cannot show what it asks for"
+def unseen(kind: str, of: str, no: int, open_here: Sequence[int] = ()) -> str:
+    """What to say of a verdict on a request that nobody asked here. Nobody approves what they
+    cannot see: an approval may come before its request, which could then ask for anything."""
+    text = f"there is no {of} {no} here"
+    if open_here:
+        text += f": {of}'s open requests are {', '.join(map(str, open_here))}"
     if kind == "approve":
-        raise BadWord(f"{text}: approve it through the relay that brought it")
-    return f"{text[0].upper()}{text[1:]}."
+        raise BadWord(text)
+    return f"{text[0].upper()}{text[1:]}, so it cannot be shown."
 
 
 def as_data(standing: Standing) -> dict[str, object]:
@@ -285,7 +312,8 @@ def verdict_data(said: Said) -> dict[str, object]:
     verdict: Verdict = said.verdict
     data: dict[str, object] = {"by": verdict.by, "kind": verdict.kind, "at": verdict.at}
     counts = said.kept.state != "refused" and not said.barred
-    return data | {"state": said.kept.state, "counts": counts, "barred": said.barred or None}
+    data |= {"state": said.kept.state, "counts": counts, "barred": said.barred or None}
+    return data | {"why": said.kept.reason.why or None}
 
 
 def grant_data(grant: Grant, kept: Kept | None) -> dict[str, object]:

@@ -29,6 +29,7 @@ class Picture:
     bars: list[Bar]
     ticks: list[tuple[float, str]]
     now: float
+    zone: str
 
 
 def timeline(
@@ -55,7 +56,12 @@ def timeline(
         is_now = grant.begins <= now <= grant.ends
         bars.append(Bar(TOP + number * ROW, x, max(end - x, 3.0), clipped(label), is_now))
     ticks = [(place(at), in_short(at, zone, whole)) for at in marks(first, whole)]
-    return Picture(WIDTH, TOP + len(rows) * ROW + 26, LEFT, bars, ticks, place(now))
+    high = TOP + len(rows) * ROW + 26
+    return Picture(WIDTH, high, LEFT, bars, ticks, place(now), zone_of(now, zone))
+
+
+def zone_of(at: datetime, zone: tzinfo) -> str:
+    return at.astimezone(zone).tzname() or str(zone)
 
 
 def clipped(label: str) -> str:

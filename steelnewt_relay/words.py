@@ -1,47 +1,59 @@
 """The words that a person types: `ask db-care --on db1 --as root --for 2h /usr/bin/id`."""
 
 import argparse
+import difflib
 import json
 import re
 import shlex
-from collections.abc import Iterable
 from datetime import datetime, tzinfo
 from typing import NoReturn
 
-from steelnewt_client.messages import VERDICTS, BadWord, Wish, checked, command_of, number_of
+from steelnewt_client.messages import VERDICTS, BadWord, checked, command_of, number_of
 from steelnewt_client.moments import stamp
 from steelnewt_client.signed import MOST_LISTED
 from steelnewt_relay.moments import length_of, moment_of
+from steelnewt_relay.typed import BadWords as BadWords
+from steelnewt_relay.typed import cut, gathered
+from steelnewt_relay.typed import split as split
 
-DAY = re.compile(r"today|tomorrow|in|[0-9]{4}-[0-9]{2}-[0-9]{2}")
-SECOND = re.compile(r"[0-9]{1,2}:[0-9]{2}(:[0-9]{2})?Z?|[0-9]+[dhms][0-9dhms]*")
-TIMES = ("--from", "--until", "--at")
 ONCE = "[!-~]{1,100}"
+NO_COMMAND = "name a command by its whole path, such as /usr/bin/id, at the end"
 USAGE = """\
-  ask       at a terminal (ssh -t): asks for one after the other
+Without words, at a terminal (ssh -t): what waits, and what you can do.
+  ask       at a terminal: asks for one after the other
   ask CEILING --on HOST[,HOST..] --as USER --for 2h COMMAND [ARGUMENT..] [--and COMMAND ..]
       --until 17:00 in place of --for; --from 'tomorrow 09:00' to begin later
-      --why TEXT and --ticket ID: for whoever approves
+      --why TEXT and --ticket ID: for whoever approves; -- before the COMMAND where it has a path
       --once KEY: the same key again is the same request, for scripts; other words are refused
-  again [NUMBER]   the same as your last request, or as that one, from now on (--for, --until,
-      --from, --why, --ticket: in place of what it had)
-  approve WHO NUMBER    refuse WHO NUMBER    revoke WHO NUMBER
+      --anyway: also what cannot be granted; --no-wait: do not stay until it is decided
+  ask COMMAND --on HOST --for 2h    under the ceiling that covers it and needs least
+  save NAME [NUMBER|none]    ask NAME    a request under a name of yours, and the same again
+  again [NUMBER]    extend [NUMBER]   the same as your last request, or as that one: from now on, or
+      from its end on (--for, --until, --from, --why, --ticket: in place of what it had)
+  withdraw NUMBER ..   a request of yours ends
+  wait [WHO] NUMBER    until it is decided
+  approve WHO NUMBER ..    refuse WHO NUMBER ..    revoke WHO NUMBER ..
+      5-7 is 5 6 7; --why TEXT is shown to whoever asked; approve alone: the one that waits
+  let WHO NUMBER    tells whoever asked that you would approve the whole length from now on
   ceilings  what you may ask for, for how long, and who may approve it now
   show WHO NUMBER    one request
-  mine      your requests, and what became of each (--all: older ones too)
-  waiting   what waits for an approval that you may give
+  mine      your requests, the newest last (-l: all of each; --all: older ones too)
+  waiting   what waits for an approval that you may give; what ends first is on top
   live      what is in force now (--at TIME: at another time)
-  history   what came through this relay, whoever asked (--who NAME, --on HOST, --all)
+  history   what anybody asked here (--who NAME, --on HOST, --all, -l)
   review    the desk's findings, for auditors
+  set zone Europe/Berlin    away [FROM] UNTIL    your zone; the days on which nobody calls you
 
 With each: --json for scripts, --yes to send without being asked, --zone Europe/Berlin for times.
-They stand before a COMMAND: all that is behind it is its arguments.
 A time is 'now', '17:00', 'tomorrow 09:00', '2026-01-05 09:00', '+2h', or UTC as 20260105090000Z.
-A command is a whole path; '""' after it means without arguments. Your key says who you are."""
-
-
-class BadWords(ValueError):
-    """The words are no command."""
+A HOST may be 'all', or a pattern as db*. A command is a whole path; '""' after it means without
+arguments. Your key says who you are."""
+# Words that people try, and what they mean here.
+MEANT = {
+    "cancel": "withdraw", "delete": "withdraw", "stop": "withdraw", "request": "ask",
+    "renew": "extend", "prolong": "extend", "deny": "refuse", "reject": "refuse", "list": "mine",
+    "status": "mine", "pending": "waiting", "end": "revoke", "log": "history",
+}  # fmt: skip
 
 
 class Parser(argparse.ArgumentParser):
@@ -62,149 +74,187 @@ def parser() -> Parser:
     common.add_argument("--zone")
     main = Parser(prog="desk")
     commands = main.add_subparsers(dest="command", required=True, metavar="COMMAND")
-    ask = commands.add_parser("ask", parents=[common])
-    ask.add_argument("ceiling")
-    ask.add_argument("--on", required=True, action="append", metavar="HOST")
-    ask.add_argument("--as", required=True, dest="runas", metavar="USER")
-    add_window(ask, True)
-    ask.add_argument("--once", metavar="KEY")
-    ask.add_argument("--again", action="store_true")
-    again = commands.add_parser("again", parents=[common])
-    again.add_argument("no", metavar="NUMBER", nargs="?")
-    add_window(again, False)
+    add_asking(commands, common)
     for kind in VERDICTS:
         verdict = commands.add_parser(kind, parents=[common])
-        verdict.add_argument("of", metavar="WHO")
-        verdict.add_argument("no", metavar="NUMBER")
-        verdict.add_argument("--again", action="store_true")
-    commands.add_parser("mine", parents=[common]).add_argument("--all", action="store_true")
-    for word in ("waiting", "ceilings", "lead"):
-        commands.add_parser(word, parents=[common])
-    one = commands.add_parser("show", parents=[common])
-    one.add_argument("of", metavar="WHO")
-    one.add_argument("no", metavar="NUMBER")
-    history = commands.add_parser("history", parents=[common])
-    history.add_argument("--all", action="store_true")
-    history.add_argument("--who", metavar="NAME")
-    history.add_argument("--on", metavar="HOST")
+        verdict.add_argument("names", metavar="WHO NUMBER", nargs="*")
+        verdict.add_argument("--why", metavar="TEXT")
+        for option in ("--again", "--anyway"):
+            verdict.add_argument(option, action="store_true")
+    for word in ("mine", "waiting", "history"):
+        listing = commands.add_parser(word, parents=[common])
+        listing.add_argument("-l", "--long", action="store_true")
+        if word != "waiting":
+            listing.add_argument("--all", action="store_true")
+        if word == "history":
+            listing.add_argument("--who", metavar="NAME")
+            listing.add_argument("--on", metavar="HOST")
+    for word in ("show", "wait", "let"):
+        commands.add_parser(word, parents=[common]).add_argument("names", nargs="+", metavar="WHO")
     commands.add_parser("live", parents=[common]).add_argument("--at", default="now")
-    commands.add_parser("review", parents=[common])
-    for word in ("send", "help"):
+    for word in ("save", "set", "away"):
+        commands.add_parser(word, parents=[common]).add_argument("words", nargs="*")
+    for word in ("ceilings", "lead", "review", "send", "help", "overview"):
         commands.add_parser(word, parents=[common])
     return main
 
 
+def add_asking(commands: "argparse._SubParsersAction[Parser]", common: Parser) -> None:
+    """`ask`, by all its words or by a name of one's own, and what asks the same again."""
+    ask = commands.add_parser("ask", parents=[common])
+    ask.add_argument("ceiling", nargs="?")
+    ask.add_argument("--on", required=True, action="append", metavar="HOST")
+    ask.add_argument("--as", dest="runas", metavar="USER")
+    add_window(ask, True)
+    ask.add_argument("--once", metavar="KEY")
+    ask.add_argument("--again", action="store_true")
+    saved = commands.add_parser("saved", parents=[common])
+    saved.add_argument("name")
+    saved.add_argument("--on", action="append", metavar="HOST")
+    for it in (saved, commands.add_parser("again", parents=[common])):
+        add_window(it, False)
+    again = commands.choices["again"]
+    again.add_argument("no", metavar="NUMBER", nargs="?")
+    withdraw = commands.add_parser("withdraw", parents=[common])
+    withdraw.add_argument("names", metavar="NUMBER", nargs="*")
+    withdraw.add_argument("--why", metavar="TEXT")
+    for option in ("--again", "--anyway"):
+        withdraw.add_argument(option, action="store_true")
+
+
 def add_window(asking: argparse.ArgumentParser, is_needed: bool) -> None:
-    """From when, for how long or until when; and why."""
+    """From when, for how long or until when; why; and what asks for it in any case."""
     asking.add_argument("--from", default="now", dest="begins", metavar="TIME")
     ends = asking.add_mutually_exclusive_group(required=is_needed)
     ends.add_argument("--for", dest="length", metavar="2h")
     ends.add_argument("--until", dest="ends", metavar="TIME")
     asking.add_argument("--why", metavar="TEXT")
     asking.add_argument("--ticket", metavar="ID")
+    asking.add_argument("--anyway", action="store_true")
+    asking.add_argument("--no-wait", action="store_true")
 
 
-def split(line: str) -> list[str]:
-    """The words of a line, quoted as a shell would have them. No shell reads it."""
-    try:
-        return shlex.split(line)
-    except ValueError as fault:
-        raise BadWords(f"the quotes do not match: {fault}") from None
+WORDS = (
+    "ask", "again", "extend", "withdraw", *VERDICTS, "let", "wait", "save", "ceilings", "show",
+    "mine", "waiting", "live", "history", "review", "set", "away", "complete", "prepare", "send",
+    "help", "overview",
+)  # fmt: skip
 
 
-def joined_times(words: Iterable[str]) -> list[str]:
-    """The words with each day and its hour in one: ssh drops the quotes of 'tomorrow 09:00'."""
-    joined: list[str] = []
-    for word in words:
-        is_after_day = joined[-2:-1] and joined[-2] in TIMES and DAY.fullmatch(joined[-1])
-        if is_after_day and SECOND.fullmatch(word):
-            joined[-1] += f" {word}"
-        else:
-            joined.append(word)
-    return joined
-
-
-def joined_texts(words: list[str]) -> list[str]:
-    """The words with a reason's in one: ssh drops its quotes. It goes on until the next option or
-    path; only its first word may be one. (ALL in it is a word: nobody asks for that by mistake.)"""
-    joined: list[str] = []
-    rest = iter(words)
-    for word in rest:
-        is_text = bool(joined) and joined[-1].startswith("--why=")
-        if is_file(word) and not (is_text and word == "ALL"):
-            return [*joined, word, *rest]
-        if word in ("--why", "--ticket") and (first := next(rest, None)) is not None:
-            word = f"{word}={first}"
-        elif is_text and not word.startswith("--"):
-            word = f"{joined.pop()} {word}"
-        joined.append(word)
-    return joined
-
-
-def is_file(word: str) -> bool:
-    """Whether a request's commands begin here."""
-    return word.startswith("/") or word == "ALL"
-
-
-def cut(words: list[str]) -> tuple[list[str], list[list[str]]]:
-    """The words of a request, and the commands that it asks for, from the first path on."""
-    starts = [at for at, word in enumerate(words) if is_file(word)]
-    if not starts:
-        return words, []
-    commands: list[list[str]] = [[]]
-    for word in words[starts[0] :]:
-        if word == "--and":
-            commands.append([])
-        else:
-            commands[-1].append(word)
-    return words[: starts[0]], commands
+def unknown(word: str) -> BadWords:
+    """What to say of a first word that is no command."""
+    near = MEANT.get(word) or next(iter(difflib.get_close_matches(word, WORDS, 1)), "")
+    return BadWords(f"{word!r} is no word here" + (f": did you mean {near}?" if near else ""))
 
 
 def parse(line: str) -> argparse.Namespace:
     """What a line of words says. `commands` has a request's commands, as a policy writes them."""
-    words = split(line)
-    if words[:1] == ["prepare"]:
-        return prepared(words[1:])
-    commands: list[list[str]] = []
-    if words[:1] in (["ask"], ["again"]):
-        words = joined_texts(words)
-    if words == ["ask"] or (words[:2] == ["ask", "--zone"] and len(words) == 3):
-        words = ["lead", *words[1:]]
-    elif words[:1] == ["ask"]:
-        words, commands = cut(words)
-        if not commands or not all(commands):
-            raise BadWords("name a command by its whole path, such as /usr/bin/id, at the end")
-    said = parser().parse_args(joined_times(words))
-    if said.command == "ask":
-        said.commands = [command_of(each) for each in commands]
-        if said.once is not None and not re.fullmatch(ONCE, said.once):
-            raise BadWords("a --once KEY has 1 to 100 letters, digits and marks, and no blank")
-    if said.command in (*VERDICTS, "show"):
-        said.of, said.no = checked("person", said.of), number_of(said.no)
-    if said.command == "again" and said.no is not None:
+    first, *rest = split(line) or ["help"]
+    if first in ("--help", "-h") or rest[:1] in (["--help"], ["-h"]):
+        first, rest = "help", []
+    if first not in WORDS:
+        raise unknown(first)
+    if first == "prepare":
+        return prepared(rest)
+    if first == "complete":
+        return argparse.Namespace(command=first, words=rest, json=False, yes=False, zone=None)
+    if first == "ask":
+        return asked(rest)
+    plain, options = gathered(rest)
+    if first == "extend":
+        first, options = "again", ["--from=end", *options]
+    said = parser().parse_args([first, *plain, *options])
+    if first in VERDICTS:
+        said.names = names_of(said.names)
+    elif first == "withdraw":
+        said.names = [number for it in said.names for number in numbers_of(it)]
+    elif first in ("show", "let"):
+        found = names_of(said.names) if len(said.names) == 2 else []
+        said.of, said.no = found[0] if found else (None, None)
+    if first == "again" and said.no is not None:
         said.no = number_of(said.no)
-    if said.command == "history":
+    if first == "history":
         said.who, said.on = checked_if("person", said.who), checked_if("host", said.on)
     return said
 
 
+def asked(words: list[str]) -> argparse.Namespace:
+    """What the words of `ask` say: a request whole, one of a name, or nothing yet."""
+    options, words, doubt = cut(words)
+    plain, options = gathered(options)
+    if not words and not plain and all(it.startswith("--zone=") for it in options):
+        return parser().parse_args(["lead", *options])
+    is_name = len(plain) == 1 and not any(it.startswith("--as=") for it in options)
+    if not words and is_name:
+        return parser().parse_args(["saved", *plain, *options])
+    if not words:
+        raise BadWords(NO_COMMAND)
+    said = parser().parse_args(["ask", *plain, *options])
+    said.doubt, said.commands = doubt, [] if doubt else commands_of(words)
+    if said.once is not None and not re.fullmatch(ONCE, said.once):
+        raise BadWords("a --once KEY has 1 to 100 letters, digits and marks, and no blank")
+    return said
+
+
+def commands_of(words: list[str]) -> list[str]:
+    """Commands as a policy writes them, of words with `--and` between two."""
+    commands: list[list[str]] = [[]]
+    for word in words:
+        if word == "--and":
+            commands.append([])
+        else:
+            commands[-1].append(word)
+    if not all(commands):
+        raise BadWords(NO_COMMAND)
+    return [command_of(each) for each in commands]
+
+
+def numbers_of(word: str) -> list[int]:
+    """The numbers that `5`, `5,7` or `5-7` names."""
+    found: list[int] = []
+    for part in word.split(","):
+        first, is_span, last = part.partition("-")
+        if is_span and first:
+            begins, ends = number_of(first), number_of(last)
+            if not begins < ends < begins + MOST_LISTED:
+                raise BadWord(f"{part!r} is no span: write 5-7, of at most {MOST_LISTED}")
+            found += range(begins, ends + 1)
+        else:
+            found.append(number_of(part))
+    return found
+
+
+def names_of(words: list[str]) -> list[tuple[str, int]]:
+    """Requests by their names: `ann 5 7 carol 2`, `ann 5-7`."""
+    found: list[tuple[str, int]] = []
+    who, is_named = "", False
+    for word in [*words, ""]:
+        if word[:1].isdigit() or (word.startswith("-") and who):
+            if not who:
+                raise BadWord(f"whose {word}? Write WHO NUMBER, as ann {word}")
+            found, is_named = [*found, *((who, no) for no in numbers_of(word))], False
+        elif is_named:
+            raise BadWord(f"which request of {who}? Write WHO NUMBER")
+        elif word:
+            who, is_named = checked("person", word), True
+    if len(set(found)) != len(found):
+        raise BadWord("one of them is there twice")
+    if len(found) > MOST_LISTED:
+        raise BadWord(f"these are more than {MOST_LISTED}")
+    return found
+
+
 def prepared(words: list[str]) -> argparse.Namespace:
-    """What is prepared for its author to sign: a request, or verdicts, of which `names` has whose
-    requests they are about, and their numbers."""
-    kind, *names = words or [""]
-    if kind in VERDICTS:
-        if len(names) % 2 or not 2 <= len(names) <= 2 * MOST_LISTED:
-            raise BadWords(f"{kind} WHO NUMBER, and up to {MOST_LISTED} of them")
-        pairs = [(checked("person", of), number_of(no)) for of, no in zip(names[::2], names[1::2])]
-        if len(set(pairs)) != len(pairs):
-            raise BadWords("one of them is there twice")
-        said = argparse.Namespace(command=kind, names=pairs, zone=None)
-    elif kind in ("ask", "again") and words != ["ask"]:
-        said = parse(shlex.join(words))
-        if said.json or said.yes or getattr(said, "once", None) or getattr(said, "again", False):
-            raise BadWords("what is signed is asked once for each signature: leave --once, --again")
-    else:
+    """What is prepared for its author to sign: a request, or verdicts."""
+    kind = words[0] if words else ""
+    if kind not in (*VERDICTS, "ask", "again", "extend", "withdraw") or words == ["ask"]:
         raise BadWords("prepare a request or verdicts")
+    said = parse(shlex.join(words))
+    is_verdict = kind in VERDICTS or kind == "withdraw"
+    if is_verdict and not said.names:
+        raise BadWords(f"{kind} WHO NUMBER, and up to {MOST_LISTED} of them")
+    if said.json or said.yes or getattr(said, "once", None) or getattr(said, "again", False):
+        raise BadWords("what is signed is asked once for each signature: leave --once, --again")
     return argparse.Namespace(command="prepare", json=True, yes=True, zone=said.zone, said=said)
 
 
@@ -244,10 +294,3 @@ def words_of(said: argparse.Namespace, zone: tzinfo) -> str:
     reason = [[said.why, said.ticket]] if said.why or said.ticket else []
     commands = sorted(set(said.commands))
     return json.dumps([said.ceiling, hosts, said.runas, commands, window, *reason])
-
-
-def wish_of(said: argparse.Namespace, zone: tzinfo, at: datetime) -> Wish:
-    """What a person's words ask for."""
-    window = window_of(said.begins, said.length, said.ends, zone, at)
-    hosts = [host for part in said.on for host in part.split(",")]
-    return Wish.of(said.ceiling, hosts, said.runas, said.commands, window)

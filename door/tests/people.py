@@ -1,6 +1,8 @@
 """People at their own machines, with mydesk: `ssh` is a stand-in that starts the relay as sshd
 would, for whoever calls. (test_sshd.py does the same with a real sshd.)"""
 
+import os
+import pty
 import shlex
 import subprocess
 from pathlib import Path
@@ -50,6 +52,19 @@ class Person:
         )  # fmt: skip
         assert ran.returncode == status, ran
         return ran.stdout + ran.stderr
+
+    def typed(self, *words: str) -> str:
+        """Runs mydesk at a terminal: what is shown."""
+        here, there = pty.openpty()
+        environment = {"HOME": str(self.home), "PATH": f"{self.home}/bin:/usr/bin:/bin"}
+        call = subprocess.Popen(
+            [str(MYDESK), *words], stdin=there, stdout=there, stderr=there, env=environment
+        )
+        os.close(there)
+        call.wait(timeout=180)
+        shown = os.read(here, 65536).decode("utf-8")
+        os.close(here)
+        return shown.replace("\r", "")
 
 
 def behind_door(doored: Doored, required: bool = True) -> None:

@@ -315,6 +315,7 @@ def test_a_security_key_has_to_be_touched(doored: Doored, curve: bool) -> None:
 def robbed(fresh: Doored) -> Doored:
     """A site whose relay is somebody else's: ann has asked, and its outbox has her request."""
     behind_door(fresh)
+    fresh.site.hear()
     fresh.stop_door()
     ask = ("ask", "db-care", "--on", "db1", "--as", "root", "--for", "15m", "/usr/bin/id")
     assert "It is kept here" in Person(fresh, "ann").run(*ask, status=3)
@@ -474,7 +475,7 @@ def rewritten(signed: Signed) -> list[Signed]:
     its numbers, with the other one of its two, and with other bits behind its base64."""
     raw = base64.b64decode(signed.signature.removeprefix("ssh:"))
     parts = parts_of(raw)
-    algorithm, itself, _ = parts.tail()
+    algorithm, itself, _ = parts.tail
     first, second = (int.from_bytes(it, "big") for it in strings(itself))
     pairs = [(b"\0" * count + number(first), number(second)) for count in range(1, 9)]
     pairs.append((number(first), number(P256 - second)))

@@ -113,6 +113,25 @@ def test_what_is_no_request(untaken: Doored) -> None:
         assert untaken.raw(given) == exchanged(desk, given), given
 
 
+@pytest.mark.parametrize("size", [1, 7, 100, 100_000])
+def test_a_post_in_pieces(doored: Doored, size: int) -> None:
+    """However it comes it is one message; what comes behind it is none of it."""
+    first, second = (
+        doored.sign("bob", doored.verdict(kind="revoke", no=size % 90 + it)) for it in (0, 1)
+    )
+    whole = posted(first.line().encode())
+    with socket.socket(socket.AF_UNIX) as peer:
+        peer.settimeout(60)
+        peer.connect(str(doored.folder / "door.sock"))
+        for at in range(0, len(whole), size):
+            peer.sendall(whole[at : at + size])
+        assert peer.recv(65_536).endswith(b"\r\n\r\nack\n")
+        assert not peer.recv(1)
+    behind = posted(second.line().encode()) + whole
+    assert doored.raw(behind).endswith(b"\r\n\r\nack\n")
+    assert doored.held() == [first.message, second.message]
+
+
 def test_the_longest_line(untaken: Doored) -> None:
     """16,384 bytes of a message, and as long a signature as there may be."""
     text = "x" * 16_384

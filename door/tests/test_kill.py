@@ -7,6 +7,7 @@ import contextlib
 import os
 import random
 import re
+import signal
 import subprocess
 import threading
 import time
@@ -15,7 +16,7 @@ from pathlib import Path
 
 import pytest
 
-from door.tests.doors import IS_ROOT, SITE, Doored
+from door.tests.doors import IS_ROOT, SITE, Doored, wait_until
 from relays.tests.site import PATIENCE
 from steelnewt_client.moments import now, stamp
 from steelnewt_client.signed import Signed
@@ -67,6 +68,38 @@ def test_what_the_desk_holds_is_in_the_journal(fresh: Doored) -> None:
     nothing_is_lost(fresh, said)
     for it in everything:
         assert fresh.post(it) == "ack"
+    everything_is_there(fresh, everything)
+
+
+def below(process: int) -> list[int]:
+    found = Path(f"/proc/{process}/task/{process}/children").read_text()
+    return [int(it) for it in found.split()]
+
+
+def is_there(process: int) -> bool:
+    with contextlib.suppress(OSError):
+        return ") Z " not in Path(f"/proc/{process}/stat").read_text()
+    return False
+
+
+def test_one_process_of_the_door_is_killed(fresh: Doored) -> None:
+    """Whichever it is, none of them goes on, and what was acknowledged is there."""
+    everything = [fresh.sign("bob", fresh.verdict(kind="revoke", no=no)) for no in range(3)]
+    said = {everything[0].message: fresh.post(everything[0])}
+    assert fresh.door and fresh.door.stdout
+    others = below(fresh.door.pid)
+    os.kill(others[0], signal.SIGKILL)
+    assert fresh.door.wait(timeout=PATIENCE) == 1
+    fresh.door.stdout.close()
+    assert not any(is_there(it) for it in others)
+    fresh.start_door()
+    said[everything[1].message] = fresh.post(everything[1])
+    others = below(fresh.door.pid)
+    killed(fresh)
+    wait_until(lambda: not any(is_there(it) for it in others))
+    said[everything[2].message] = fresh.post(everything[2])
+    assert list(said.values()) == ["ack"] * 3
+    nothing_is_lost(fresh, said)
     everything_is_there(fresh, everything)
 
 

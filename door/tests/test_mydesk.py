@@ -2,13 +2,15 @@
 that lies."""
 
 import json
+import os
 import shlex
 import subprocess
+import sys
 from pathlib import Path
 
 import pytest
 
-from door.tests.doors import Doored, keygen
+from door.tests.doors import MYDESK, TOP, Doored, keygen
 from door.tests.people import Person, behind_door, script
 from steelnewt_client.signed import reason_digest
 
@@ -44,13 +46,13 @@ def test_a_grants_life(signing: Doored) -> None:
     said = ann.run(*ASK[:-1], "--why", "disk", ASK[-1])
     assert "ann as root on db1: 1 command, /usr/bin/id first, 15 minutes" in said
     name = " ".join(named(signing))
-    assert f"Kept as {name}." in said and f"To approve it they write: approve {name}" in said
+    assert f"Kept as {name}." in said and f"To approve it they write: mydesk approve {name}" in said
     said = bob.run("approve", *named(signing))
     assert "why       | disk" in said and "may run   /usr/bin/id" in said
-    assert "The desk acknowledged that you approved it." in said
+    assert "The desk has your approval." in said
     assert signing.in_force()
     said = bob.run("revoke", *named(signing))
-    assert "The desk acknowledged that you revoked it." in said
+    assert "The desk has your revocation." in said
     rows = signing.came()
     assert [it["how"] for it in rows] == ["signed"] * 3
     assert rows[0]["why"] == rows[1]["why"] == reason_digest("disk", "")
@@ -67,6 +69,71 @@ def test_several_with_one_signature(signing: Doored) -> None:
     assert len(signing.in_force()) == 3
     assert len({it["signature"] for it in signing.came() if '"approve"' in it["message"]}) == 1
     assert "there twice" in bob.run("revoke", *named(signing), *named(signing), status=2)
+
+
+def test_several_by_a_span_and_a_reason_that_is_signed(signing: Doored) -> None:
+    """A refusal's own reason is signed as a request's is; an approval is over the request's."""
+    ann, bob = Person(signing, "ann"), Person(signing, "bob")
+    for _ in range(3):
+        ann.run(*ASK)
+    first, last = named(signing, 1)[1], named(signing, 3)[1]
+    said = bob.run("refuse", "ann", f"{first}-{last}", "--why", "not now, see OPS-9")
+    assert said.count("| not now, see OPS-9") == 3 and "Sign these 3 as bob" in said
+    rows = [it for it in signing.came() if '"refuse"' in it["message"]]
+    assert {it["why"] for it in rows} == {reason_digest("not now, see OPS-9", "")}
+    found = signing.site.data("ann", "mine")
+    assert isinstance(found, list)
+    assert {it["verdicts"][0]["why"] for it in found} == {"not now, see OPS-9"}
+    ann.run(*ASK)
+    whose, waits = named(signing, 4)
+    assert "leave --why" in bob.run("approve", whose, waits, "--why", "yes", status=2)
+    lying(signing, bob, 'told["why"] = "all is well"')
+    said = bob.run("refuse", whose, waits, "--why", "not now", status=2)
+    assert "another reason than you typed" in said
+
+
+def test_the_words_of_the_night(signing: Doored) -> None:
+    """What the relay chooses is shown; what is typed is what is signed."""
+    ann = Person(signing, "ann")
+    said = ann.run("ask", "/usr/bin/id", "--on", "db*", "--for", "9m", "--why", "disk of /var full")
+    assert "on        db1" in said and "on        db2" in said and "under     db-care" in said
+    said = ann.run("ask", "db-care", "--on", "db1", "--for", "8m", "--why", "disk /var", "--",
+                   "/usr/bin/id", "--why", "x")  # fmt: skip
+    assert "may run   /usr/bin/id --why x" in said and "| disk /var" in said
+    assert "an option of yours" in ann.run("ask", "db-care", "--on", "db1", "--for", "8m",
+                                           "/usr/bin/id", "--why", "x", status=2)  # fmt: skip
+    assert "db9 is outside db-care" in ann.run(*[*ASK[:3], "db9", *ASK[4:]], status=2)
+    ann.run("save", "pg", named(signing, 1)[1])
+    assert "Kept as ann" in ann.run("ask", "pg")
+    assert "The desk has your revocation." in ann.run("withdraw", named(signing, 1)[1])
+
+
+def test_at_a_terminal(signing: Doored) -> None:
+    """ssh has a terminal where the person has one, and data are never mixed with words."""
+    ann = Person(signing, "ann")
+    (ann.home / ".config" / "mydesk").write_text("desk = desk\n")
+    (ann.home / "bin" / "ssh").write_text('#!/bin/sh\necho "$TERM" "$@"\n')
+    for words, way in (((), "-t"), (("mine",), "-t"), (("mine", "--json"), "-T")):
+        assert ann.typed(*words).startswith(f"dumb {way} -- desk"), words
+    assert ann.run("mine").startswith("dumb -T -- desk mine")
+
+
+def test_completions_ask_the_relay(signing: Doored) -> None:
+    ann = Person(signing, "ann")
+    assert ann.run("complete", "ask", "db-care", "--on", "").split() == ["all", "db1", "db2"]
+    # in a real bash, by what the package installs
+    pages = signing.folder / "pages"
+    pages.mkdir()
+    make = [sys.executable, str(TOP.parent / "scripts" / "make_pages.py"), str(pages)]
+    subprocess.run(make, check=True, env=os.environ | {"PREFIX": "/usr"})
+    (ann.home / "bin" / "mydesk").symlink_to(MYDESK)
+    typed = "COMP_WORDS=(mydesk ask db-care --on d) COMP_CWORD=4; _mydesk; echo ${COMPREPLY[@]}"
+    path = f"{ann.home}/bin:/usr/bin:/bin"
+    ran = subprocess.run(
+        ["bash", "-c", f"source {pages}/mydesk.bash; {typed}"],
+        env={"HOME": str(ann.home), "PATH": path}, capture_output=True, text=True, check=True,
+    )  # fmt: skip
+    assert ran.stdout.split() == ["db1", "db2"], ran
 
 
 def test_where_the_site_signs_nothing(signing: Doored) -> None:
@@ -258,7 +325,7 @@ def test_a_relay_that_writes_to_the_terminal(signing: Doored) -> None:
     assert said.isprintable() or all(it.isprintable() for it in said.splitlines())
     assert "\\x1b[8m" in said
     lying(signing, bob, f'print("{odd}"); sys.exit(1)')
-    said = bob.run("approve", *named(signing), status=2)
+    said = bob.run("revoke", *named(signing), status=2)
     assert all(it.isprintable() for it in said.splitlines()) and "\\x1b[8m" in said
 
 
@@ -330,7 +397,7 @@ def test_a_sealed_key(signing: Doored) -> None:
     asks = script(carol.home / "asks", f"echo {words}")
     more = {"SSH_ASKPASS": asks, "SSH_ASKPASS_REQUIRE": "force"}
     said = carol.run("revoke", *named(signing), status=0, **more)
-    assert "The desk acknowledged that you revoked it." in said
+    assert "The desk has your revocation." in said
     more["SSH_ASKPASS"] = script(carol.home / "asks-else", "echo no")
     assert "did not sign it" in carol.run("revoke", *named(signing, 2), status=2, **more)
     sealed.unlink()

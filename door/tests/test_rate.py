@@ -28,9 +28,12 @@ TICKS = os.sysconf("SC_CLK_TCK")
 
 
 def used_by(process: int) -> float:
-    """The seconds of a processor that a process and those that it waited for have used."""
+    """The seconds of a processor that a process, those below it and those that they waited for have
+    used."""
     fields = Path(f"/proc/{process}/stat").read_text().rpartition(")")[2].split()
-    return sum(int(it) for it in fields[11:15]) / TICKS
+    own = sum(int(it) for it in fields[11:15]) / TICKS
+    children = Path(f"/proc/{process}/task/{process}/children").read_text().split()
+    return own + sum(used_by(int(it)) for it in children)
 
 
 def of_a_signature(person: Person, signed: list[Signed]) -> float:

@@ -61,7 +61,7 @@ def test_a_grants_life(far: Far) -> None:
     assert "Kept as ann 1." in said
     assert "why       | it's $(id)" in far.sign("bob", "approve", "ann", "1")
     assert far.doored.in_force()
-    assert "you revoked it" in far.sign("ann", "revoke", "ann", "1")
+    assert "it ends before what was asked for" in far.sign("ann", "revoke", "ann", "1")
     assert not far.doored.in_force()
 
 

@@ -5,8 +5,10 @@
     check_desk.py --store /var/lib/desk/desk.db           (beside the desk: its size and its disk)
     check_desk.py --certificate /etc/desk/front/server.pem --crl /etc/desk/front/crl.pem
                   --front-pid /run/nginx.pid              (beside the front)
-    check_desk.py --outbox /var/lib/desk-relay/outbox.db  (beside a relay: its oldest message)
+    check_desk.py --outbox /var/lib/desk-relay/outbox.db  (beside a relay: its oldest message, its disk)
+    check_desk.py --program /usr/bin/desk                 (whether this program is proved)
     check_desk.py --file /etc/sudoers.d/desk              (on a host: how old its file is)
+    check_desk.py --backup /srv/desk-backup               (the last backup, and the last drill of one)
 
 On the desk's machine `--desk unix:/run/desk/desk.sock` asks the desk itself, as root or as a member
 of the group desk-front, and without a certificate.
@@ -15,8 +17,8 @@ Each may be given with the others. One line on the output, and the status 0 (all
 (somebody has to look), 2 (the desk does not answer, what is looked at cannot be read, or a limit is
 passed) or 3 (the words are wrong: nothing was looked at). With --textfile the figures are written
 there as well, in one step. It asks the desk only what an auditor's certificate may: /v1/parked,
-/v1/reviews/NOW and /v1/count; and with `--roster` /v1/requests/after/NOW, to remark below that line
-each grant that begins after the last day on which its asker may ask. Remarked are also commands in
+/v1/reviews/NOW, /v1/count and /v1/requests/after/YESTERDAY, for requests that dispute each other; and
+with `--roster` /v1/requests/after/NOW, to remark below that line each grant that begins after the last day on which its asker may ask. Remarked are also commands in
 force that are ALL or a directory, as the roster's ceilings allow them.
 
 With `--unit desk`, on the desk's machine, it compares the messages with the memory that the unit
@@ -55,23 +57,28 @@ FIGURES = {
     "desk_messages": "messages that the desk holds",
     "desk_memory_percent": "how much of its memory the messages may need",
     "desk_roster_percent": "how much is used of that limit of rosters of which most is used",
+    "desk_disputed": "names under which several requests were asked, one of them within a day",
     "desk_parked": "verdicts whose request has not come",
     "desk_parked_old": "verdicts that have waited for more than a day",
     "desk_grants_after_last_day": "grants that begin after their asker's last day",
     "desk_store_bytes": "the size of the store and its log",
     "desk_store_free_percent": "how much of the store's disk is free",
+    "desk_proved": "whether the program's promises are proved",
+    "desk_outbox_free_percent": "how much of the outbox's disk is free",
     "desk_certificate_seconds": "the time until the first of the certificates ends",
     "desk_crl_seconds": "the time until the first of the lists of revoked certificates ends",
     "desk_outbox_waiting": "messages that a relay keeps and the desk has not answered",
     "desk_outbox_oldest_seconds": "the age of the oldest of them",
+    "desk_backup_age_seconds": "the age of the last whole backup",
+    "desk_drill_age_seconds": "the time since a backup was last tried",
     "desk_host_file_age_seconds": "the age of the host's file since its last fetch",
 }
 # What is looked at; each may be left out, but not all.
-LOOKED_AT = ("desk", "store", "certificate", "crl", "outbox", "file")
+LOOKED_AT = ("desk", "store", "certificate", "crl", "outbox", "file", "program", "backup")
 # Each limit: the option, its two values, what it limits, and whether less is worse.
 LIMITS = (
     ("days", 30, 7, "days that a certificate or a list of revoked ones still holds", True),
-    ("free", 15, 5, "percent of the store's disk that are free", True),
+    ("free", 15, 5, "percent of the store's or the outbox's disk that are free", True),
     ("waits", 300, 3600, "seconds for which a relay's message waits", False),
 )
 # What a message may need of the desk's memory, in bytes.
@@ -91,6 +98,9 @@ PERSON_MOST = 256
 NEAR = 90
 # What one clock may be ahead of another, in seconds.
 AHEAD = 300
+# Where a desk and a relay say that they gave up their reserve of disk, for revocations alone.
+GIVEN_UP, RESERVE = "/run/desk-reserve/free", "reserve"
+ALONE = "refusals and revocations alone are kept until there is room"
 
 
 class Words(argparse.ArgumentParser):
@@ -139,6 +149,10 @@ def words() -> argparse.Namespace:
         for level, value in (("warning", warning), ("critical", critical)):
             said = f"{what}: the limit of a {level} ({value})"
             parser.add_argument(f"--{name}-{level}", type=int, default=value, help=said)
+    parser.add_argument("--backup", help="the folder of desk-backup's backups")
+    said = "seconds after which the last backup, and the last drill, is too old (26 hours)"
+    parser.add_argument("--backup-age", type=int, default=93_600, help=said)
+    parser.add_argument("--program", help="the program desk: warn where it is not proved")
     parser.add_argument("--file", help="a host's sudoers file")
     parser.add_argument(
         "--file-age", type=int, default=3600, help="seconds after which the file is too old (3600)"
@@ -149,6 +163,10 @@ def words() -> argparse.Namespace:
     )
     given = parser.parse_args()
     check_words(parser, given)
+    # (as serve.conf has an address, and no store)
+    if given.desk and re.fullmatch(r"[^/]+:[0-9]+", given.desk):
+        given.desk = f"http://{given.desk}"
+    given.store = None if given.store == "-" else given.store
     return given
 
 
@@ -249,6 +267,30 @@ def of_desk(given: argparse.Namespace, now: float) -> tuple[dict[str, int], list
         "desk_parked_old": sum(json.loads(line)["at"] < stamp(now - DAY) for line in parked),
     }
     return figures, report["BROAD"]
+
+
+def disputes(given: argparse.Namespace, now: float) -> list[str]:
+    """The names under which several requests were asked, one of them within a day: a number was
+    given twice, as after a restore."""
+    names = json.loads(ask(given, f"/v1/requests/after/{stamp(now - DAY)}"))["names"]
+    return [
+        f"{it['by']} {it['no']}"
+        for it in names
+        if len(it["requests"]) > 1 and max(one["at"] for one in it["requests"]) > stamp(now - DAY)
+    ]
+
+
+def moment_of(text: str) -> float:
+    return datetime.datetime.strptime(text, "%Y%m%d%H%M%S%z").timestamp()
+
+
+def last_backup(folder: str) -> str:
+    """The moment of the last whole backup in a folder."""
+    names = [it for it in os.listdir(folder) if re.fullmatch("[0-9]{14}Z", it)]
+    whole = [it for it in names if os.path.exists(os.path.join(folder, it, "manifest.json"))]
+    if not whole:
+        raise ValueError("it has no whole backup")
+    return max(whole)
 
 
 def memory_of(unit: str) -> int:
@@ -419,6 +461,10 @@ class Found:
         try:
             figures, broad = of_desk(self.given, self.now)
             self.figures |= figures
+            disputed = disputes(self.given, self.now)
+            self.figures["desk_disputed"] = len(disputed)
+            if disputed:
+                self.warning.append(f"asked twice under one number: {', '.join(disputed)}")
             if not self.given.broad_warning:
                 self.remarks += [f"broad: {' '.join(line.split())}" for line in broad]
         except (OSError, ValueError, KeyError, TypeError) as fault:
@@ -460,6 +506,8 @@ class Found:
         if size(path) > self.given.store_most:
             self.warning.append(f"the store has {size(path)} bytes")
         self.limit("free", left, f"{left} % of the store's disk are free")
+        if os.path.exists(GIVEN_UP):
+            self.critical.append(f"the disk of {path} is full: {ALONE}")
 
     def certificate(self, path: str) -> None:
         self.holds_until("desk_certificate_seconds", path, certificate_end(path, self.now))
@@ -479,12 +527,47 @@ class Found:
             if os.path.getmtime(file) > began:
                 self.critical.append(f"{file} is newer than what the front has read: restart it")
 
+    def program(self, path: str) -> None:
+        words = [path, "--version"]
+        said = subprocess.run(words, capture_output=True, text=True, check=False).stdout
+        if not said.startswith("desk "):
+            raise ValueError("it says no version of a desk")
+        self.figures["desk_proved"] = int("NOT PROVED" not in said)
+        if "NOT PROVED" in said:
+            self.warning.append(f"{path} is NOT PROVED: it is for trials")
+
     def outbox(self, path: str) -> None:
+        os.stat(path)
+        left = free(path)
+        self.limit("free", left, f"{left} % of the outbox's disk are free")
+        if not os.path.exists(os.path.join(os.path.dirname(path), RESERVE)):
+            self.critical.append(f"the disk of {path} is full: {ALONE}")
         count, age = waiting(path, self.now)
         self.figures |= {"desk_outbox_waiting": count, "desk_outbox_oldest_seconds": max(0, age)}
+        self.figures["desk_outbox_free_percent"] = left
         if age < -AHEAD:
             raise ValueError("it has a message from the future: look at the clock")
         self.limit("waits", age, f"{count} messages wait in {path}, one for {age} seconds")
+
+    def backup(self, path: str) -> None:
+        age = int(self.now - moment_of(last_backup(path)))
+        self.figures["desk_backup_age_seconds"] = max(0, age)
+        if age < -AHEAD:
+            raise ValueError("it has a backup from the future: look at the clock")
+        if age > self.given.backup_age:
+            self.critical.append(f"the last backup in {path} is {age // 3600} hours old")
+        drill = os.path.join(path, "drill.json")
+        if not os.path.exists(drill):
+            self.warning.append(f"no backup in {path} was ever tried: desk-restore --drill")
+            return
+        with open(drill, encoding="utf-8") as file:
+            told = json.load(file)
+        tried = int(self.now - moment_of(told["tried"]))
+        self.figures["desk_drill_age_seconds"] = max(0, tried)
+        if told["wrong"]:
+            self.critical.append(f"the backup {told['at']} would not serve: {told['wrong'][0]}")
+        elif tried > self.given.backup_age:
+            self.warning.append(f"a backup in {path} was last tried {tried // 3600} hours ago")
 
     def file(self, path: str) -> None:
         age = int(self.now - os.path.getmtime(path))
@@ -504,10 +587,12 @@ def gather(given: argparse.Namespace, now: float) -> Found:
     for part in ("unit", "roster"):
         if getattr(given, part) and found.figures["desk_up"]:
             found.look(getattr(given, part), getattr(found, part))
-    for part in ("store", "certificate", "crl", "front_pid", "outbox", "file"):
+    for part in ("store", "certificate", "crl", "front_pid", "outbox", "file", "program"):
         named = getattr(given, part) or []
         for path in [named] if isinstance(named, str) else named:
             found.look(path, getattr(found, part))
+    if given.backup:
+        found.look(given.backup, found.backup)
     return found
 
 

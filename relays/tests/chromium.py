@@ -10,8 +10,11 @@ from selenium.webdriver.common.by import By
 from selenium.webdriver.support.wait import WebDriverWait
 
 
-def browser(folder: Path, *words: str, with_scripts: bool = False) -> webdriver.Chrome:
-    """A browser with a profile of its own, started with these words too. Nobody needs a script."""
+def browser(
+    folder: Path, *words: str, with_scripts: bool = False, letters: int = 16
+) -> webdriver.Chrome:
+    """A browser with a profile of its own, started with these words too, and with letters so many
+    pixels high. Nobody needs a script."""
     options = webdriver.ChromeOptions()
     options.binary_location = "/usr/bin/chromium"
     for word in (
@@ -26,9 +29,10 @@ def browser(folder: Path, *words: str, with_scripts: bool = False) -> webdriver.
         *words,
     ):
         options.add_argument(word)
+    chosen = {"webkit.webprefs.default_font_size": letters}
     if not with_scripts:
-        blocked = {"profile.managed_default_content_settings.javascript": 2}
-        options.add_experimental_option("prefs", blocked)
+        chosen["profile.managed_default_content_settings.javascript"] = 2
+    options.add_experimental_option("prefs", chosen)
     found = webdriver.Chrome(service=Service("/usr/bin/chromedriver"), options=options)
     found.set_page_load_timeout(180)
     return found

@@ -19,7 +19,8 @@ def site(tmp_path: Path) -> Iterator[Site]:
 
 @pytest.fixture
 def quiet_site(tmp_path: Path) -> Iterator[Site]:
-    """A site whose desk is down."""
+    """A site whose desk is down, and whose relay has heard from it before."""
     found = Site(tmp_path)
+    found.hear()
     yield found
     found.close()

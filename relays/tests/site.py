@@ -13,6 +13,7 @@ from pathlib import Path
 
 from steelnewt_client.desk import Desk
 from steelnewt_client.moments import now
+from steelnewt_relay.outbox import Outbox
 from tests.common.calling import call_words
 
 ROOT = Path(__file__).resolve().parents[2]
@@ -74,7 +75,9 @@ class PageConnection(http.client.HTTPConnection):
 
 
 class Site:
-    """A desk over a file, and a relay beside it."""
+    """A desk over a file, and a relay beside it, whose first number is the one behind `block`."""
+
+    block = 0
 
     def __init__(self, folder: Path) -> None:
         self.folder = folder
@@ -103,6 +106,12 @@ class Site:
         assert self.desk.stdout
         first = self.desk.stdout.readline()
         assert first == f"listening {self.url}\n", first
+
+    def hear(self) -> None:
+        """The relay knows that no number is used yet, as after a first request."""
+        outbox = Outbox(str(self.folder / "outbox.db"))
+        outbox.number_past(0)
+        outbox.close()
 
     def ask(self, route: str) -> str:
         """What the desk answers to a question."""
@@ -145,10 +154,28 @@ class Site:
             reply = peer.getresponse()
             return reply.status, reply.read().decode("utf-8")
 
-    def close(self) -> None:
+    def begin_anew(self) -> None:
+        """Begins with an empty outbox and numbers that nobody used, while the desk goes on: to
+        start one costs more than what most tests do."""
+        self.end_jobs()
+        self.block += 100
+        for end in ("", "-wal", "-shm", ".notify"):
+            (self.folder / f"outbox.db{end}").unlink(missing_ok=True)
+        numbers = f"numbers = [{self.block + 1}, {self.block + 99}]\n"
+        self.config.write_text(numbers + SETTINGS.format(folder=self.folder))
+
+    def no(self, number: int = 1) -> int:
+        """A request's number, where it is the so-manyth of its author's."""
+        return self.block + number
+
+    def end_jobs(self) -> None:
         for job in self.started:
             job.terminate()
             job.wait(timeout=PATIENCE)
+        self.started = []
+
+    def close(self) -> None:
+        self.end_jobs()
         self.stop_desk()
 
     def words(self, person: str) -> list[str]:

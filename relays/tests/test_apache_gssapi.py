@@ -83,7 +83,7 @@ def test_a_grants_life(fronted: Fronted) -> None:
     assert "ann " not in site.ask("/v1/hosts/db1/sudoers")
     status, shown = fronted.get("bob", "/verdict?kind=approve&of=ann&no=1")
     assert status == 200 and "Approve ann 1?" in shown
-    assert "you approved it" in fronted.confirm("bob", shown, "verdict")
+    assert "The desk has your approval." in fronted.confirm("bob", shown, "verdict")
     assert "\nann db1 = (root) NOTBEFORE=" in site.ask("/v1/hosts/db1/sudoers")
 
 
@@ -119,7 +119,7 @@ def test_no_person_of_the_realm(fronted: Fronted, principal: str) -> None:
 def test_a_person_whom_the_roster_does_not_have(fronted: Fronted) -> None:
     for path in ("/", "/history", "/verdict?kind=approve&of=ann&no=1"):
         status, text = fronted.get("mallory", path)
-        assert status == 403 and "The roster has nobody whose name is mallory" in text
+        assert status == 403 and "Nobody here is called mallory" in text
         assert "/usr/bin/id" not in text
 
 

@@ -120,7 +120,7 @@ def test_a_grants_life(place: Place) -> None:
     assert "You are <strong>bob</strong>" in home.text
     shown = bob.get(f"{place.url}verdict?kind=approve&of=ann&no=1", timeout=60).text
     told = sent(bob, "send", {"token": token(shown), "what": "verdict"})
-    assert "you approved it" in told
+    assert "The desk has your approval." in told
     assert "\nann db1 = (root) NOTBEFORE=" in place.site.ask("/v1/hosts/db1/sudoers")
 
 
@@ -161,7 +161,7 @@ def test_no_name_of_a_person(place: Place, person: str) -> None:
 
 def test_a_person_whom_the_roster_does_not_have(place: Place) -> None:
     browser, reply = place.signed_on("mallory")
-    assert reply.status_code == 403 and "The roster has nobody" in reply.text
+    assert reply.status_code == 403 and "Nobody here is called" in reply.text
     reply = browser.get(f"{place.url}verdict?kind=approve&of=ann&no=1", timeout=60)
     assert reply.status_code == 403 and "/usr/bin/id" not in reply.text
 

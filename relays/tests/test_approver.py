@@ -115,10 +115,10 @@ def test_the_line_above_the_question(wide: Site) -> None:
 def test_sixteen_short_commands(wide: Site) -> None:
     commands = " --and ".join(f"/usr/local/sbin/c{it:02}" for it in range(16))
     asks(wide, commands)
-    for line in ("approve ann 1", "waiting"):
+    for line in ("approve ann 1", "waiting -l"):
         told = said(wide, "bob", line)
         assert "and 9 more: show ann 1\n" in told, told
-        assert told.count("/usr/local/sbin/c") == (7 if line == "waiting" else 10), told
+        assert told.count("/usr/local/sbin/c") == (7 if line == "waiting -l" else 10), told
         assert len(screen(told)) <= LINES
     assert "more: show" not in said(wide, "bob", "show ann 1")
 

@@ -217,12 +217,13 @@ def test_who_tells_people_asks_once(asking: tuple[Site, Counter]) -> None:
     counter.asked()
 
     def finder() -> Finder:
-        return Finder(Knowledge(outbox, desk, config.read_roster(), now()), config.zone)
+        return Finder(Knowledge(outbox, desk, config.read_roster(), now()))
 
     for _ in range(2):
         assert look(notices, finder) == ""
         assert len(counter.asked()) == 1
     kinds = [it[0] for it in outbox.base.execute("SELECT kind FROM notices ORDER BY kind")]
+    # (an approval that is the last one needed is told as the grant)
     assert kinds == ["approved"] * 7 + ["asked"] * 20 + ["granted"] * 7 + ["refused"] * 7
 
 
@@ -295,7 +296,7 @@ def test_an_older_desk(asking: tuple[Site, Counter]) -> None:
 
     def finder() -> Finder:
         desk = config.open_desk()
-        return Finder(Knowledge(outbox, desk, config.read_roster(), now()), config.zone)
+        return Finder(Knowledge(outbox, desk, config.read_roster(), now()))
 
     assert "it is older than this relay" in look(notices, finder)
     counter.is_old = False

@@ -1,6 +1,5 @@
 """A real browser: ask as ann, approve as bob, see it in force, let sudo decide, revoke."""
 
-import os
 from collections.abc import Iterator
 from pathlib import Path
 
@@ -16,19 +15,6 @@ from relays.tests.site import ROOT, Site, wait_for_next_second
 from steelnewt_client.moments import now, of_stamp, stamp
 
 SHOTS = ROOT / "build" / "relays-screenshots"
-# The contrast of each text with what is behind it, by WCAG 2: 4.5, and 3 for large texts.
-CONTRAST = """
-const part = v => (v /= 255) <= .03928 ? v / 12.92 : ((v + .055) / 1.055) ** 2.4;
-const light = c => .2126 * part(c[0]) + .7152 * part(c[1]) + .0722 * part(c[2]);
-const rgb = text => text.match(/[0-9.]+/g).map(Number);
-const behind = e => { for (; e; e = e.parentElement) {
-  const c = rgb(getComputedStyle(e).backgroundColor); if (c.length == 3 || c[3] == 1) return c; }
-  return [255, 255, 255]; };
-return [...document.querySelectorAll('body *')].filter(e => !e.closest('svg') && e.offsetWidth > 1
-  && [...e.childNodes].some(n => n.nodeType == 3 && n.data.trim())).map(e => {
-  const a = light(rgb(getComputedStyle(e).color)), b = light(behind(e));
-  return [(Math.max(a, b) + .05) / (Math.min(a, b) + .05), e.tagName + e.textContent.trim()]; });
-"""
 
 
 @pytest.fixture(scope="module")
@@ -85,7 +71,7 @@ def test_a_grants_life_in_two_browsers(
     see(bob, "Approve ann 1?", "/usr/bin/id")
     shoot(bob, "4-approve-confirm")
     press(bob, "#yes")
-    see(bob, "ann 1: The desk acknowledged that you approved it.", "Nothing that came through")
+    see(bob, "ann 1: The desk has your approval.", "Nothing waits for your approval.")
     ann.get(front.url("ann"))
     see(ann, "It is in force from")
     assert ann.find_elements(By.CSS_SELECTOR, "svg rect.bar")
@@ -97,7 +83,7 @@ def test_a_grants_life_in_two_browsers(
     press(ann, "#mine-1 button.revoke")
     see(ann, "Revoke ann 1?")
     press(ann, "#yes")
-    see(ann, "ann 1: The desk acknowledged that you revoked it.")
+    see(ann, "ann 1: The desk has your revocation.")
     see(ann, "It was in force from", "Nothing is in force.")
     shoot(ann, "6-revoked")
     rows = [("ann", "db1", "root", stamp(now()), ["/usr/bin/id"])]
@@ -172,57 +158,3 @@ def test_a_form_of_another_site(
     assert not ann.find_elements(By.ID, "main")
     ann.switch_to.default_content()
     assert site.kept() == before
-
-
-def test_labels_and_headings(
-    fronted: tuple[Site, Front], browsers: dict[str, webdriver.Chrome]
-) -> None:
-    _, front = fronted
-    ann = browsers["ann"]
-    ann.get(front.url("ann"))
-    for field in ann.find_elements(By.CSS_SELECTOR, "input:not([type=hidden]), select, textarea"):
-        assert field.accessible_name, field.get_attribute("outerHTML")
-    for button in ann.find_elements(By.TAG_NAME, "button"):
-        assert button.accessible_name
-    assert len(ann.find_elements(By.TAG_NAME, "h1")) == 1
-    assert ann.find_element(By.TAG_NAME, "html").get_attribute("lang") == "en"
-    assert all(it.accessible_name for it in ann.find_elements(By.TAG_NAME, "svg"))
-
-
-def on_a_phone(driver: webdriver.Chrome, front: Front) -> None:
-    """Each page at 360 pixels: nothing stands beside the screen, and what is pressed is large."""
-    screen = {"width": 360, "height": 780, "deviceScaleFactor": 1, "mobile": True}
-    driver.execute_cdp_cmd("Emulation.setDeviceMetricsOverride", screen)
-    asked = "/verdict?kind=revoke&of=ann&no=1"
-    for name, url in (
-        ("home", front.url("bob")), ("revoke", front.url("bob") + asked),
-        ("mine", front.url("ann")), ("again", front.url("ann") + "/again?no=1"),
-        ("history", front.url("ann") + "/history"),
-    ):  # fmt: skip
-        driver.get(url)
-        size = "return [document.documentElement.scrollWidth, document.body.scrollHeight]"
-        wide, high = driver.execute_script(size)
-        assert wide <= 360, (name, wide)
-        whole = screen | {"height": min(high, 4000)}
-        driver.execute_cdp_cmd("Emulation.setDeviceMetricsOverride", whole)
-        shoot(driver, f"phone-{name}")
-        driver.execute_cdp_cmd("Emulation.setDeviceMetricsOverride", screen)
-        for button in driver.find_elements(By.TAG_NAME, "button"):
-            assert button.size["height"] >= 40, name
-
-
-def test_contrast(fronted: tuple[Site, Front], tmp_path: Path) -> None:
-    _, front = fronted
-    dave = browser(tmp_path, with_scripts=True)
-    try:
-        for person in ("bob", "dave"):
-            dave.get(front.url(person))
-            found = dave.execute_script(CONTRAST)
-            assert len(found) > 10 and not [it for it in found if it[0] < 4.5], found
-        shoot(dave, "7-findings")
-        on_a_phone(dave, front)
-        faults = [it for it in dave.get_log("browser") if "favicon" not in it["message"]]
-        assert not faults
-    finally:
-        dave.quit()
-    assert os.listdir(SHOTS)

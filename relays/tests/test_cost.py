@@ -16,8 +16,9 @@ from relays.tests.test_page import ask, get
 from steelnewt_client.moments import now, stamp
 from steelnewt_client.told import entry_of, read_entry, read_names
 from steelnewt_relay.config import read_config
-from steelnewt_relay.page import Visit, create_app
+from steelnewt_relay.page import create_app
 from steelnewt_relay.standing import Board
+from steelnewt_relay.visit import Visit
 
 FEW, MANY = 60, 360
 # Calls of functions for each request more that waits: with the board, and by somebody who shares it.
@@ -137,7 +138,7 @@ def test_kept_for_nobody_else_and_no_longer(site: Site) -> None:
     assert site.run("ann", "mine").returncode == 0
     begins = now() + timedelta(seconds=12 + 10 * int(time.monotonic() - began))
     try:
-        assert "ann 1: It needs 1 approval" in ask(front, begins=stamp(begins))
+        assert "ann 1</a>: It needs 1 approval" in ask(front, begins=stamp(begins))
         assert site.run("bob", "approve ann 1 --yes").returncode == 0
         early = late = 0
         while now() < begins + timedelta(seconds=2):

@@ -17,7 +17,7 @@ from steelnewt_client.moments import now, stamp
 from steelnewt_relay.outbox import UNASKED, Kept, Outbox
 from steelnewt_relay.posting import post_kept
 
-LINE = "ask {ceiling} --on db1 --as root --for 10m --yes --json --again {command}"
+LINE = "ask {ceiling} --on db1 --as root --for 10m --yes --anyway --json --again {command}"
 
 
 @pytest.fixture(scope="module")
@@ -65,8 +65,8 @@ def test_nobody_hides_a_request_without_a_right(
 ) -> None:
     site, front = fronted
     no = asked(site)
-    ran = site.run(person, f"{kind} ann {no} --yes")
-    assert ran.returncode == 0, ran
+    ran = site.run(person, f"{kind} ann {no} --yes --anyway")
+    assert ran.returncode == 1, ran
     assert waits_for_bob(site, front, no) == (True, True)
     assert state(site, no) == "waiting"
     ran = site.run("bob", f"approve ann {no} --yes")
@@ -83,6 +83,7 @@ def test_who_may_object_ends_it(fronted: tuple[Site, Front], person: str, kind: 
     assert waits_for_bob(site, front, no) == (False, False)
     assert state(site, no) == "objected"
     ran = site.run("bob", f"approve ann {no} --yes --again")
+    assert ran.returncode == 2, ran
     assert "Your approval will not count: the desk grants nothing of it any more." in ran.stdout
     assert state(site, no) == "objected"
 
@@ -93,6 +94,7 @@ def test_a_refusal_after_enough_approvals(fronted: tuple[Site, Front]) -> None:
     assert site.run("bob", f"approve ann {no} --yes").returncode == 0
     wait_for_next_second()  # (a refusal of the same second counts)
     ran = site.run("carol", f"refuse ann {no} --yes")
+    assert ran.returncode == 2, ran
     assert "Your refusal will not count: enough people have approved it: revoke it" in ran.stdout
     assert state(site, no) == "in-force"
 
@@ -111,16 +113,16 @@ def test_it_is_said_before_and_after(
 ) -> None:
     site, front = fronted
     no = asked(site)
-    ran = site.run(person, f"approve ann {no}", given="n\n")
-    before = ran.stdout.partition("[y/N]")[0]
-    assert "Your approval will not count: " in before and why in before, ran
+    ran = site.run(person, f"approve ann {no} --yes")
+    assert ran.returncode == 2 and "Your approval will not count: " in ran.stdout, ran
+    assert why in ran.stdout and "Nothing was sent." in ran.stdout
     page = get(f"{front.url(person)}/verdict?kind=approve&of=ann&no={no}").text
     assert "Your approval will not count: " in page and why in page
-    ran = site.run(person, f"approve ann {no} --yes")
-    assert "acknowledged that you approved it. But it does not count: " in ran.stdout, ran
+    ran = site.run(person, f"approve ann {no} --yes --anyway")
+    assert "The desk has your approval. But it does not count: " in ran.stdout, ran
     again = get(f"{front.url(person)}/verdict?kind=approve&of=ann&no={no}").text
     done = post(f"{front.url(person)}/send", {"token": token(again), "what": "verdict"}).text
-    assert "acknowledged that you approved it. But it does not count: " in done
+    assert "The desk has your approval. But it does not count: " in done
     # (also once somebody else's approval counts)
     assert site.run("bob", f"approve ann {no} --yes").returncode == 0
     [told] = [it for it in site.data("ann", "mine --all") if it["no"] == no]  # type: ignore
@@ -135,7 +137,7 @@ def test_who_may_approve_reads_no_warning(fronted: tuple[Site, Front]) -> None:
     ran = site.run("bob", f"approve ann {no} --yes")
     assert ran.returncode == 0 and "not count" not in ran.stdout, ran
     ran = site.run("carol", f"approve ann {no} --yes")
-    assert "will not count: enough people have approved it already" in ran.stdout, ran
+    assert "would change nothing: enough people have approved it already" in ran.stdout, ran
 
 
 def test_a_duty_that_has_days(quiet_site: Site) -> None:
@@ -147,7 +149,7 @@ def test_a_duty_that_has_days(quiet_site: Site) -> None:
     roster.write_text(text)
     quiet_site.start_desk()
     no = asked(quiet_site)
-    assert quiet_site.run("bob", f"refuse ann {no} --yes").returncode == 0
+    assert quiet_site.run("bob", f"refuse ann {no} --yes --anyway").returncode == 1
     assert state(quiet_site, no) == "waiting"
     ran = quiet_site.run("bob", f"approve ann {no} --yes")
     assert "Your approval will not count: you do not hold the duty" in ran.stdout, ran
@@ -206,7 +208,7 @@ def test_an_approval_goes_after_its_request(tmp_path: Path) -> None:
 def test_objections_are_told_with_their_worth(fronted: tuple[Site, Front]) -> None:
     site, front = fronted
     no = asked(site)
-    assert site.run("dave", f"refuse ann {no} --yes").returncode == 0
-    told = site.run("ann", "mine").stdout
+    assert site.run("dave", f"refuse ann {no} --yes --anyway").returncode == 1
+    told = site.run("ann", "mine -l").stdout
     assert re.search(r"dave refused it, .*; it does not count: the duty to approve", told), told
     assert "dave refused it" in get(front.url("ann")).text

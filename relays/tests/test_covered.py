@@ -7,6 +7,7 @@ from collections.abc import Iterator
 from pathlib import Path
 
 from relays.tests.site import Site
+from steelnewt_client import codes
 from steelnewt_relay import page, person, program
 from steelnewt_relay.config import read_config
 from steelnewt_relay.ssh import ANSWERS
@@ -63,11 +64,14 @@ def commands(of: argparse.ArgumentParser) -> dict[str, set[str]]:
 
 
 def test_each_word_by_ssh_has_a_test() -> None:
-    # (`prepare` stands before the words of another)
-    assert {*commands(parser()), "prepare"} == set(ANSWERS)
-    # (who writes `ask` and no more is led)
+    # (`prepare` stands before the words of another, and `complete` before words that are unfinished)
+    assert {*commands(parser()), "prepare", "complete"} == set(ANSWERS)
+    # (who writes `ask` and no more is led; `ask` with a name of one's own is `saved`; and who writes
+    # nothing reads an overview, in test_alone_at_a_terminal)
     lines = [it.split() for it in texts() if it.split()[:1] and it.split()[0] in ANSWERS]
     lines += [["lead", *it[1:]] for it in lines if it in (["ask"], ["ask", "--zone"])]
+    lines += [["saved", *it[2:]] for it in lines if it[:1] == ["ask"] and it[1:2] == ["pg-again"]]
+    lines += [["overview"]]
     wanted = [(word, "") for word in ANSWERS]
     known = commands(parser()).items()
     wanted += [(word, name) for word, names in known for name in names - COMMON]
@@ -108,11 +112,17 @@ def test_each_word_of_the_programs_has_a_test() -> None:
 
 def test_each_thing_that_the_page_takes_has_a_test(quiet_site: Site) -> None:
     rules = page.create_app(read_config(str(quiet_site.config))).url_map.iter_rules()
-    source = Path(page.__file__).read_text(encoding="utf-8")
-    asked = r'(?:args|form|words|given)(?:\.get\(|\[)"([a-z]+)"|"([a-z]+)" in flask.request'
+    folder = Path(page.__file__).parent
+    modules = ("page", "asking", "deciding", "visit")
+    source = "".join((folder / f"{it}.py").read_text(encoding="utf-8") for it in modules)
+    asked = (
+        r'(?:args|form|words|given)(?:\.get(?:list)?\(|\[)"([a-z]+)"|"([a-z]+)" in flask.request'
+    )
     fields = {one or other for one, other in re.findall(asked, source)}
     fields |= set(re.findall(r'Cards\("([a-z]+)"', source)) - {"page"}
-    whole = list(texts())
+    # (a test's client gives a field by its name)
+    names = {it.arg or "" for tree in trees() for it in ast.walk(tree) if isinstance(it, ast.keyword)}
+    whole = [*texts(), *names]
     paths = sorted({it.rule.partition("<")[0] for it in rules})
     missing = [it for it in paths if not any(re.match(rf"\??{it}", text) for text in whole)]
     missing += [
@@ -121,3 +131,33 @@ def test_each_thing_that_the_page_takes_has_a_test(quiet_site: Site) -> None:
     ]  # fmt: skip
     print(f"{len(paths)} paths and {len(fields)} fields of the page, {len(missing)} without a test")
     assert len(paths) >= 7 and len(fields) > 15 and not missing, (missing, fields)
+
+
+# The modules that speak to whoever runs the relay, and words that are theirs alone.
+OPERATORS = ("caller.py", "config.py", "demo.py", "keys.py", "person.py", "program.py", "sent.py")
+THEIRS = re.compile(r"(?<!desk-)\b(relay|roster|outbox|acknowledged)s?\b")
+
+
+def sentences(path: Path) -> Iterator[str]:
+    """The texts of a module that are more than a name, without its docstrings."""
+    tree = ast.parse(path.read_text(encoding="utf-8"))
+    docstrings = {
+        id(it.body[0].value)
+        for it in ast.walk(tree)
+        if isinstance(it, ast.Module | ast.ClassDef | ast.FunctionDef)
+        and it.body and isinstance(it.body[0], ast.Expr)
+    }  # fmt: skip
+    for node in ast.walk(tree):
+        if isinstance(node, ast.Constant) and isinstance(node.value, str):
+            if id(node) not in docstrings and " " in node.value:
+                yield node.value
+
+
+def test_who_asks_reads_no_word_of_an_operator() -> None:
+    folder = Path(page.__file__).parent
+    found = [it for path in sorted(folder.glob("*.py")) if path.name not in OPERATORS
+             for it in sentences(path)]  # fmt: skip
+    found += [text for pair in codes.FOR_PEOPLE.values() for text in pair]
+    assert len(found) > 500 and not [it for it in found if THEIRS.search(it)]
+    refusals = [codes.in_words(it) for it in codes.SENTENCES]
+    assert len(refusals) > 10 and not [it for it in refusals if THEIRS.search(it)]

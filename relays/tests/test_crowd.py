@@ -118,7 +118,7 @@ def one(front: Front, person: str, seen: Seen, ended: threading.Event, seed: int
             shown, what = get("verdict", f"/verdict?kind=approve&of={of}&no={no}"), "verdict"
         done = post("send", "/send", {"token": token(shown), "what": what})
         seen.sent += 1
-        if "acknowledged" not in done and "waiting" not in done:
+        if "The desk has your" not in done and "waiting" not in done:
             seen.wrong.append(f"send: {done[:2000]}")
 
 

@@ -54,7 +54,10 @@ KNOWN = [
     "ask db-care --on db1 --as root --from '9999-12-31 23:59' --for 1h --yes /usr/bin/id",
 ]
 FIELDS = ["ceiling", "hosts", "runas", "commands", "begins", "length", "ends", "token", "what"]
-PATHS = ["/", "/ask", "/send", "/verdict", "/static/page.css", "/static/", "/nothing", "/%00", "//"]
+PATHS = [
+    "/", "/ask", "/send", "/verdict", "/let", "/usual", "/r/ann/1", "/r/x/y", "/static/page.css",
+    "/static/", "/nothing", "/%00", "//",
+]
 
 
 def text(chance: random.Random) -> str:

@@ -28,6 +28,7 @@ LINE = "ask db-care --on db1 --as root --for 1h --yes --again /usr/bin/id"
 def down(tmp_path_factory: pytest.TempPathFactory) -> Iterator[tuple[Site, float, str]]:
     """A site whose desk is down from now on, and what the relay said when it was asked."""
     site = Site(tmp_path_factory.mktemp("down"))
+    site.hear()
     site.start("post", "--every", "0.5")
     began = time.monotonic()
     ran = site.run("ann", LINE)
@@ -133,13 +134,13 @@ def test_the_desk_is_down_for_a_minute(down: tuple[Site, float, str]) -> None:
     site, began, said = down
     assert "Kept as ann 1." in said
     assert "It is kept here and not yet at the desk: the desk cannot be reached" in said
-    assert "It is kept here" in site.run("ann", "mine").stdout
+    assert "It is kept here" in site.run("ann", "mine -l").stdout
     assert "does not answer" in site.run("ann", "live").stderr
     time.sleep(max(0.0, began + DOWN_SECONDS - time.monotonic()))
     assert [state for _, state in site.kept()] == ["kept"]
     site.start_desk()
     site.wait_until_posted()
-    assert "nobody approved it yet" in site.run("ann", "mine").stdout
+    assert "nobody approved it yet" in site.run("ann", "mine -l").stdout
     site.wait_until_said("post", "ann asks, ann 1: ack")
     log = (Path(site.folder) / "post.log").read_text()
     assert log.count("cannot be reached") == 1

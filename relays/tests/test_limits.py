@@ -4,20 +4,23 @@ import json
 import os
 import subprocess
 import time
+from datetime import UTC
 from pathlib import Path
 
 import pytest
 
 from relays.tests.front import Front
-from relays.tests.site import DESK, Site
+from relays.tests.site import DESK, ROSTER, Site
 from relays.tests.test_outbox import AT, WISH, answering
 from relays.tests.test_page import confirmation, post, token
 from steelnewt_client.desk import Desk, Silent
 from steelnewt_client.messages import BadWord, Request, Wish, canonical, command_of
 from steelnewt_client.moments import now, of_stamp, stamp
+from steelnewt_relay.meant import wish_of
 from steelnewt_relay.outbox import Outbox
 from steelnewt_relay.posting import post_one
-from steelnewt_relay.words import parse, wish_of
+from steelnewt_relay.roster import Roster
+from steelnewt_relay.words import parse
 
 ASK = "ask db-care --on db1 --as root --for 1h --yes"
 WINDOW = ("20260105090000Z", "20260105100000Z")
@@ -99,7 +102,7 @@ def test_a_message_is_measured_before_it_is_kept(site: Site) -> None:
     """Many commands of many commas: each is lawful, and all of them are too long."""
     words = " ".join(["," * 64] * 7)
     commands = " --and ".join(f"/usr/bin/c{number:02} {words}" for number in range(16))
-    ran = site.run("ann", f"{ASK} {commands}")
+    ran = site.run("ann", f"{ASK} --anyway {commands}")
     assert ran.returncode == 2 and "the desk takes 16,384" in ran.stderr, ran
     assert site.kept() == []
     # (and no number was used up)
@@ -135,7 +138,8 @@ def test_the_same_key_with_other_words(site: Site) -> None:
         assert (ran.returncode == 0) is is_same, (line, ran)
         assert is_same or "this key named another request, ann 1" in ran.stderr, ran
     assert len(site.kept()) == 1
-    assert site.run("bob", AGAIN[2][0]).returncode == 2 and len(site.kept()) == 2
+    other = AGAIN[2][0].replace("--yes", "--yes --anyway")
+    assert site.run("bob", other).returncode == 2 and len(site.kept()) == 2
     for key in ("''", "'a b'", "é", "a" * 101):
         assert site.run("ann", f"{ASK} --once {key} /usr/bin/id").returncode == 2
 
@@ -193,12 +197,12 @@ def test_a_yes_on_the_page_is_of_its_own_moment(site: Site) -> None:
 def test_a_window_to_come_is_as_it_was_shown() -> None:
     at = now()
     said = parse("ask db-care --on db1 --as root --from +1h --for 1h /usr/bin/id")
-    wish = wish_of(said, at.tzinfo, at)  # type: ignore[arg-type]
+    wish = wish_of(said, Roster.read(str(ROSTER)), "ann", UTC, at)
     assert wish.as_of(at) == wish
 
 
 FRONTS = [
-    (403, "does not let this relay's certificate"),
+    (403, "does not let this certificate"),
     (413, "no message of that length"),
     (429, "no more messages through now"),
     (502, "the desk behind it is away"),

@@ -44,7 +44,7 @@ def settings(site: Site, *program: str, **other: object) -> None:
 
 def say(site: Site, person: str, line: str) -> None:
     status, told = answer(read_config(str(site.config)), person, line)
-    assert status in (0, 2, 3), told
+    assert status in (0, 2, 3) or "it does not count" in told, told
 
 
 def wait_for(check: object, seconds: float = 300.0) -> None:
@@ -94,9 +94,10 @@ def test_by_mail(site: Site, mails: Mails) -> None:
     wait_for(lambda: "told_from" in tables(site))
     count = 0
     for person, line, more in (
-        ("ann", ASK, 1), ("eve", "approve ann 2 --yes", 1), ("bob", "approve ann 2 --yes", 2),
+        ("ann", ASK, 1), ("eve", "approve ann 2 --yes --anyway", 1),
+        ("bob", "approve ann 2 --yes", 1),
         ("ann", ASK, 1), ("carol", "refuse ann 3 --yes", 1),
-        ("ann", ASK.replace("1h", "9h"), 1), ("ann", "revoke ann 2 --yes", 1),
+        ("ann", ASK.replace("1h", "9h --anyway"), 1), ("ann", "revoke ann 2 --yes", 1),
     ):  # fmt: skip
         say(site, person, line)
         count += more
@@ -106,10 +107,10 @@ def test_by_mail(site: Site, mails: Mails) -> None:
             ("asked", "ann asks.", "carol@desk.example,robert@corp.example"),
             ("uncounted", "eve approved ann 2, but it does not count: a duty that conflicts with"
              " approving was held then.", "ann@desk.example,eve@desk.example"),
-            ("approved", "bob approved ann 2.", "ann@desk.example"),
-            ("granted", "ann 2 is granted.", "ann@desk.example,robert@corp.example"),
+            ("granted", "bob approved ann 2: it is granted.",
+             "ann@desk.example,carol@desk.example"),
             ("asked", "ann asks.", "carol@desk.example,robert@corp.example"),
-            ("refused", "carol refused ann 3.", "ann@desk.example"),
+            ("refused", "carol refused ann 3.", "ann@desk.example,robert@corp.example"),
             ("revoked", "ann revoked ann 2.", "robert@corp.example"),
         ]
     )  # fmt: skip
@@ -117,20 +118,30 @@ def test_by_mail(site: Site, mails: Mails) -> None:
     log = site.folder / "notify.log"
     wait_for(lambda: log.read_text().count(": told") > len(wanted))
     time.sleep(1)
-    told = [(it["X-Desk-Event"], it["Subject"][7:], it["Rcpt"]) for it in mails.mails]
+    told = [
+        (it["X-Desk-Event"], text_of(it).partition("\n")[0], it["Rcpt"]) for it in mails.mails
+    ]
     assert sorted(it for it in told if it[0] != "void") == wanted
     void = [it[1] for it in told if it[0] == "void"]
     assert len(void) == 1 and void[0].startswith("The desk refused it. A7 WindowTooLong: ")
-    first = next(it for it in mails.mails if it["X-Desk-Event"] == "asked").get_content()
+    first = text_of(next(it for it in mails.mails if it["X-Desk-Event"] == "asked"))
     assert "why       | disk full" in first and "bob, carol may approve it" in first
-    assert "approve ann 2" in first and "https://desk/" in first
+    assert "\nTo approve it: ssh desk approve ann 2\nhttps://desk/r/ann/2\n" in first
+    named = {it["Subject"] for it in mails.mails if it["References"].startswith("<ann-2@")}
+    subject = "[desk] ann: root on db1, 1 hour: disk full"
+    assert named == {subject, f"Re: {subject}"}
     assert len({it["Message-ID"] for it in mails.mails}) == len(mails.mails)
     assert log.read_text().count(": told") == len(wanted) + 1
+
+
+def text_of(mail: EmailMessage) -> str:
+    return str(mail.get_content()).replace("\r\n", "\n")
 
 
 def test_by_an_smtp_server(mails: Mails) -> None:
     """Past sendmail, and with an exit that says so where the server is away."""
     event = {"id": "e" * 32, "event": "asked", "subject": "ann asks", "text": "ann asks."}
+    event |= {"thread": "ann-1", "link": ""}
     words = [MAIL, "--from", "desk@site.example", "--domain", "site.example", "--smtp"]
 
     def ran(port: int) -> subprocess.CompletedProcess[str]:
@@ -171,7 +182,7 @@ def test_what_time_brings(site: Site) -> None:
         return sorted(found)
 
     steps = [
-        (now(), [("approved", 1), ("asked", 1), ("asked", 2), ("granted", 1)]),
+        (now(), [("asked", 1), ("asked", 2), ("granted", 1)]),
         (ends - timedelta(minutes=16), []),
         (ends - timedelta(minutes=14), [("ends-soon", 1)]),
         (ends - timedelta(minutes=1), []),
@@ -181,11 +192,11 @@ def test_what_time_brings(site: Site) -> None:
     for at, wanted in steps:
         for again in (wanted, []):
             knowledge = Knowledge(outbox, desk, config.read_roster(), at)
-            assert look(notices, lambda: Finder(knowledge, config.zone)) == ""  # noqa: B023
+            assert look(notices, lambda: Finder(knowledge)) == ""  # noqa: B023
             assert seen() == again, at
     site.stop_desk()
     assert "cannot be reached" in look(
-        notices, lambda: Finder(Knowledge(outbox, desk, config.read_roster(), now()), config.zone)
+        notices, lambda: Finder(Knowledge(outbox, desk, config.read_roster(), now()))
     )
 
 
@@ -197,7 +208,7 @@ def test_nobody_outside_the_roster_is_told(site: Site) -> None:
     for line in ("revoke all-staff 7 --yes", "refuse ann 7 --yes", "revoke postmaster 1 --yes"):
         say(site, "bob", line)
     knowledge = Knowledge(outbox, config.open_desk(), config.read_roster(), now())
-    assert look(notices, lambda: Finder(knowledge, config.zone)) == ""
+    assert look(notices, lambda: Finder(knowledge)) == ""
     bodies = [json.loads(it[0]) for it in outbox.base.execute("SELECT body FROM notices")]
     assert sorted(it["who"] for it in bodies) == ["all-staff", "ann", "postmaster"]
     assert {it for body in bodies for it in body["to"]} == {"ann", "bob"}
@@ -330,7 +341,9 @@ def test_in_a_chat_room(tmp_path: Path, kind: str) -> None:
     curl = tmp_path / "curl"
     curl.write_text(f'#!/bin/sh\necho "$@" >> {log}\nexec /usr/bin/curl "$@"\n')
     curl.chmod(0o755)
-    event = {"id": "e" * 32, "event": "asked", "text": f"ann asks.\n  why  {HOSTILE}"}
+    link = "https://desk/r/ann/1"
+    event = {"id": "e" * 32, "event": "asked", "subject": f"ann: {HOSTILE}", "link": link}
+    event |= {"text": f"ann asks.\n  why  {HOSTILE}\n{link}"}
 
     def ran() -> int:
         environment = {"PATH": f"{tmp_path}:{os.environ['PATH']}"}
@@ -351,6 +364,8 @@ def test_in_a_chat_room(tmp_path: Path, kind: str) -> None:
     assert "$(id)" in text and "\\n &" in text and "e" * 32 in text and "ann asks.\n" in text
     assert "@all" not in text and "`id`" not in text
     assert ("<!channel>" in text) == (kind != "slack")
+    # (the link can be tapped: it is no part of a block of code)
+    assert text.rpartition("```")[2].endswith(f"\n{link}") and text.count(link) == 1
     assert "secret" not in log.read_text() and "token" not in log.read_text()
 
 
@@ -363,7 +378,8 @@ def test_a_chat_server_of_the_sites_authority(tmp_path: Path) -> None:
     context.load_cert_chain(tmp_path / "ca" / "server.pem", tmp_path / "ca" / "server.key")
     room.socket = context.wrap_socket(room.socket, server_side=True)
     file.write_text(f"https://127.0.0.1:{room.server_port}/hooks/secret\n")
-    event = json.dumps({"id": "e" * 32, "event": "asked", "text": "ann asks."})
+    event = json.dumps({"id": "e" * 32, "event": "asked", "text": "ann asks.", "link": "",
+                        "subject": "ann"})  # fmt: skip
     named = ["--ca", str(tmp_path / "ca" / "ca.pem")]
     cases: list[tuple[list[str], bool]] = [([], False), (named, True)]
     with contextlib.closing(room.socket):
@@ -374,7 +390,8 @@ def test_a_chat_server_of_the_sites_authority(tmp_path: Path) -> None:
         room.shutdown()
 
 
-BAD = ["", 'program = "mail"', 'program = ["mail"]', "program = [7]", 'program = ["/a"]\nx = 1',
+BAD = ['program = ["/a"]\nfirst = "On call"', 'program = ["/a"]\nminutes = 0',
+       "", 'program = "mail"', 'program = ["mail"]', "program = [7]", 'program = ["/a"]\nx = 1',
        'program = ["/a"]\nseconds = 0', 'program = ["/a"]\nlink = "a\\nb"']  # fmt: skip
 
 

@@ -6,14 +6,16 @@ import pty
 import random
 import re
 import subprocess
-from datetime import timedelta
+from collections.abc import Iterable
+from datetime import datetime, timedelta
+from pathlib import Path
 
 from relays.tests.site import BASE, DESK, ROSTER, SECRET, Site, wait_for_next_second
 from relays.tests.test_fuzz import answer
 from relays.tests.test_page import token
-from steelnewt_client.messages import Request, Wish
+from steelnewt_client.messages import Request, Verdict, Wish
 from steelnewt_client.moments import now, of_stamp, stamp
-from steelnewt_relay.admission import objections
+from steelnewt_relay.admission import lacking, objections
 from steelnewt_relay.config import read_config
 from steelnewt_relay.page import create_app
 from steelnewt_relay.roster import Roster
@@ -64,6 +66,68 @@ def test_what_is_said_before_a_yes_is_what_the_desk_says() -> None:
         assert (not said_here) == (said_there == "ack"), (text, said_here, said_there)
 
 
+def test_who_lacks_approvers_is_who_the_desk_grants_nothing(tmp_path: Path) -> None:
+    """Everybody approves each request, under twenty ceilings: the program itself grants or not."""
+    path, at = tmp_path / "roster", now()
+    path.write_text(roster_of(random.Random(8)))
+    roster = Roster.read(str(path))
+    asked = [
+        (by, Wish.of(label, ["db1"], "root", [f"/usr/bin/{label}"], window(at, 60)))
+        for label in roster.ceilings for by in ("ann", "carol")
+    ]  # fmt: skip
+    messages = [Request(by, no, stamp(at), wish).text() for no, (by, wish) in enumerate(asked)]
+    messages += [
+        Verdict(it, "approve", by, no, stamp(at)).text()
+        for no, (by, _) in enumerate(asked) for it in roster.people if it != by
+    ]  # fmt: skip
+    files = [str(path), str(BASE), str(tmp_path / "desk.db")]
+    assert "M" not in program("deliver", *files, "chat", given=messages)
+    printed = program("print", *files, "db1")
+    granted = [bool(re.search(rf"\n{by} db1 = .* {wish.commands[0]}\n", printed))
+               for by, wish in asked]  # fmt: skip
+    assert granted == [not lacking(roster, by, wish, at) for by, wish in asked], printed
+    assert 5 < granted.count(True) < 35, granted
+
+
+def roster_of(chance: random.Random) -> str:
+    """A roster with twenty ceilings, whose approvers are some of five people."""
+    duties = [f"approve-{it}" for it in range(5)]
+    people = {
+        it: ["operate", *chance.sample([*duties, "audit"], 3)]
+        for it in ("ann", "bob", "carol", "dave", "eve")
+    }
+    conflicts = [[it, "audit"] for it in duties[:2]]
+    text = 'relays = ["chat"]\nhosts = ["db1"]\n'
+    text += f'duties = {json.dumps([*duties, "audit", "operate"])}\n'
+    text += f"conflicts = {json.dumps(conflicts)}\n\n[people]\n"
+    text += "".join(f"{name} = {json.dumps(sorted(it))}\n" for name, it in people.items())
+    for number in range(20):
+        text += f"""
+[ceilings.c{number:02}]
+ask = "operate"
+approve = "{chance.choice(duties)}"
+needs = {chance.choice([1, 1, 2, 2, 3])}
+hosts = ["db1"]
+runas = ["root"]
+commands = ["/usr/bin/c{number:02}"]
+longest = 3600
+"""
+    return text
+
+
+def window(at: datetime, seconds: int) -> tuple[str, str]:
+    return stamp(at), stamp(at + timedelta(seconds=seconds))
+
+
+def program(*words: str, given: Iterable[str] = ()) -> str:
+    lines = "".join(f"{it}\n" for it in given)
+    ran = subprocess.run(
+        [DESK, *words], input=lines, capture_output=True, text=True, timeout=300, check=False
+    )
+    assert ran.returncode in (0, 2), ran
+    return ran.stdout
+
+
 def test_the_words(quiet_site: Site) -> None:
     site = quiet_site
     told = said(site, "ann", "ceilings")[1]
@@ -103,6 +167,8 @@ def test_again(quiet_site: Site) -> None:
 def test_it_is_checked_before_a_yes(quiet_site: Site) -> None:
     line = "ask db-care --on web1 --as www --for 3h /usr/sbin/reboot"
     status, told = said(quiet_site, "ann", line)
+    assert status == 2 and "Send it?" not in told
+    status, told = said(quiet_site, "ann", line.replace("--for", "--anyway --for"))
     assert status == 1 and told.index("The desk will refuse this: web1 is") < told.index("Send it?")
     for piece in ("www is outside", "/usr/sbin/reboot is outside", "at most 2 hours"):
         assert piece in told
@@ -174,7 +240,7 @@ def test_the_page_offers_the_same(quiet_site: Site) -> None:
               "length": "1h", "token": token(home)}  # fmt: skip
     own = {"X-Desk-Front": SECRET, "X-Desk-Person": "ann"}
     shown = page.post("/ask", data=fields, headers=own).get_data(as_text=True)
-    assert "The desk will refuse this: web1 is outside db-care" in shown and "Yes, ask" in shown
+    assert "On which hosts</a>: web1 is outside db-care" in shown and "Yes, ask" not in shown
 
 
 def test_the_same_at_another_time_and_for_another_ticket(site: Site) -> None:
@@ -193,7 +259,7 @@ def test_a_revocation_once_more(site: Site) -> None:
     assert site.run("ann", f"{ASK} /usr/bin/id").returncode == 0
     assert site.run("ann", "revoke ann 1 --yes").returncode == 0
     ran = site.run("ann", "revoke ann 1 --yes")
-    assert ran.returncode == 1 and "You revoked it already" in ran.stdout, ran
+    assert ran.returncode == 1 and "You revoked ann 1 already" in ran.stdout, ran
     wait_for_next_second()  # (a verdict of the same second is the same message)
     assert site.run("ann", "revoke ann 1 --yes --again").returncode == 0
     assert len(site.kept()) == 3

@@ -145,4 +145,4 @@ def test_a_desk_that_lost_its_store(site: Site) -> None:
 def test_an_outbox_that_cannot_be_written(site: Site) -> None:
     (site.folder / "outbox.db").mkdir()
     ran = site.run("ann", "ask db-care --on db1 --as root --for 1h --yes /usr/bin/id")
-    assert ran.returncode == 2 and "Nothing was sent: the outbox fails" in ran.stderr, ran
+    assert ran.returncode == 2 and "Nothing was sent: what is kept here fails" in ran.stderr, ran

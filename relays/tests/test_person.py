@@ -56,6 +56,11 @@ def test_each_calls_as_themselves(sshd: Sshd) -> None:
     assert oct((sshd.folder / "authorized_keys").stat().st_mode) == "0o100644"
 
 
+def test_a_name_that_the_roster_lacks_is_told(sshd: Sshd) -> None:
+    said = sshd.person("add", "--config", str(sshd.config), "zed", f"{sshd.folder}/carol.pub")
+    assert "zed may call with SHA256:" in said and "has nobody whose name is zed" in said
+
+
 def test_two_lines_give_nobody_a_shell(sshd: Sshd) -> None:
     """What `echo "options $(cat carol.pub)"` did: the second line has no options."""
     before = kept(sshd)

@@ -50,7 +50,7 @@ def exported(site: Site) -> list[dict[str, object]]:
 def test_by_ssh_it_is_shown_before_a_yes(site: Site) -> None:
     ran = site.run("ann", f"{LINE} {WORDS} /usr/bin/id")
     assert ran.returncode == 0 and "why       | the disk of db1 is full\n" in ran.stdout, ran
-    for line in ("waiting", "approve ann 1"):
+    for line in ("waiting -l", "approve ann 1"):
         _, told = answered(site, "bob", line)
         assert "  why       | the disk of db1 is full\n  ticket    | OPS-7\n" in told, told
         assert "?" not in told or told.index("why") < told.index("[y/N]")
@@ -105,7 +105,7 @@ JOINED = [
     ("--why 'the disk is full' --ticket 7", "the disk is full", ["/usr/bin/id"]),
     ("--why /var is full --ticket /7", "/var is full", ["/usr/bin/id"]),
     ("--why restart ALL of it --ticket 7", "restart ALL of it", ["/usr/bin/id"]),
-    ("--why=--on fire", "--on fire", ["/usr/bin/id"]),
+    ("--why=--on fire --ticket 7", "--on fire", ["/usr/bin/id"]),
 ]
 
 
@@ -132,12 +132,18 @@ def test_what_somebody_else_wrote_there(quiet_site: Site) -> None:
     outbox = Outbox(str(path))
     wish = replace(WISH, ends="20991231235959Z")
     outbox.keep_request("ann", wish, AT, reason=Reason(HOSTILE, HOSTILE))
-    for person, line in (("bob", "waiting"), ("bob", "approve ann 1"), ("ann", "mine --json")):
+    for person, line, piece in (
+        ("bob", "waiting", "ann 1 "), ("bob", "waiting -l", "alert(1)"),
+        ("bob", "approve ann 1", "alert(1)"), ("ann", "mine --json", "alert(1)"),
+    ):  # fmt: skip
         _, printed = answered(quiet_site, person, line)
-        assert "alert(1)" in printed and not set("\x1b\x07\u202e") & set(printed), printed
-    assert "\\x1b" in answered(quiet_site, "bob", "waiting")[1]
-    told = client(quiet_site).get("/", headers=headers("bob")).get_data(as_text=True)
-    assert "&lt;script&gt;" in told and not set("\x1b\u202e") & set(told) and "<script" not in told
+        assert piece in printed and not set("\x1b\x07\u202e") & set(printed), printed
+    assert "\\x1b" in answered(quiet_site, "bob", "waiting -l")[1]
+    page = client(quiet_site)
+    for place in ("/", "/r/ann/1", "/verdict?kind=refuse&of=ann&no=1"):
+        told = page.get(place, headers=headers("bob")).get_data(as_text=True)
+        assert "&lt;script&gt;" in told and "<script" not in told, told
+        assert not set("\x1b\u202e") & set(told), told
     assert exported(quiet_site)[0]["why"] == HOSTILE
 
 

@@ -14,8 +14,9 @@ from steelnewt_client.messages import BadWord
 from steelnewt_client.moments import now
 from steelnewt_client.signed import Signed, reason_digest
 from steelnewt_relay.config import BadConfig, read_config
+from steelnewt_relay.deciding import keep
 from steelnewt_relay.outbox import Outbox
-from steelnewt_relay.page import Visit, keep
+from steelnewt_relay.visit import Visit
 
 ASK = "prepare ask db-care --on db1 --as root --for 1h --why disk --ticket OPS-7 /usr/bin/id"
 SIGNATURE = "ssh:AAAA"
@@ -89,7 +90,7 @@ def test_a_page_sends_nothing_where_all_is_signed(quiet_site: Site) -> None:
             with pytest.raises(BadWord, match="signed messages alone"):
                 keep(visit, verdict)
         else:
-            assert keep(visit, verdict).verdict.by == "bob"
+            assert [it.verdict.by for it in keep(visit, verdict)] == ["bob"]
 
 
 def test_what_is_prepared_is_for_an_hour(quiet_site: Site) -> None:
@@ -113,9 +114,10 @@ def test_what_cannot_be_prepared(quiet_site: Site) -> None:
         ("prepare prepare ask", "prepare a request or verdicts"),
         (ASK.replace("--for", "--json --for"), "leave --once"),
         (ASK.replace("--for", "--once k --for"), "leave --once"),
+        ("prepare approve", "WHO NUMBER"),
         ("prepare approve ann", "WHO NUMBER"),
         ("prepare approve ann 1 ann 1", "there twice"),
-        ("prepare approve ann 1 --yes", "WHO NUMBER"),
+        ("prepare approve ann 1 --yes", "leave --once"),
     ):
         ran = quiet_site.run("ann", words)
         assert ran.returncode == 2 and why in ran.stderr, (words, ran)

@@ -12,6 +12,7 @@ import pytest
 
 from relays.tests.site import PATIENCE, ROOT, Site, wait_for_next_second
 from relays.tests.sshd import USER, Sshd
+from steelnewt_relay.telling import FETCHED
 
 ASK = "ask db-care --on db1 --as root --for 2h /usr/bin/id".split()
 
@@ -56,16 +57,27 @@ def test_a_grants_whole_life(both: tuple[Site, Sshd]) -> None:
     assert "Nothing" in sshd.ssh("ann", "waiting").stdout
     ran = sshd.ssh("bob", "approve", "ann", no, given="y\n")
     assert ran.returncode == 0 and "It is in force from" in ran.stdout, ran
+    assert "Each host has it with its next fetch, within 5 minutes." in ran.stdout
     assert f"ann {no}" in sshd.ssh("dave", "live").stdout
     assert "ann db1 = (root) NOTBEFORE=" in sudoers(site, "db1")
     assert "/usr/bin/id" not in sudoers(site, "db2")
-    assert "[in force]" in sshd.ssh("ann", "mine").stdout
+    assert "in force" in sshd.ssh("ann", "mine").stdout
     wait_for_next_second()  # (revoked in that of its approval, it was in force at no moment)
     ran = sshd.ssh("ann", "revoke", "ann", no, "--yes")
     assert ran.returncode == 0 and "It was in force from" in ran.stdout, ran
     assert "revoked, so it ends before" in ran.stdout
+    assert "Each host takes it away with its next fetch, within 5 minutes: until" in ran.stdout
     assert f"ann {no}" not in sshd.ssh("dave", "live").stdout
-    assert "[over]" in sshd.ssh("ann", "mine").stdout
+    assert "[over]" in sshd.ssh("ann", "mine -l").stdout
+    # (what was revoked is not the same as what is asked for a minute later)
+    ran = sshd.ssh("ann", *ASK, given="y\n")
+    assert ran.returncode == 0 and "Kept as ann " in ran.stdout, ran
+
+
+def test_hosts_fetch_as_soon_as_people_are_told() -> None:
+    text = (ROOT / "packaging" / "units" / "desk-fetch@.timer").read_text()
+    parts = re.findall(r"^(?:OnUnitInactiveSec|RandomizedDelaySec|AccuracySec)=(\d+)", text, re.M)
+    assert len(parts) == 3 and sum(map(int, parts)) <= 300 and FETCHED == "within 5 minutes"
 
 
 def test_a_refusal_is_told(both: tuple[Site, Sshd]) -> None:
@@ -74,16 +86,16 @@ def test_a_refusal_is_told(both: tuple[Site, Sshd]) -> None:
     assert sshd.ssh("carol", f"refuse ann {no} --yes").returncode == 0
     found = [it for it in json.loads(sshd.ssh("ann", "mine --json").stdout) if it["no"] == no]
     assert found[0]["state"] == "objected" and found[0]["verdicts"][0]["by"] == "carol"
-    assert "carol refused it" in sshd.ssh("ann", "mine").stdout
+    assert "carol refused it" in sshd.ssh("ann", "mine -l").stdout
 
 
 def test_an_approval_that_does_not_count_is_named(both: tuple[Site, Sshd]) -> None:
     _, sshd = both
     no = asked(sshd)
-    ran = sshd.ssh("eve", f"approve ann {no} --yes")
-    assert ran.returncode == 0 and "nobody approved it yet" in ran.stdout, ran
-    assert sshd.ssh("ann", f"approve ann {no} --yes").returncode == 0
-    told = sshd.ssh("ann", "mine").stdout
+    ran = sshd.ssh("eve", f"approve ann {no} --yes --anyway")
+    assert ran.returncode == 1 and "nobody approved it yet" in ran.stdout, ran
+    assert sshd.ssh("ann", f"approve ann {no} --yes --anyway").returncode == 1
+    told = sshd.ssh("ann", "mine -l").stdout
     assert "a duty that conflicts with approving was held then" in told
     assert "nobody approves what they asked for themselves" in told
 
@@ -93,7 +105,7 @@ def test_two_approvals(both: tuple[Site, Sshd]) -> None:
     line = "ask db-emergency --on db1 --as root --for 15m --yes --json ALL"
     ran = sshd.ssh("ann", line)
     no = json.loads(ran.stdout)["no"]
-    assert "approvals of 2 people" in ran.stderr
+    assert "approvals of 2 people" in sshd.ssh("bob", f"show ann {no}").stdout
     ran = sshd.ssh("bob", f"approve ann {no} --yes")
     assert "approved so far by bob; carol may approve it" in ran.stdout, ran
     assert f"ann {no}" not in sshd.ssh("bob", "waiting").stdout
@@ -189,14 +201,14 @@ ODD = [
     ("ask db-care --on db1 --as root --until 20200101000000Z /usr/bin/id", "before it begins"),
     ("ask db-care --on db1 --as root --zone Mars/Base --for 2h /usr/bin/id", "no time zone"),
     ("ask db-care --on db1 --as root --zone ../../etc/passwd --for 2h /usr/bin/id", "no time zone"),
-    ("approve ann 4711", "cannot show what it asks for"),
+    ("approve ann 4711", "there is no ann 4711 here"),
     ("approve ann -1", "is no request's number"),
     ("approve ann 1e3", "is no request's number"),
     ("approve ann 01", "is no request's number"),
     ("approve 'ann 7' 1", "is no person"),
-    ("approve ann", "required"),
+    ("approve ann", "which request of ann"),
     ("ask 'unclosed", "quotes"),
-    ("app ann 1", "invalid choice"),
+    ("app ann 1", "is no word here"),
     ("approve ann 1 --y", "unrecognized"),
 ]
 
@@ -227,7 +239,7 @@ PAST = [
 def test_past_a_ceiling(both: tuple[Site, Sshd], row: tuple[str, ...]) -> None:
     _, sshd = both
     person, ceiling, host, target, length, command, refusal = row
-    line = f"ask {ceiling} --on {host} --as {target} --for {length} --yes {command}"
+    line = f"ask {ceiling} --on {host} --as {target} --for {length} --yes --anyway {command}"
     ran = sshd.ssh(person, line)
     assert ran.returncode == 2 and f"The desk refused it. {refusal}: " in ran.stdout, ran
     assert "What to do: " in ran.stdout
@@ -258,8 +270,8 @@ def test_the_same_is_asked_once(both: tuple[Site, Sshd]) -> None:
 
 def at_terminal(sshd: Sshd, key: str) -> str:
     """Asks at a terminal, gives the key when it is asked for, and returns what was shown."""
-    line = "ask db-care --on db1 --as root --for 1h /usr/local/sbin/w"
-    words = [*sshd.client("bob", "-tt"), line]
+    line = "ask db-care --on db1 --as root --for 1h --again /usr/local/sbin/w"
+    words = [*sshd.client("ann", "-tt"), line]
     shown = b""
     with subprocess.Popen(words, stdin=subprocess.PIPE, stdout=subprocess.PIPE) as call:
         assert call.stdin and call.stdout
@@ -282,9 +294,9 @@ def test_at_a_terminal(both: tuple[Site, Sshd]) -> None:
     site, sshd = both
     before = messages(site)
     shown = at_terminal(sshd, "n\n")
-    assert "\x1b[1mbob asks\x1b[0m" in shown and "Nothing was sent." in shown
+    assert "\x1b[1mann asks\x1b[0m" in shown and "Nothing was sent." in shown
     shown = at_terminal(sshd, "\x03")
-    assert "Interrupted." in shown and "Traceback" not in shown
+    assert "Nothing more was sent" in shown and "Traceback" not in shown
     assert messages(site) == before
 
 
@@ -339,14 +351,14 @@ def test_nobody_outside_the_roster_reads(both: tuple[Site, Sshd], line: str) -> 
     asked(sshd)
     ran = site.run("mallory", line)
     assert not ran.stdout, ran
-    assert ran.returncode == 2 and "the roster has nobody whose name is mallory" in ran.stderr, ran
+    assert ran.returncode == 2 and "nobody here has the name mallory" in ran.stderr, ran
 
 
 def test_nobody_outside_the_roster_asks(both: tuple[Site, Sshd]) -> None:
     site, _ = both
     before = messages(site)
     ran = site.run("mallory", "ask db-care --on db1 --as root --for 2h --yes /usr/bin/id")
-    assert ran.returncode == 2 and "the roster has nobody" in ran.stderr, ran
+    assert ran.returncode == 2 and "nobody here has the name mallory" in ran.stderr, ran
     assert messages(site) == before
     for name in ("", "Ann", "ann,bob", "ann\nbob", "../ann"):
         ran = site.run(name, "mine")

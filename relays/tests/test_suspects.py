@@ -34,7 +34,8 @@ OWNERS = {"desk.db": "desk", "outbox.db": "desk-relay"}
 
 @pytest.fixture
 def thief(quiet_site: Site) -> Iterator[Site]:
-    """A relay's folder after somebody else had its account."""
+    """A relay's folder after somebody else had its account, and put a file of theirs there."""
+    (quiet_site.folder / "outbox.db").unlink()
     with closing(sqlite3.connect(quiet_site.folder / "outbox.db")) as base:
         base.execute("CREATE TABLE m (id INTEGER PRIMARY KEY, body TEXT)")
         base.execute("INSERT INTO m (body) VALUES (?)", (FORGED,))
@@ -48,8 +49,8 @@ def write(site: Site, statement: str) -> None:
         base.commit()
 
 
-def sent(site: Site) -> subprocess.CompletedProcess[str]:
-    return subprocess.run(site.job("sent"), capture_output=True, text=True, check=False)
+def sent(site: Site, *words: str) -> subprocess.CompletedProcess[str]:
+    return subprocess.run(site.job("sent", *words), capture_output=True, text=True, check=False)
 
 
 def runbook_line(site: Site) -> str:
@@ -103,6 +104,18 @@ def test_what_was_sent(quiet_site: Site) -> None:
             outbox.base.execute(ROW, row)
         ran = sent(quiet_site)
         assert (ran.returncode, ran.stdout) == (0, body), ran
+
+
+def test_what_was_sent_behind_a_number(quiet_site: Site) -> None:
+    """Each with its own number, and with what the desk said to it."""
+    with closing(read_config(str(quiet_site.config)).open_outbox()) as outbox:
+        kept = [outbox.keep_request("ann", WISH, "20260105090000Z") for _ in range(3)]
+        outbox.answered(kept[1].id, "acked")
+    lines = [f"{it.id} {state} {it.request.text()}\n"
+             for it, state in zip(kept, ("kept", "acked", "kept"), strict=True)]  # fmt: skip
+    for after in range(4):
+        ran = sent(quiet_site, "--after", str(after))
+        assert (ran.returncode, ran.stdout) == (0, "".join(lines[after:])), ran
 
 
 def commands(path: Path) -> Iterator[str]:

@@ -14,7 +14,8 @@ import pytest
 from relays.tests.site import PATIENCE, Site
 from relays.tests.sshd import Sshd, keygen
 
-ASK = "ask db-care --on db1 --as root --for 1h --again"
+# (bob and eve may not ask for that: nobody here is refused for what they ask)
+ASK = "ask db-care --on db1 --as root --for 1h --again --anyway"
 
 
 @pytest.fixture
@@ -37,7 +38,9 @@ def master(sshd: Sshd, key: str) -> Iterator[tuple[str, str]]:
         try:
             yield "-S", str(path)
         finally:
-            opened.terminate()
+            # (ssh may miss a gentler signal, as one of its sessions ends)
+            opened.kill()
+            path.unlink(missing_ok=True)
 
 
 @contextmanager

@@ -16,6 +16,7 @@ from tests.common.ports import free_port
 FRONT = ROOT / "examples" / "nginx" / "desk.conf"
 AUTHORITY = str(ROOT / "examples" / "front-ca.sh")
 READER = 'reader_certificate = "{ca}/auditor-web.pem"\nreader_key = "{ca}/auditor-web.key"\n'
+ASK = "ask db-care --yes --on db1 --as root --for 1h /usr/bin/id"
 TLS = '[tls]\ncertificate = "{ca}/relay-chat.pem"\nkey = "{ca}/relay-chat.key"\nca = "{ca}/ca.pem"\n'
 
 
@@ -51,10 +52,9 @@ def fronted(site: Site, more: str) -> Iterator[None]:
 
 def asked(site: Site) -> str:
     """A person asks, and looks at what became of it."""
-    words = "ask db-care --yes --on db1 --as root --for 1h /usr/bin/id"
-    ran = site.run("ann", words)
+    ran = site.run("ann", ASK)
     assert ran.returncode == 0, ran
-    return site.run("ann", "mine").stdout
+    return site.run("ann", "mine -l").stdout
 
 
 def test_it_reads_as_an_auditor(site: Site) -> None:
@@ -64,6 +64,10 @@ def test_it_reads_as_an_auditor(site: Site) -> None:
 
 def test_without_it_the_front_says_nothing(site: Site) -> None:
     with fronted(site, ""):
+        # (a new outbox gives no number that the desk may have: nobody tells it which)
+        ran = site.run("ann", ASK)
+        assert ran.returncode == 2 and "numbers" in ran.stderr, ran
+        subprocess.run(site.job("number-past", "0"), check=True)
         assert "not known" in asked(site)
 
 

@@ -7,6 +7,7 @@ counts.
 
 import hashlib
 import json
+import os
 import subprocess
 import sys
 import tempfile
@@ -59,14 +60,22 @@ def parts_of(whole: bytes) -> tuple[str, str]:
     return head.split(b"\r\n")[0].decode(), body.decode()
 
 
-def is_right(table: Table, row: Table, told: tuple[str, str], known: dict[str, str]) -> bool:
+def text_of(row: Table, name: str, known: dict[str, str]) -> str:
+    """A text of the row, as often as the row says."""
+    times = dict(zip(("history", "out"), row.get("times", (1, 1)), strict=True))
+    return str(row[name].format(**known) * times[name])
+
+
+def is_right(row: Table, told: tuple[str, str], known: dict[str, str], table: Table) -> bool:
     status = row.get("status", 200)
     if told[0] != f"HTTP/1.1 {status} {PHRASES[status]}":
         return False
     if "names" in row:
         names = [entry_of(table, entry) for entry in row["names"]]
         return bool(json.loads(told[1]) == {"names": names, "windows": []})
-    return bool(told[1] == row["out"].format(**known))
+    if status != 200:
+        return bool(told[1] == row["out"])
+    return told[1] == text_of(row, "out", known)
 
 
 def given_by(table: Table, row: Table) -> bytes:
@@ -74,11 +83,22 @@ def given_by(table: Table, row: Table) -> bytes:
     return desk.asked(b"GET", row["get"].encode())
 
 
-def ask(table: Table, row: Table, folder: str, turned: bool) -> tuple[str, str]:
+def surroundings(row: Table, folder: str, known: dict[str, str]) -> dict[str, str]:
+    """The environment, with the file of the history where the row has one."""
+    if "history" not in row:
+        return dict(os.environ)
+    desk.write(folder, "HISTORY", text_of(row, "history", known))
+    return os.environ | {"DESK_HISTORY": f"{folder}/HISTORY"}
+
+
+def ask(
+    table: Table, row: Table, folder: str, known: dict[str, str], turned: bool
+) -> tuple[str, str]:
     """What is answered over the row's messages."""
     names = row.get("messages", [])
+    files = {"roster": f"{folder}/ROSTER", "base": f"{folder}/BASE"}
     with desk.Server(
-        program=desk.named(), roster=f"{folder}/ROSTER", base=f"{folder}/BASE"
+        program=desk.named(), environment=surroundings(row, folder, known), **files
     ) as server:
         for name in reversed(names) if turned else names:
             desk.exchange(server.port, desk.posted(b"web", body_of(table, name)))
@@ -98,11 +118,11 @@ def main() -> None:
         known = digests(table, folder)
         for row in table["row"]:
             for turned in (False, True):
-                told = ask(table, row, folder, turned)
+                told = ask(table, row, folder, known, turned)
                 count += 1
-                if not is_right(table, row, told, known):
+                if not is_right(row, told, known, table):
                     wrong += 1
-                    print(f"{row['name']}: {told}")
+                    print(f"{row['name']}: {told[0]} {told[1][:200]}")
     print(f"desk serve: {count} cases, {wrong} wrong")
     sys.exit(1 if wrong else 0)
 

@@ -41,6 +41,7 @@ ROUTES = (
     (rb"/v1/open/([^/]+)", "GET", "open"),
     (rb"/v1/grants/([^/]+)", "GET", "grants"),
     (rb"/v1/parked", "GET", "parked"),
+    (rb"/v1/history", "GET", "history"),
     (rb"/v1/hosts/([^/]+)/sudoers", "GET", "file"),
     (rb"/v1/hosts/([^/]+)/sudoers/([^/]+)", "GET", "file after"),
     (rb"/v1/hosts/([^/]+)/at/([^/]+)", "GET", "file at"),
@@ -104,8 +105,8 @@ def body_fault(given: bytes, fields: Fields, at: int) -> tuple[str, str] | None:
 
 def asks(given: bytes) -> tuple[Asked, bool]:
     """What the bytes ask: a refusal as its status, its code with its name and what `Allow` says, or
-    what they ask of the desk, as a word and what the route's first `{..}` holds; and whether the
-    reply goes without its body."""
+    what they ask of a desk that knows no history, as a word and what the route's first `{..}`
+    holds; and whether the reply goes without its body."""
     head = head_of(given)
     if not head:
         return ("400 Bad Request", "T1 BadHead", None), False
@@ -129,6 +130,8 @@ def asks(given: bytes) -> tuple[Asked, bool]:
         ), bare
     if what == "deliver" and (fault := body_fault(given, fields, at)):
         return (*fault, None), bare
+    if what == "history":
+        return ("404 Not Found", "T3 NoRoute", None), bare
     if what == "request" and not (NAME.fullmatch(found[1]) and NUMBER.fullmatch(found[2])):
         return ("404 Not Found", "T3 NoRoute", None), bare
     dated = ("grants", "report", "file after", "file at", "requests after", "open")

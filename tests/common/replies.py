@@ -1,13 +1,15 @@
 """A server on loopback that is no desk: it gives each target the bytes that a test says."""
 
+import contextlib
+import hashlib
 import re
 import socket
 import ssl
 import threading
-from collections.abc import Callable
+from collections.abc import Callable, Sequence
 from typing import Self
 
-FILE = re.compile(r"/v1/hosts/[a-z0-9-]+/sudoers(?:/[0-9]+Z)?")
+FILE = re.compile(r"/v1/hosts/[a-z0-9-]+/at/[0-9]+Z")
 
 
 def reply(body: bytes, status: str = "200 OK", more: str = "") -> bytes:
@@ -19,20 +21,53 @@ def reply(body: bytes, status: str = "200 OK", more: str = "") -> bytes:
 NO_ROUTE = reply(b"T3 NoRoute\n", "404 Not Found")
 
 
-def counted(messages: int, roster: str = "a" * 64, base: str = "b" * 64) -> bytes:
-    """How many messages a desk holds, of which roster and base, as it says it."""
-    text = f"{messages} {roster} {base}\n".encode()
-    return reply(text).replace(b"text/plain", b"text/plain; charset=utf-8")
+def digest(text: bytes) -> str:
+    return hashlib.sha256(text).hexdigest()
 
 
-def of_a_host(file: bytes, count: bytes | None = None) -> Callable[[str], bytes]:
-    """What a desk answers whose reply with any host's file is `file`; without a count it is one
-    that has not that route."""
+def counted(text: bytes, messages: int = 1, roster: str = "a", base: bytes = b"") -> bytes:
+    """A host's file behind the line that says what it is made of: a roster whose digest is that
+    letter alone, and a base which the file then begins with."""
+    return f"{messages} {roster * 64} {digest(base)}\n".encode() + base + text
+
+
+def history(rosters: str = "a", bases: Sequence[bytes] = (b"",)) -> bytes:
+    """The states of a site, a day for each: those rosters, and those bases, the last of which stay
+    until the end."""
+    lines = []
+    for at in range(max(len(rosters), len(bases))):
+        roster = rosters[min(at, len(rosters) - 1)] * 64
+        base = digest(bases[min(at, len(bases) - 1)])
+        lines.append(f"202601{at + 1:02}000000Z {roster} {base}\n")
+    return "".join(lines).encode()
+
+
+def of_a_host(file: bytes, past: bytes | None = None) -> Callable[[str], bytes]:
+    """What a desk answers whose reply with any host's file is `file`; without a past it is one that
+    has no history."""
+
+    def answer(target: str) -> bytes:
+        if target == "/v1/history" and past is not None:
+            return past
+        return file if FILE.fullmatch(target) else NO_ROUTE
+
+    return answer
+
+
+def desk_of(
+    text: bytes, messages: int = 1, rosters: str = "a", bases: Sequence[bytes] = (b"",)
+) -> Callable[[str], bytes]:
+    """What a desk answers of one state: the joined file, the history, and the questions of before,
+    the count and the file alone."""
+    whole = counted(text, messages, rosters[-1], bases[-1])
+    line, _, file = whole.partition(b"\n")
 
     def answer(target: str) -> bytes:
         if target == "/v1/count":
-            return count or NO_ROUTE
-        return file if FILE.fullmatch(target) else NO_ROUTE
+            return reply(line + b"\n")
+        if re.fullmatch("/v1/hosts/[a-z0-9-]+/sudoers(/[0-9]+Z)?", target):
+            return reply(file)
+        return of_a_host(reply(whole), reply(history(rosters, bases)))(target)
 
     return answer
 
@@ -56,11 +91,16 @@ class Replies:
                 peer = self.listener.accept()[0]
             except OSError:
                 return
-            with self.tls.wrap_socket(peer, server_side=True) if self.tls else peer as stream:
-                words = stream.recv(65536).split(b" ")
-                if len(words) > 1:
-                    self.asked.append(words[1].decode())
-                    stream.sendall(self.answer(self.asked[-1]))
+            with contextlib.suppress(ConnectionError):  # (of whoever reads no more)
+                self.give(peer)
+
+    def give(self, peer: socket.socket) -> None:
+        """One answer."""
+        with self.tls.wrap_socket(peer, server_side=True) if self.tls else peer as stream:
+            words = stream.recv(65536).split(b" ")
+            if len(words) > 1:
+                self.asked.append(words[1].decode())
+                stream.sendall(self.answer(self.asked[-1]))
 
     def __enter__(self) -> Self:
         return self

@@ -335,10 +335,10 @@ def controls(page: Page) -> None:
         "2": r"allow\ndeny\n",
         "3": r"LIVE\nann (?s:.*)needed\nBARRED\n(?s:.*)eve +conflict\n(?s:.*)CONFLICTS\neve ",
         "4": r"A7 WindowTooLong\n",
-        "5": r"none\ndba  dba other0 postgres .*\nother0  none\n",
+        "5": r"STANDING\ndba as postgres on \*\n  EVERYTHING  with a password\n    by  dba ",
         "6": r"used twice\n(?s:.*)NEITHER\ndb1 ann as root (?s:.*)db1 eve as root ",
         "7": r'"at":.*"by":"ann".*"cmnds":.*"from":.*"hosts":.*"runas":"root","until":',
-        "8": r"the statuses are the same\nall messages are told\n",
+        "8": r"the statuses are the same\nall messages of this time are told\n",
     }
     for it in numbered:
         number, _, commands = it.partition(":")

@@ -47,6 +47,9 @@ TYPED: list[tuple[list[str], set[str]]] = [
     (["desk-used", "used."], {"used.log"}),
     (["desk-evidence", "--sec"], {"--second-reading"}),
     (["desk-evidence", "--year", ""], set()),
+    (["desk-evidence", "--sam"], {"--sample"}),
+    (["desk-standing", "--ru"], {"--runas"}),
+    (["desk-standing", "base."], {"base.sudo"}),
     (["desk-change-roster", "rost"], {"roster.toml"}),
     (["desk-change-roster", "--give"], {"--give-back"}),
     (["desk-change-base", "--ti"], {"--ticket"}),
@@ -141,11 +144,11 @@ def check_tools(tools: list[dict]) -> tuple[int, list[str]]:
     """The table's options of each program that has a page of its entry, beside its own help."""
     wrong = []
     for tool in (each for each in tools if "says" in each):
-        folders = (os.path.join(desk.ROOT, it) for it in ("broker", "relays"))
+        folders = (os.path.join(desk.ROOT, it) for it in ("broker", "relays", "tools"))
         path = shutil.which(tool["name"], path=":".join(folders)) or tool["name"]
         words = [[path, *word, "--help"] for word in ([], *([it] for it in tool.get("words", [])))]
         texts = [subprocess.run(each, capture_output=True, text=True).stdout for each in words]
-        found = set(re.findall(r"^  (?:-h, )?(--[a-z]+)", "\n".join(texts), re.MULTILINE))
+        found = set(re.findall(r"^  (?:-h, )?(--[a-z][a-z0-9-]*)", "\n".join(texts), re.MULTILINE))
         if found != {name for name, _ in tool["options"]}:
             wrong.append(f"packaging/commands.toml: {tool['name']} has the options {found}")
     return sum("says" in each for each in tools), wrong

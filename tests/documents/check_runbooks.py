@@ -5,9 +5,10 @@ is run as it stands there, and its output is compared with the page.
 It is done in a root of its own, this machine's under an overlay that is thrown away, with
 namespaces for mounts, processes and network. The service is `desk-serve` as the unit's account;
 `systemctl`, `ssh db1`, `ssh desk`, `sendmail`, `apt install` and the editor are stand-ins
-(STAND_INS), all else is Debian's: a block that the page has and nothing here runs is a fault. Needs
-root, and Debian's packages sudo, faketime, curl, nginx-light, openssl and iproute2; what the relay
-needs it installs.
+(STAND_INS), all else is Debian's: a block that the page has and nothing here runs is a fault. (On
+machines that boot, systemd, apt and ssh are real: tests/machines/books.py.) Needs root, and
+Debian's packages sudo, faketime, curl, nginx-light, openssl and iproute2; what the relay needs it
+installs.
 """
 
 from __future__ import annotations
@@ -25,7 +26,10 @@ from tests.common import desk
 from tests.common.sudo_peer import host_program
 from tests.packages.package_test import furnish
 
+SECOND = "\n## A second desk\n"
+# (and the one of docs/SEVERAL.md)
 PAGE = desk.read("docs", "RUNBOOKS.md")
+PAGE += SECOND + desk.read("docs", "SEVERAL.md").split(SECOND)[1]
 PROGRAM = os.path.abspath(os.environ.get("DESK", desk.PROGRAM[0]))
 BOOK = "/runbooks"  # the folder of the stand-ins
 HERE = "/var/lib/desk"
@@ -246,11 +250,13 @@ def with_lines(lines: str) -> str:
     return text
 
 
+SAYS_YES = 'desk-change-roster() { echo y | command desk-change-roster "$@"; }\n'
+
+
 def change(room: Room, roster: str) -> desk.Run:
     """The runbook's one command, and a person who says yes."""
     room.write(f"{BOOK}/new.toml", roster)
-    says_yes = 'desk-change-roster() { echo y | command desk-change-roster "$@"; }\n'
-    return room.follow("A roster is changed", 0, says_yes)
+    return room.follow("A roster is changed", 0, SAYS_YES)
 
 
 def by_one_command(room: Room) -> None:
@@ -350,32 +356,36 @@ def revoked(room: Room) -> None:
     room.holds("a second before it", len(apart) == 2 and apart[0] - apart[1] == 1, (at, ends))
 
 
-def mails(room: Room, *subjects: str) -> str:
-    """The mails, once there is one of each subject."""
+def mails(room: Room, *kinds: str) -> str:
+    """The mails, once there is one of each kind of event."""
     text, until = "", time.monotonic() + PATIENCE
     while time.monotonic() < until:
         if os.path.exists(room.path("/tmp/mails")):
             text = room.read("/tmp/mails")
-        if all(f"Subject: [desk] {it}" in text for it in subjects):
+        if all(f"X-Desk-Event: {it}\n" in text for it in kinds):
             break
         time.sleep(0.1)
     return text
 
 
 def with_relay(room: Room) -> None:
-    """The desk of examples/break-glass.toml, and a relay that rings the bells."""
+    """The desk with what examples/break-glass.toml adds, and a relay that rings the bells."""
     heading = "Nobody can approve"
     (notify,) = blocks(section(heading), "toml")
     example = desk.read("examples", "break-glass.toml")
     room.says(heading, "`examples/break-glass.toml` has a person `glass`")
     has_both = "\nglass = [" in example and "\n[ceilings.break-glass]\n" in example
     room.holds("the example has its part", has_both, example)
-    shutil.copy(f"{desk.EXAMPLES}/break-glass.toml", room.path(FILES[0]))
+    shutil.copy(f"{desk.EXAMPLES}/break-glass.toml", room.path(DOC))
+    on_call = example.replace("[people]\n", '[people]\nann = ["on-call"]\n')
+    room.write(f"{BOOK}/new.toml", on_call)
     settings = desk.read("relays", "relay.example.toml")
     room.write("/etc/desk/relay.toml", settings.partition("[page]")[0] + notify)
     room.write("/etc/desk/bells", "# all\nbob robert@site\ndave dave@site\nann ann@site\n")
+    added = room.follow(heading, 0, SAYS_YES)
+    room.holds("it is added", added.returncode == 0, added)
     made = room.run(
-        f"systemctl stop desk; rm {HERE}/*; systemctl start desk; systemctl start desk-relay-post;"
+        "systemctl start desk-relay-post;"
         " ssh-keygen -q -t ed25519 -N '' -f /root/ann && desk-relay-person add ann /root/ann.pub"
     )
     room.holds("the relay", made.returncode == 0, made)
@@ -385,7 +395,7 @@ def no_approver(room: Room) -> None:
     heading = "Nobody can approve"
     room.begin()
     with_relay(room)
-    done = room.follow(heading, 0)
+    done = room.follow(heading, 1)
     phrase = re.search(r"for the envelope: \S{24}\n", done.stdout)
     room.holds("the envelope", phrase is not None, done)
     # (it tells what comes from its first round on; root's sqlite3 would make an outbox that is not
@@ -394,18 +404,18 @@ def no_approver(room: Room) -> None:
     told = f"[ -s {box} ] && grep -q told_from <(sqlite3 {box} .dump)"
     room.run(f"for _ in $(seq 600); do {told} && break; sleep 0.1; done")
     room.says(heading, "its use rings every bell", "An asker's own approval counts under no")
-    done = room.follow(heading, 1)
+    done = room.follow(heading, 2)
     room.holds("the key approves", "It is in force from" in done.stdout, done)
     room.holds("everything on the host", room.may("/usr/bin/env"), done)
-    subjects = ("ann asks.", "glass approved ann 1.", "ann 1 is granted.")
-    rung = mails(room, *(f"BREAK-GLASS: {it}" for it in subjects))
-    for subject in subjects:
-        part = rung.partition(f"Subject: [desk] BREAK-GLASS: {subject}")[0].split("To: ")[-1]
-        everybody = all(f"{it}@site" in part for it in ("ann", "dave", "robert"))
-        room.holds(f"every bell: {subject}", everybody, rung)
-    done = room.follow(heading, 2)
-    room.holds("it ends", done.returncode == 0 and not room.may("/usr/bin/env"), done)
+    rung = mails(room, "asked", "granted")
+    for kind in ("asked", "granted"):
+        head = rung.partition(f"X-Desk-Event: {kind}\n")[0].split("\nTo: ")[-1]
+        everybody = all(f"{it}@site" in head for it in ("ann", "dave", "robert"))
+        is_told = "[desk] BREAK-GLASS: ann: root on db1, 1 hour: db1 is down" in head
+        room.holds(f"every bell: {kind}", everybody and is_told, rung)
     done = room.follow(heading, 3)
+    room.holds("it ends", done.returncode == 0 and not room.may("/usr/bin/env"), done)
+    done = room.follow(heading, 4)
     reviewed = re.search(r"approve +\d+Z glass counts\n(?s:.*)nobody answers", done.stdout)
     room.holds("it is reviewed", reviewed is not None, done)
     alone = "-o IdentitiesOnly=yes -o IdentityAgent=none"
@@ -486,8 +496,8 @@ def restore(room: Room) -> None:
     room.post(desk.approval(50))
     # a page of the store is damaged, and its log is there
     room.run(
-        "p=$(cat /run/desk.pid); all=\"$(cat /proc/$p/task/$p/children) $p\"; kill -KILL $all;"
-        " rm /run/desk.pid; while ps -o stat= -p \"$all\" | grep -qv Z; do sleep 0.05; done"
+        "p=$(cat /run/desk.pid); kill -s KILL -- -$p; rm /run/desk.pid;"
+        " while ps -o stat= -s $p | grep -qv Z; do sleep 0.05; done"
     )
     room.write(f"{HERE}/desk.db", "no database at all" * 300)
     done = room.follow(heading, 0)
@@ -711,7 +721,7 @@ def relay_account_lost(room: Room) -> None:
     is_shown = forged in done.stdout.splitlines()
     is_said = "its outbox proves nothing" in " ".join(section(heading).split())
     room.holds("a forged line in the outbox is shown, or said not to be", is_shown or is_said, done)
-    room.says(heading, "A relay's account `desk-relay`, or its machine**: the same, off the")
+    room.says(heading, "`deluser desk-relay desk-front`; then as above, but **its outbox proves")
     room.says(heading, "ask people which lines of `/root/held` are theirs")
     made = room.run(f"{FRONT_CA} auditor web && cp /etc/desk/front/auditor-web.* /root/stolen")
     before = by_certificate(room, "/root/stolen/auditor-web", "/v1/messages")
@@ -795,6 +805,7 @@ def prepare(room: Room) -> None:
     for source, name in (
         (PROGRAM, "desk"),
         (os.path.join(desk.ROOT, "packaging", "desk-serve"), "desk-serve"),
+        (os.path.join(desk.ROOT, "packaging", "desk-signals"), "desk-signals"),
         (os.path.join(desk.ROOT, "packaging", "desk-history"), "desk-history"),
         (os.path.join(desk.EXAMPLES, "front-ca.sh"), "front-ca.sh"),
     ):

@@ -39,6 +39,8 @@ NEEDED += " python3-waitress sqlite3 sudo"
 PEOPLE = ("ann", "ben", "carol")
 AT_DOOR = "/run/desk-door/desk.sock"
 AT_POSTS = "/run/desk-posts/desk.sock"
+# (it would change nothing: what matters is whether it is taken)
+REFUSE = "refuse ann 1 --yes --anyway"
 MINUTES = {"two": 2, "three": 3, "five": 5, "eight": 8, "ten": 10, "thirty": 30, "forty": 40}
 SSH = "Host desk\n    HostName desk.example\n    User desk-relay\n"
 # what systemd does of the door's unit
@@ -67,6 +69,7 @@ UNITS = """case $* in
     'restart desk-door') door ;;
     'enable --now desk-relay-post') relay post ;;
     'enable --now desk-fetch@prod1.timer' | 'start desk-fetch@prod1') desk-host fetch prod1 ;;
+    'start desk-sessions') ;;
 """
 UNITS += check_team_rest.UNITS
 APT = f"""#!/bin/bash
@@ -77,6 +80,11 @@ for word; do
     tar -C {TREES}/$name -c . | tar -C / -x --keep-directory-symlink
     [ ! -e {TREES}/$name.postinst ] || sh {TREES}/$name.postinst configure ''
 done
+"""
+# (prod1 is this machine)
+SCP = """#!/bin/bash
+[ "$1" = -p ] && shift
+cp --preserve=mode "$1" "${2#prod1:}"
 """
 # the packages themselves; what they need of Debian is there
 DPKG = """#!/bin/bash
@@ -91,7 +99,7 @@ def built(room: Room) -> None:
     """The packages of build/deb, where their administrator has them."""
     folder = os.path.join(desk.BUILD, "deb")
     found = [it for it in os.listdir(folder) if it.endswith(".deb")]
-    room.holds("the packages are built: bash scripts/deb.sh", len(found) == 9, found)
+    room.holds("the packages are built: bash scripts/deb.sh", len(found) == 10, found)
     for name in found:
         shutil.copy(os.path.join(folder, name), room.path("/root"))
 
@@ -117,7 +125,7 @@ def prepare(room: Room, is_built: bool) -> None:
     os.mkdir(room.path(BOOK))
     units = STAND_INS["systemctl"].replace("case $* in\n", DOOR + UNITS)
     units = units.replace("/usr/local/bin/desk-serve", "/usr/libexec/steelnewt/desk-serve")
-    stand_ins = {"systemctl": units, "ssh": STAND_INS["ssh"].replace("db1", "prod1")}
+    stand_ins = {"systemctl": units, "ssh": STAND_INS["ssh"].replace("db1", "prod1"), "scp": SCP}
     if is_built:
         stand_ins["apt"] = DPKG
     else:
@@ -216,13 +224,14 @@ def door(page: Page, room: Room) -> None:
 def host(page: Page, room: Room) -> None:
     done = page.next("sh")
     room.holds("the front", done.returncode == 0, done)
-    copied = room.run(
-        "cd /etc/desk/front && cp host-prod1.pem ../host.pem && cp ca.pem .. &&"
-        " install -m 0400 host-prod1.key ../host.key"
-    )
-    room.holds("the host's files", copied.returncode == 0, copied)
     done = page.next("sh")
-    room.holds("the host fetches", done.returncode == 0 and "parsed OK" in done.stdout, done)
+    room.holds("the host's packages", done.returncode == 0, done)
+    done = page.next("sh")
+    mode = os.stat(room.path("/etc/desk/host.key")).st_mode & 0o077
+    room.holds("the host's files", done.returncode == 0 and mode == 0, done)
+    # (what `desk-host check` says of a host that boots: tests/machines/team.py)
+    done = page.next("sh")
+    room.holds("the host fetches", "parsed OK" in done.stdout, done)
     room.holds("its file", "dba ALL" in room.read("/etc/sudoers.d/desk"))
 
 
@@ -310,7 +319,7 @@ def key_lost(_: Page, room: Room) -> None:
     told = r"^\d{14}Z by relay chat: ann: ask ann 1 \(ack\), with SHA256:"
     is_told = re.search(told, done.stdout, re.MULTILINE) is not None
     room.holds("what it signed, and when that came", is_told, done)
-    said = as_person(room, "ann", "mydesk refuse ann 1 --yes")
+    said = as_person(room, "ann", f"mydesk {REFUSE}")
     room.holds("it signs no more", "A20 BadSignature" in said.stdout, said)
     word = room.run("desk-signer enrol ann").stdout.strip()
     made = as_person(
@@ -319,8 +328,8 @@ def key_lost(_: Page, room: Room) -> None:
     )  # fmt: skip
     done = room.run("yes | desk-signer add ann /home/ann/ann.line")
     room.holds("a new one", (made.returncode, done.returncode) == (0, 0), (made, done))
-    said = as_person(room, "ann", "mydesk --key new refuse ann 1 --yes")
-    room.holds("signs", "acknowledged that you refused it" in said.stdout, said)
+    said = as_person(room, "ann", f"mydesk --key new {REFUSE}")
+    room.holds("signs", "The desk has your refusal" in said.stdout, said)
 
 
 def signers_unread(_: Page, room: Room) -> None:
@@ -330,7 +339,7 @@ def signers_unread(_: Page, room: Room) -> None:
     newest = "$(ls -d /etc/desk/signers/*Z | tail -n 1)"
     room.run(f"cp -a {newest} /root/kept; basename {newest} > /root/name")
     room.run(f"echo odd >> {newest}/allowed_signers")
-    said = as_person(room, "ben", "mydesk refuse ann 1 --yes")
+    said = as_person(room, "ben", f"mydesk {REFUSE}")
     room.holds("nothing signed is taken", "K25 NoSigners" in said.stdout, said)
     room.says(heading, "root's socket still takes refusals and revocations")
     # (of now: one from before the approval would count)
@@ -347,13 +356,13 @@ def signers_unread(_: Page, room: Room) -> None:
     room.holds("it says why", done.returncode == 2 and is_told, done)
     room.says(heading, "or move it away: then the one before it holds")
     room.run(f"mv {newest} /root/away")
-    said = as_person(room, "ben", "mydesk refuse ann 1 --yes")
-    room.holds("the one before holds", "acknowledged that you refused it" in said.stdout, said)
+    said = as_person(room, "ben", f"mydesk {REFUSE}")
+    room.holds("the one before holds", "The desk has your refusal" in said.stdout, said)
     room.says(heading, "Bring that folder back from the backup")
     room.run("mv /root/kept /etc/desk/signers/$(cat /root/name)")
     done = room.run(check)
-    said = as_person(room, "ann", "mydesk --key new refuse ann 1 --yes")
-    is_taken = "acknowledged that you refused it" in said.stdout
+    said = as_person(room, "ann", f"mydesk --key new {REFUSE}")
+    is_taken = "The desk has your refusal" in said.stdout
     room.holds("and then the newest", is_taken, (said, done))
     room.holds("nothing is wrong", done.stdout.startswith("nothing is wrong"), done)
 

@@ -180,15 +180,15 @@ def on_the_page(room: Room) -> None:
     room.holds("before the yes", "deploy at noon" in done.stdout and "UTC" in done.stdout, done)
     waits = "ann 2: It needs 1 approval; nobody approved it yet; ben, carol may approve it."
     room.holds("and after it", waits in done.stdout, done)
-    mailed = until(room, "grep -rqs 'Subject: .*ann asks' /tmp/mails/new")
+    mailed = until(room, "grep -rqs 'Subject: .*ann: .*deploy at noon' /tmp/mails/new")
     mails = room.run("cat /tmp/mails/new/*").stdout
     is_right = mailed and "To: ben@desk.example" in mails and "deploy at noon" in mails
     room.holds("a mail to ben", is_right, (mails, room.run("cat /tmp/desk-relay-notify.log")))
     done = in_a_browser(room, "ben")
     is_shown = "/usr/local/sbin/deploy" in done.stdout and "deploy at noon" in done.stdout
     room.holds("what ben approves", is_shown, done)
-    room.holds("and he does", "acknowledged that you approved it." in done.stdout, done)
-    mailed = until(room, "grep -rqs 'Subject: .*ann 2 is granted' /tmp/mails/new")
+    room.holds("and he does", "The desk has your approval." in done.stdout, done)
+    mailed = until(room, "grep -rqs 'X-Desk-Event: granted' /tmp/mails/new")
     room.holds("a mail to ann", mailed, room.run("grep -h Subject /tmp/mails/new/*"))
     told_there = room.text("/v1/requests/ann/2")
     room.holds("the desk tells it", '"status":"granted"' in told_there, told_there)

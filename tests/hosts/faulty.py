@@ -12,7 +12,7 @@ from collections.abc import Callable, Iterator
 
 from pexpect import TIMEOUT
 
-from tests.common.replies import counted, of_a_host, reply
+from tests.common.replies import desk_of
 from tests.hosts.fetch import GOOD, MORE, begin, serving
 from tests.hosts.plugged import nothing_is_kept
 from tests.hosts.prompt import Terminal, line, sudos
@@ -189,7 +189,7 @@ def fetched_full(host: Host) -> None:
     with mounted(host, RUN, *SMALL):
         host.run("sh", "-c", FILL)
         for messages, text in ((1, MORE), (2, GOOD)):
-            with serving(host, of_a_host(reply(text), counted(messages))):
+            with serving(host, desk_of(text, messages)):
                 status, said = host.fetch()
             is_told = "/changed cannot be written: No space left on device" in said
             host.check("it is told of", is_told, said)

@@ -4,22 +4,19 @@ from __future__ import annotations
 
 import calendar
 import contextlib
-import json
 import os
 import random
 import re
-import time
 from collections.abc import Callable
 
 from steelnewt_host.lawful import unlawful
 from tests.common import desk
 from tests.common.random_policies import alias_policy
-from tests.common.replies import NO_ROUTE, Replies, counted, of_a_host, reply
+from tests.common.replies import NO_ROUTE, Replies, counted, desk_of, digest, of_a_host, reply
 from tests.hosts.root import CHANGED, FILE, STATE, Host
 
 GOOD = b"ann ALL = (root) /usr/bin/id\n"
 MORE = b"ann ALL = (root) /usr/bin/id\nbob ALL = (root) /usr/bin/id\n"
-OTHER_ROSTER, OTHER_BASE = "c" * 64, "d" * 64
 UNFIT = 3
 
 BOB = b"bob ALL = (root) ALL\n"
@@ -30,27 +27,29 @@ time.time = lambda: {}
 sys.argv[0] = "/usr/sbin/desk-host"
 runpy.run_path(sys.argv[0], run_name="__main__")
 """
+ODD_MOMENT = reply(b"T8 BadMoment\n", "400 Bad Request")
 # replies to the question for the file that a host must not take
+WHOLE = counted(BOB)
 REPLIES = {
     "a 201": reply(b"", "201 Created"),
-    "a 203": reply(BOB, "203 Non-Authoritative Information"),
+    "a 203": reply(WHOLE, "203 Non-Authoritative Information"),
     "a 204": b"HTTP/1.1 204 No Content\r\nConnection: close\r\n\r\n",
-    "a 206": reply(BOB, "206 Partial Content"),
+    "a 206": reply(WHOLE, "206 Partial Content"),
     "a 302": reply(b"", "302 Found", "Location: http://127.0.0.1:1/\r\n"),
     "a 304": b"HTTP/1.1 304 Not Modified\r\nConnection: close\r\n\r\n",
     "a 404 of a desk": NO_ROUTE,
     "a 503": reply(b"K5 NoMemory\n", "503 Service Unavailable"),
-    "a 200 without a length": reply(BOB).replace(b"Content-Length: 21\r\n", b""),
-    "a 200 that is cut": reply(BOB * 9)[:-60],
+    "a 200 without a length": re.sub(b"Content-Length: [0-9]+\r\n", b"", reply(WHOLE)),
+    "a 200 that is cut": reply(WHOLE + BOB * 9)[:-60],
     "an empty 200 without a length": b"HTTP/1.1 200 OK\r\nContent-Type: text/plain\r\n\r\n",
-    "a 200 with two lengths": reply(BOB, more="Content-Length: 21\r\n"),
+    "a 200 with two lengths": reply(WHOLE, more=f"Content-Length: {len(WHOLE)}\r\n"),
     "a 200 in chunks": b"HTTP/1.1 200 OK\r\nContent-Type: text/plain\r\nTransfer-Encoding: chunked"
-    b"\r\n\r\n15\r\n" + BOB + b"\r\n0\r\n\r\n",
-    "a 200 with an encoding": reply(BOB, more="Content-Encoding: gzip\r\n"),
-    "a page": reply(BOB).replace(b"text/plain", b"text/html"),
-    "a 200 without a type": reply(BOB).replace(b"Content-Type: text/plain\r\n", b""),
+    b"\r\n\r\n" + b"%x\r\n" % len(WHOLE) + WHOLE + b"\r\n0\r\n\r\n",
+    "a 200 with an encoding": reply(WHOLE, more="Content-Encoding: gzip\r\n"),
+    "a page": reply(WHOLE).replace(b"text/plain", b"text/html"),
+    "a 200 without a type": reply(WHOLE).replace(b"Content-Type: text/plain\r\n", b""),
     "no reply": b"",
-    "no HTTP": BOB,
+    "no HTTP": WHOLE,
 }
 # lines that no desk writes; sudo reads nearly all of them
 LINES = [
@@ -130,7 +129,7 @@ def old_sudo(host: Host) -> None:
     if host.is_fit:
         return
     begin(host)
-    with serving(host, of_a_host(reply(MORE), counted(1))) as server:
+    with serving(host, desk_of(MORE)) as server:
         status, said = host.fetch()
     is_named = "is too old (Sudo version 1.9.5p2): before 1.9.9 a user's TZ moves the dates" in said
     host.check("a sudo before 1.9.9", status == UNFIT and is_named, f"{status}: {said}")
@@ -144,7 +143,7 @@ def sudo_rs(host: Host) -> None:
     begin(host)
     for name in ("sudo", "visudo"):
         os.symlink(f"/usr/bin/{name}-rs", host.path(f"/usr/local/bin/{name}"))
-        with serving(host, of_a_host(reply(MORE), counted(1))) as server:
+        with serving(host, desk_of(MORE)) as server:
             status, said = host.fetch()
         is_named = f"/usr/local/bin/{name} is sudo-rs or unknown" in said
         host.check(f"{name} of sudo-rs", status == UNFIT and is_named, f"{status}: {said}")
@@ -157,26 +156,24 @@ def other_replies(host: Host) -> None:
     fetch asks a desk for each of them, and takes none."""
     if not host.is_fit:
         return
-    one = counted(1)
-    answers = {what: of_a_host(given, one) for what, given in REPLIES.items()}
+    answers = {what: of_a_host(given) for what, given in REPLIES.items()}
     for what, text in (
         ("a byte past ASCII", BOB + b"# \xc3\xbc\n"),
         ("a carriage return", BOB.replace(b"\n", b"\r\n")),
         ("a zero byte", BOB + b"\0"),
         ("no last newline", BOB[:-1]),
-        ("an alias that nobody defines", b"OPS ALL = (root) ALL\n"),
     ):
-        answers[what] = of_a_host(reply(text), one)
-    digests = b"a" * 64 + b" " + b"b" * 64
+        answers[what] = desk_of(text)
+    digests = b"a" * 64 + b" " + digest(b"").encode()
     for count in (b"", b"x", b"-1 " + digests, b"1  " + digests, b"1 " + digests, b"01 " + digests):
         end = b"" if count == b"1 " + digests else b"\n"
-        answers[f"a count {count[:9]!r}"] = of_a_host(reply(MORE), reply(count + end))
-    answers["a count that is cut"] = of_a_host(reply(MORE), one[:-9])
+        answers[f"a count {count[:9]!r}"] = of_a_host(reply(count + end + MORE))
+    answers["a count that is cut"] = of_a_host(reply(counted(MORE)[:99] + b"\n" + MORE))
     none_of(host, answers, "")
-    lines = {
-        f"a line {line}": of_a_host(reply(GOOD + line.encode() + b"\n"), one) for line in LINES
-    }
+    lines = {f"a line {line}": desk_of(GOOD + line.encode() + b"\n") for line in LINES}
     none_of(host, lines, "its file is none of a desk's: line 2 ")
+    no_alias = desk_of(b"OPS ALL = (root) ALL\n")
+    keeps(host, "an alias that nobody defines", no_alias, "visudo refuses it: ")
 
 
 def none_of(host: Host, answers: dict[str, Callable[[str], bytes]], says: str) -> None:
@@ -214,18 +211,21 @@ def takes(host: Host) -> None:
     if not host.is_fit:
         return
     begin(host)
-    with serving(host, of_a_host(reply(MORE), counted(1))) as server:
+    with serving(host, desk_of(MORE)) as server:
         status, said = host.fetch()
         seen = os.stat(host.path(FILE))
         is_right = (seen.st_mode & 0o7777, seen.st_uid, seen.st_gid) == (0o440, 0, 0)
         host.check("a file is taken", status == 0 and host.held() == MORE and not said, said)
         host.check("its mode and owner", is_right, str(seen))
-        host.check("the count comes first", server.asked[0] == "/v1/count", str(server.asked))
+        asked = [re.sub("[0-9]+Z", "MOMENT", it) for it in server.asked]
+        is_right = asked == ["/v1/hosts/db1/at/MOMENT", "/v1/history"]
+        host.check("of a state that is new, its past is asked", is_right, str(server.asked))
         os.chmod(host.path(FILE), 0o644)
         status, said = host.fetch()
         mode = os.stat(host.path(FILE)).st_mode & 0o7777
         host.check("a mode is set right", (status, mode) == (0, 0o440), f"{mode:o} {said}")
-        server.answer = of_a_host(reply(b""), counted(1))
+        host.check("and else one question is put", len(server.asked) == 3, str(server.asked))
+        server.answer = desk_of(b"")
         status, said = host.fetch()
         is_told = "loses all its 2 lines" in said
         host.check("an empty file is told of", status == 0 and is_told, f"{status}: {said}")
@@ -236,7 +236,7 @@ def ways_round(host: Host) -> None:
     """A symbolic link in the file's place, a folder of others, and what a killed fetch left."""
     if not host.is_fit:
         return
-    with serving(host, of_a_host(reply(MORE), counted(1))):
+    with serving(host, desk_of(MORE)):
         begin(host)
         host.write("/tmp/elsewhere", "as it was\n")
         host.drop("desk")
@@ -268,7 +268,7 @@ def aliases(host: Host) -> None:
     for own in ("aaa", "zzz"):
         begin(host)
         host.put(own, "User_Alias OPS = carl\nOPS ALL = (root) /usr/bin/env\n")
-        with serving(host, of_a_host(reply(base), counted(1))):
+        with serving(host, desk_of(base)):
             status, said = host.fetch()
         is_told = re.search('sudo refuses or reads .*"OPS".* (already|previously) defined', said)
         host.check(f"an alias of {own}", status == 1 and is_told is not None, f"{status}: {said}")
@@ -276,12 +276,12 @@ def aliases(host: Host) -> None:
         host.check("the old file is back", is_same and host.may("ann", "/usr/bin/id"), said)
         host.check("nobody gains", not host.may("carl", "/usr/bin/id"))
     host.drop("desk")
-    with serving(host, of_a_host(reply(base), counted(1))):
+    with serving(host, desk_of(base)):
         status, said = host.fetch()
     host.check("and where there was none", status == 1 and host.held() is None, said)
     begin(host)
     host.put("aaa", "bob ALL = (root\n")
-    with serving(host, of_a_host(reply(MORE), counted(1))):
+    with serving(host, desk_of(MORE)):
         status, said = host.fetch()
     is_told = "a fault that was there before" in said
     host.check("a fault of another file", status == 0 and is_told and host.held() == MORE, said)
@@ -302,83 +302,6 @@ def killing(host: Host):
         host.drop("/usr/local/sbin/visudo")
 
 
-def killed_then_behind(host: Host) -> None:
-    """A fetch that is killed once its file stands: the next one takes none that is older."""
-    if not host.is_fit:
-        return
-    begin(host)
-    with serving(host, of_a_host(reply(MORE), counted(4))):
-        status, said = host.fetch()
-    host.check("a first file", (status, host.held()) == (0, MORE), said)
-    with serving(host, of_a_host(reply(GOOD), counted(5))), killing(host):
-        status, said = host.fetch()
-    host.check("the next is killed", (status, host.held()) == (-9, GOOD), f"{status}: {said}")
-    with serving(host, of_a_host(reply(MORE), counted(4))):
-        status, said = host.fetch()
-    is_told = "it holds 4 messages, and this host's file is made of 5" in said
-    host.check("it does not go back", is_told and (status, host.held()) == (1, GOOD), said)
-
-
-def taken_meanwhile(host: Host) -> None:
-    """A desk that takes a revocation after it has said how far it is, and before it gives its file:
-    the file counts as made of all that it held then."""
-    if not host.is_fit:
-        return
-    begin(host)
-    with serving(host, lambda target: b"") as server:
-
-        def answer(target: str) -> bytes:
-            is_late = len(server.asked) > 1
-            return of_a_host(reply(GOOD), counted(5 if is_late else 4))(target)
-
-        server.answer = answer
-        status, said = host.fetch()
-    host.check("a file", (status, host.held()) == (0, GOOD), f"{status}: {said}")
-    with serving(host, of_a_host(reply(MORE), counted(4))):
-        status, said = host.fetch()
-    is_told = "it holds 4 messages, and this host's file is made of 5" in said
-    host.check("a desk without it", is_told and (status, host.held()) == (1, GOOD), said)
-    for what, roster, messages, says in (
-        ("another roster", OTHER_ROSTER, 9, "its roster or base changed while it was asked"),
-        ("fewer messages", "a" * 64, 6, "it holds fewer messages than a moment ago"),
-    ):
-        with serving(host, lambda target: b"") as server:
-
-            def turns(target: str, late: bytes = counted(messages, roster)) -> bytes:
-                count = late if len(server.asked) > 1 else counted(7)
-                return of_a_host(reply(MORE), count)(target)
-
-            server.answer = turns
-            status, said = host.fetch()
-        host.check(f"{what} meanwhile", says in said and (status, host.held()) == (1, GOOD), said)
-
-
-def furthest_first(host: Host) -> None:
-    """The desk that holds the most messages gives the file, in whatever order several desks stand;
-    a desk that does not answer is told of, and holds nobody up."""
-    if not host.is_fit:
-        return
-    begin(host)
-    with contextlib.ExitStack() as stack:
-        desks = [
-            stack.enter_context(Replies(of_a_host(reply(text), counted(messages))))
-            for text, messages in ((MORE, 4), (GOOD, 5), (MORE, 3))
-        ]
-        away = "http://127.0.0.1:1"
-        odd = "https://desk.example:99999"
-        host.conf(away, odd, *(it.url for it in desks))
-        status, said = host.fetch()
-        host.check("the furthest is taken", (status, host.held()) == (0, GOOD), said)
-        asked = [len(it.asked) for it in desks]
-        host.check("it alone is asked for its file", asked == [1, 3, 1], str(asked))
-        is_told = all(f"desk-host: {it}" in said for it in (away, odd))
-        host.check("what is away is told of", is_told and len(said.splitlines()) == 2, said)
-        desks[1].answer = of_a_host(NO_ROUTE, counted(5))
-        status, said = host.fetch()
-        is_told = "it holds 4 messages, and this host's file is made of 5" in said
-        host.check("the others bring nothing back", status == 1 and is_told, said)
-
-
 def killed(host: Host) -> None:
     """A fetch that is killed before it has asked visudo of everything: the next one does, though
     no desk answers. Both note that the rights are others, for prompts that are open."""
@@ -388,7 +311,7 @@ def killed(host: Host) -> None:
     begin(host)
     host.put("aaa", "User_Alias OPS = carl\nOPS ALL = (root) /usr/bin/env\n")
     host.drop(CHANGED)
-    with serving(host, of_a_host(reply(base), counted(1))), killing(host):
+    with serving(host, desk_of(base)), killing(host):
         status, said = host.fetch()
     host.check("it is killed in time", status == -9 and host.held() == base, f"{status}: {said}")
     host.check("it noted the change", os.path.exists(host.path(CHANGED)), said)
@@ -406,7 +329,7 @@ def far_date(host: Host) -> None:
         return
     begin(host)
     date = "Date: Mon, 01 Jan 99999999999 00:00:00 GMT\r\n"
-    with serving(host, of_a_host(reply(MORE, more=date), counted(1))):
+    with serving(host, of_a_host(reply(counted(MORE), more=date))):
         status, said = host.fetch()
     is_right = status == 0 and host.held() == MORE and not said
     host.check("a Date that is none", is_right, f"{status}: {said}")
@@ -418,14 +341,14 @@ def odd_clock(host: Host) -> None:
     if not host.is_fit:
         return
 
-    def file_of(path: str) -> bytes:
-        is_whole = path.endswith("/sudoers")
-        return reply(MORE) if is_whole else reply(b"T8 BadMoment\n", "400 Bad Request")
+    def answer(target: str) -> bytes:
+        is_whole = target.endswith("/at/19700101000000Z")
+        return of_a_host(reply(counted(MORE)) if is_whole else ODD_MOMENT)(target)
 
     for year in (1969, 2105):
         begin(host)
         clock = CLOCK.format(calendar.timegm((year, 6, 1, 12, 0, 0)))
-        with serving(host, lambda path: of_a_host(file_of(path), counted(1))(path)):
+        with serving(host, answer):
             ran = host.run("/usr/bin/python3", "-c", clock, "fetch", "db1")
         is_taken = ran.returncode == 0 and host.held() == MORE
         host.check(f"the file is taken in {year}", is_taken, ran.stdout)
@@ -433,95 +356,15 @@ def odd_clock(host: Host) -> None:
         host.check(f"the year {year} is told", is_told, ran.stdout)
 
 
-def record(host: Host) -> dict[str, object]:
-    return json.loads(host.read(f"{STATE}/db1.json"))
-
-
-def second_desks(host: Host) -> None:
-    """A desk that lags brings nothing back: not a revoked right, not a roster or a base that this
-    host has left."""
-    if not host.is_fit:
-        return
-    begin(host)
-    first = Replies(of_a_host(reply(GOOD), counted(5)))
-    with Replies(of_a_host(reply(MORE), counted(4))) as second:
-        host.conf(first.url, second.url)
-        status, said = host.fetch()
-        is_alone = second.asked == ["/v1/count"]
-        host.check("the first desk", status == 0 and is_alone, f"{status}: {said}")
-        mode = os.stat(host.path(f"{STATE}/db1.json")).st_mode & 0o7777
-        host.check("the record's mode", mode == 0o600, oct(mode))
-        first.__exit__()
-        lagging(host, second)
-        second.answer = of_a_host(reply(MORE), counted(5))
-        status, said = host.fetch()
-        host.check("once it has caught up", (status, host.held()) == (0, MORE), said)
-        new_roster(host, second)
-        damaged(host)
-
-
-def lagging(host: Host, second: Replies) -> None:
-    """The first desk is away, and the second is behind."""
-    status, said = host.fetch()
-    is_told = "it holds 4 messages, and this host's file is made of 5" in said
-    host.check("a desk that lags", status == 1 and is_told, f"{status}: {said}")
-    host.check("what was revoked stays away", host.held() == GOOD)
-    old = time.time() - 7200
-    os.utime(host.path(FILE), (old, old))
-    host.conf(second.url, BACK_AFTER="10000")
-    status, said = host.fetch()
-    host.check("within the operator's limit", (status, host.held()) == (1, GOOD), said)
-    host.conf(second.url, BACK_AFTER="3600")
-    for turn in ("first", "second"):
-        os.utime(host.path(FILE), (old, old))
-        status, said = host.fetch()
-        is_told = "It is taken, since this host's file is 72" in said
-        host.check(f"past it, the {turn} time", status == 0 and is_told, f"{status}: {said}")
-    status, said = host.fetch()
-    host.check("and then not at once", status == 1, f"{status}: {said}")
-    host.check("the record stays", record(host)["installed"][-1][0] == 5, str(record(host)))
-
-
-def new_roster(host: Host, desk: Replies) -> None:
-    """Another roster or base begins anew, and says so; one that was left is refused."""
-    for what, roster, base, messages, status, says in (
-        ("another base", "a" * 64, OTHER_BASE, 5, 0, "the base is another"),
-        ("a base that was left", "a" * 64, "b" * 64, 9, 1, "a base that this host has left"),
-        ("another base, that lags", "a" * 64, "e" * 64, 4, 1, "it holds 4 messages"),
-        ("another roster", OTHER_ROSTER, OTHER_BASE, 2, 0, "its count begins anew"),
-        ("that roster, behind", OTHER_ROSTER, OTHER_BASE, 1, 1, "it holds 1 messages"),
-        ("a roster that was left", "a" * 64, OTHER_BASE, 9, 1, "a roster that this host has left"),
-        ("the last again", OTHER_ROSTER, OTHER_BASE, 2, 0, ""),
-    ):
-        desk.answer = of_a_host(reply(MORE), counted(messages, roster, base))
-        ended, said = host.fetch()
-        host.check(what, ended == status and says in said, f"{ended}: {said}")
-
-
-def damaged(host: Host) -> None:
-    """A record that cannot be read is no empty one."""
-    before = host.held()
-    for text in ("", "{}", '{"installed": [[1]]}', "[]", "\xff"):
-        host.write(f"{STATE}/db1.json", text)
-        status, said = host.fetch()
-        is_told = "cannot read the record" in said
-        host.check(f"a record {text!r}", status == 1 and is_told and host.held() == before, said)
-    host.drop(f"{STATE}/db1.json")
-    os.chmod(host.path(STATE), 0o777)
-    status, said = host.fetch()
-    host.check("a record that others may write", status == 1, f"{status}: {said}")
-
-
 def uncounted(host: Host) -> None:
-    """A desk that is too old to say how many messages it holds."""
+    """A desk that is too old to say what its file is made of, and one that says another thing."""
     if not host.is_fit:
         return
-    keeps(host, "a desk without the route", of_a_host(reply(MORE)), "the desk is too old")
-    begin(host)
-    with serving(host, of_a_host(reply(MORE)), WITHOUT_COUNT="yes"):
-        status, said = host.fetch()
-    is_told = "as WITHOUT_COUNT says" in said
-    host.check("where it is allowed", status == 0 and is_told and host.held() == MORE, said)
+    keeps(host, "a desk without the route", lambda target: NO_ROUTE, "the desk is too old")
+    refused = of_a_host(reply(b"P2 NoHost\n", "404 Not Found"))
+    keeps(host, "a roster without the host", refused, "the desk's roster has no host db1")
+    other = counted(MORE).replace(digest(b"").encode(), digest(GOOD + GOOD).encode())
+    keeps(host, "another's count", of_a_host(reply(other)), "does not begin with the base that it")
 
 
 PARTS = (
@@ -533,11 +376,7 @@ PARTS = (
     ways_round,
     aliases,
     killed,
-    killed_then_behind,
-    taken_meanwhile,
-    furthest_first,
     far_date,
     odd_clock,
-    second_desks,
     uncounted,
 )

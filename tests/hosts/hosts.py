@@ -28,8 +28,8 @@ import time
 from collections.abc import Callable
 
 from tests.common import desk
-from tests.hosts import beside, checked, crowd, faulty, fetch, kept, plugged, prompt, sessions
-from tests.hosts import sudo, whole
+from tests.hosts import beside, checked, crowd, faulty, fetch, kept, newer, plugged, prompt
+from tests.hosts import sessions, sudo, whole
 from tests.hosts.root import HAS_PLUGIN, PLUGIN, TREE, Host, own_program
 from tests.packages.package_test import furnish
 
@@ -41,6 +41,7 @@ OWN = "this machine"
 PACKAGES = "sudo,python3,faketime,procps,tmux"
 PARTS = (
     *fetch.PARTS,
+    *newer.PARTS,
     *sudo.PARTS,
     *prompt.PARTS,
     *sessions.PARTS,
@@ -166,6 +167,12 @@ def tries_tables(is_short: bool) -> bool:
     return subprocess.run(words, cwd=desk.ROOT, check=False).returncode == 0
 
 
+def tries_lives(is_short: bool) -> bool:
+    """Whether no host goes back in random lives of desks and hosts."""
+    words = [sys.executable, "-m", "tests.hosts.lives", "12" if is_short else "300"]
+    return subprocess.run(words, cwd=desk.ROOT, check=False).returncode == 0
+
+
 def tries_systemd() -> bool:
     """Whether all is so under this machine's systemd too, in namespaces."""
     script = os.path.join(desk.ROOT, "tests", "hosts", "systemd.sh")
@@ -179,10 +186,11 @@ def tries_systemd() -> bool:
 
 def tried_once(is_short: bool, has_own: bool) -> list[str]:
     """What needs no root of its own, or those of it that ONLY names: what failed."""
-    only = os.environ.get("ONLY", "plugin tables systemd").split()
+    only = os.environ.get("ONLY", "plugin tables lives systemd").split()
     tries = {
         "plugin": lambda: tries_plugin(is_short),
         "tables": lambda: tries_tables(is_short),
+        "lives": lambda: tries_lives(is_short),
         "systemd": lambda: not has_own or tries_systemd(),
     }
     return [f"the {name}" for name, tries_it in tries.items() if name in only and not tries_it()]

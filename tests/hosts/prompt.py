@@ -12,7 +12,7 @@ from collections.abc import Sequence
 import pexpect
 
 from tests.common import desk
-from tests.common.replies import counted, of_a_host, reply
+from tests.common.replies import desk_of
 from tests.hosts.fetch import serving
 from tests.hosts.root import TREE, Host, within
 
@@ -197,7 +197,7 @@ def changed_meanwhile(host: Host) -> None:
     with Terminal(host, "ann") as terminal:
         terminal.send("sudo -k; sudo /usr/local/sbin/granted")
         asked = terminal.asks()
-        with serving(host, of_a_host(reply(line("ann", -1).encode()), counted(1)), PROMPT="60"):
+        with serving(host, desk_of(line("ann", -1).encode(), 1), PROMPT="60"):
             status, told = host.fetch()
         host.check("the revocation is fetched", status == 0, told)
         terminal.send("ann")

@@ -8,7 +8,7 @@ import re
 import time
 
 from tests.common import desk
-from tests.common.replies import counted, of_a_host, reply
+from tests.common.replies import desk_of
 from tests.hosts.fetch import GOOD, serving
 from tests.hosts.prompt import line
 from tests.hosts.root import FILE as FILE_OF_HOST
@@ -196,7 +196,7 @@ def narrow(host: Host) -> None:
         host.drop(STATE)
         os.mkdir(host.path(STATE))
         host.put("desk", GOOD)
-        with serving(host, of_a_host(reply(text.encode()), counted(1))):
+        with serving(host, desk_of(text.encode(), 1)):
             status, told = host.fetch()
         is_right = (status, host.held()) == ((0, text.encode()) if is_taken else (1, GOOD))
         host.check(f"a fetch of {moment}", is_right, f"{status} {told}")

@@ -168,7 +168,8 @@ def three_hosts(host: Mover) -> None:
     """The loops of the page."""
     if not host.has("/usr/sbin/sshd"):
         return  # (the other roots have no more than sudo)
-    host.sh(f"rm -rf {HOME} /root/before-desk && mkdir {HOME}")
+    # (of hosts that no desk had before)
+    host.sh(f"rm -rf {HOME} /root/before-desk /var/lib/desk-host/*.json && mkdir {HOME}")
     fleet, page = Fleet(host), commands()
     fleet.make()
     host.write(f"{HOME}/hosts", "".join(f"{name}\n" for name in HOSTS))

@@ -25,7 +25,7 @@ for deb in build/deb/*.deb; do
 done
 cd "$room/lib/systemd/system"
 # (the programs that the units start are those of the packages, but for the machine's `install`)
-sed -i "s,=/usr/\(bin\|libexec\|sbin\),=$room/usr/\1," ./*.service
+sed -i "s,=/usr/\(bin\|lib/nagios\|libexec\|sbin\),=$room/usr/\1," ./*.service
 sed -i "s,=$room\(/usr/bin/install \),=\1," ./*.service
 sed -i "/^Documentation=/d" ./*.service
 cp desk-fetch@.service desk-fetch@db1.service
@@ -33,9 +33,12 @@ cp desk-fetch@.timer desk-fetch@db1.timer
 cp desk-consume@.service desk-consume@a.service
 cp desk-end@.service desk-end@1.service
 cp desk-failed@.service desk-failed@a.service
-for unit in desk.service desk-fetch@db1.service desk-fetch@db1.timer desk-sessions.{service,timer} \
+cp desk-reserve@.service desk-reserve@a.service
+for unit in desk.service desk-reserve{.socket,@a.service} desk-watch.{service,timer} \
+    desk-fetch@db1.service desk-fetch@db1.timer desk-sessions.{service,timer} \
     desk-check.{service,timer} desk-starts.{service,path} desk-{end@1,failed@a}.service \
-    desk-relay-{post,page,notify}.service desk-door.service desk-consume@a.service; do
+    desk-relay-{post,page,notify}.service desk-door.service desk-consume@a.service \
+    desk-{backup,drill,follow}.service desk-{backup,drill}.timer; do
     status=0
     said=$(SYSTEMD_LOG_LEVEL=warning systemd-analyze verify --man=no "./$unit" 2>&1) || status=1
     # what the machine's own units say is not ours
@@ -43,8 +46,8 @@ for unit in desk.service desk-fetch@db1.service desk-fetch@db1.timer desk-sessio
     [ -z "$said" ] || { echo "$said"; status=1; }
     verdict "systemd-analyze verify $unit" $status
 done
-for unit in desk.service desk-fetch@db1.service desk-relay-{post,page,notify}.service \
-    desk-door.service desk-consume@a.service; do
+for unit in desk.service desk-reserve@a.service desk-fetch@db1.service \
+    desk-relay-{post,page,notify}.service desk-door.service desk-consume@a.service; do
     line=$(systemd-analyze security --offline=yes --no-pager "./$unit" | grep 'Overall exposure')
     echo "$line" | sed 's/[^ -~]//g; s/^ *//'
     figure=$(printf '%s\n' "$line" | sed 's/.*: \([0-9.]*\) .*/\1/')
@@ -52,7 +55,7 @@ for unit in desk.service desk-fetch@db1.service desk-relay-{post,page,notify}.se
     awk -v it="$figure" -v most="$MOST" 'BEGIN { exit !(it != "" && it + 0 <= most) }' || status=1
     verdict "systemd-analyze security $unit" $status
 done
-# `systemctl enable`, as docs/OPERATING.md has it, starts each with the machine
+# `systemctl enable`, as docs/TEAM.md has it, starts each with the machine
 wants=$room/etc/systemd/system
 status=0
 systemctl --root="$room" -q enable desk.service desk-fetch@db1.timer desk-consume@b || status=1

@@ -108,10 +108,12 @@ def used(trial: "Trial") -> None:
         trial.does("and by nobody", "setpriv", "--reuid", "nobody", "--regid", "nogroup",
                    "--clear-groups", *words, status=7)  # fmt: skip
         told, until = "", time.monotonic() + PATIENCE
-        while told.count('"disk full"') < 3 and time.monotonic() < until:
+        while told.count('"disk full"') < 2 and time.monotonic() < until:
             time.sleep(0.2)
             told = trial.run("cat", f"{FOLDER}/told").stdout
-        trial.check("they are told", told.count('"disk full"') == 3, told)
+        # (whoever approves is not told what they did)
+        kinds = re.findall(r'"event": "([a-z-]+)"', told)
+        trial.check("they are told", kinds == ["asked", "granted"], told)
         line = trial.run(*AS_RELAY, "desk-relay", "reasons").stdout
         trial.check("the evidence", '"why": "disk full"' in line, line)
     finally:

@@ -31,12 +31,12 @@ NEEDED = "adduser,ca-certificates,curl,faketime,haproxy,nginx-light,openssl,pyth
 NEEDED += ",python3-jsonschema,sqlite3,openssh-client,tzdata,python3-flask,python3-waitress"
 NEEDED += ",python3-pika,strace,sudo,systemd"
 DOC = "/usr/share/doc/steelnewt"
-TOOLS = ("desk-lint", "desk-import", "desk-used", "desk-roster")
+TOOLS = ("desk-lint", "desk-import", "desk-used", "desk-roster", "desk-standing")
 TOOLS += ("desk-change-roster", "desk-change-base")
 NAMES = ("steelnewt", "steelnewt-host", "steelnewt-host-plugin", "steelnewt-tools")
 NAMES += ("python3-steelnewt-client",)
 RELAY, BROKER = "steelnewt-relay", "steelnewt-broker"
-DOOR = ("steelnewt-door", "mydesk")
+DOOR = ("steelnewt-door", "steelnewt-backup", "mydesk")
 PATIENCE = 120  # the seconds after which something hangs
 STORE = "/var/lib/desk/desk.db"
 SOCKET = "unix:/run/desk/desk.sock"
@@ -141,7 +141,8 @@ def install(trial: Trial) -> None:
     )
     words = ["stat", "-c", "%U:%G %a", "/var/lib/desk-door"]
     trial.does("the door's folder", *words, says="^desk-door:desk-door 700$")
-    for name in ("desk-door", "desk-signer", "desk-verify", "mydesk"):
+    more = ("desk-backup", "desk-restore")
+    for name in ("desk-door", "desk-signer", "desk-verify", "mydesk", *more):
         trial.does(f"{name} --help", name, "--help", says=f"^usage: {name} ")
     trial.does(
         "the account's folder", "stat", "-c", "%U:%G %a", "/var/lib/desk", says="^desk:desk 700$"
@@ -290,6 +291,12 @@ def refused(trial: Trial, what: str, says: str, extra: dict[str, str] | None = N
 def child(trial: Trial, process: subprocess.Popen[str]) -> int:
     """The first child of a process."""
     return int(trial.read(f"/proc/{process.pid}/task/{process.pid}/children").split()[0])
+
+
+def family(trial: Trial, pid: int) -> list[int]:
+    """A process, and all below it."""
+    below = trial.read(f"/proc/{pid}/task/{pid}/children").split()
+    return [pid, *(it for each in below for it in family(trial, int(each)))]
 
 
 def traced(trial: Trial) -> None:
@@ -553,17 +560,19 @@ def through_the_front(trial: Trial) -> None:
     subprocess.run(["hostname", "db1"], check=True)
     os.makedirs(trial.path("/sys/fs/cgroup"), exist_ok=True)
     trial.does("control groups", "mount", "-t", "cgroup2", "none", "/sys/fs/cgroup")
+    says = "^DESK HOST OK - .*: 0 to mend [|]"
+    trial.does("desk-host check", "desk-host", "check", says=says)
+    settings = trial.path("/etc/sudoers.d/desk-defaults")
+    trial.run("mv", "/etc/sudoers.d/desk-defaults", "/etc/desk/desk-defaults")
     trial.does(
-        "desk-host check",
+        "and without sudo's settings",
         "desk-host",
         "check",
         status=1,
         says="^desk-host: sudo compares names without case.*\nDESK HOST WARNING - .*: 1 to mend: ",
     )
-    trial.run("cp", "/usr/share/doc/steelnewt-host/desk-defaults", "/etc/sudoers.d/desk-defaults")
-    trial.run("chmod", "0440", "/etc/sudoers.d/desk-defaults")
-    says = "^DESK HOST OK - .*: 0 to mend [|]"
-    trial.does("and with sudo's settings", "desk-host", "check", says=says)
+    trial.run("mv", "/etc/desk/desk-defaults", "/etc/sudoers.d/desk-defaults")
+    trial.check("their mode", os.stat(settings).st_mode & 0o777 == 0o440)
     subprocess.run(["hostname", name], check=True)
     said = by_curl(trial, "auditor-carol", f"/v1/grants/{DAY}093000Z")
     trial.check("an auditor reads", said == f"ann 7 db-care {DAY}091500Z {DAY}110000Z\n 200", said)
@@ -623,8 +632,9 @@ def while_it_is_down(trial: Trial) -> None:
     taken_over(trial, "stopped")
     killed = Service(trial)
     killed.wait_ready()
-    for pid in (child(trial, killed.process), killed.process.pid):
-        os.kill(pid, signal.SIGKILL)
+    for pid in family(trial, killed.process.pid):
+        with contextlib.suppress(ProcessLookupError):
+            os.kill(pid, signal.SIGKILL)
     killed.process.communicate(timeout=PATIENCE)
     stale = trial.path(SOCKET.removeprefix("unix:"))
     trial.check("a socket is left", os.path.exists(stale))
@@ -904,9 +914,9 @@ def purged(trial: Trial) -> None:
     trial.check("it says that the host's file stays", is_told and 0 < ends < len(rules), said)
     is_told = f"{other} stays" in said and " 1 of its 2 rules end by their dates" in said
     trial.check("and where the settings had it", is_told, said)
-    trial.check("and sudo's settings", "/etc/sudoers.d/desk-defaults stays" in said, said)
+    trial.check("and the host's key", "/etc/desk/host.key stays" in said, said)
     left = {it for it in os.listdir(trial.path("/etc/sudoers.d")) if it.startswith("desk")}
-    trial.check("what is left", left == {"desk", "desk-defaults", "desk.new.ours"}, str(left))
+    trial.check("what is left", left == {"desk", "desk.new.ours"}, str(left))
     pam = [trial.read(f"/etc/pam.d/common-{it}") for it in ("account", "session-noninteractive")]
     trial.check("the step of PAM is gone", not any("desk-host" in text for text in pam), str(pam))
     settings = trial.read("/etc/sudo.conf")

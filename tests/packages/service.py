@@ -122,6 +122,13 @@ def read_only(value: str) -> str:
     return f"{{ [ ! -e {path} ] || {{ {mount}; }}; }} && " if path != value else f"{mount} && "
 
 
+def writable(value: str) -> str:
+    """What lets a unit write to a path; one with a - before it may be missing."""
+    path = value.removeprefix("-")
+    mount = f"mount --rbind {path} {path}"
+    return f"{{ [ ! -e {path} ] || {mount}; }} && " if path != value else f"{mount} && "
+
+
 def start(
     root: str,
     name: str,
@@ -135,12 +142,12 @@ def start(
     settings = settings_of(root, name)
     held = environment(root, settings, instance) | (extra or {})
     load_credentials(root, settings, instance)
-    writable = [
+    places = [
         *more,
         *(f"/var/lib/{each}" for each in settings.get("StateDirectory", [])),
         *(it.removeprefix("-") for it in settings.get("ReadWritePaths", [])),
     ]
-    mounts = "".join(f"mount --rbind {each} {each} && " for each in writable)
+    mounts = "".join(map(writable, places))
     mounts += "".join(read_only(each) for each in settings.get("ReadOnlyPaths", []))
     bare = "mount -o remount,bind,ro / && mount -t tmpfs tmpfs /tmp && cd / && "
     groups = settings.get("SupplementaryGroups", [])

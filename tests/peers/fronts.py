@@ -112,6 +112,8 @@ ROUTES = [
     ("PUT", "/v1/relays/chat/messages", message(3), None),
     ("POST", "/v1/count", message(3), None),
     ("GET", "/v1/count/", None, None),
+    ("POST", "/v1/history", message(3), None),
+    ("GET", "/v1/history/", None, None),
     ("POST", "/v1/hosts/db1/sudoers", message(3), None),
     ("POST", "/v1/parked", message(3), None),
     ("DELETE", "/v1/parked", None, None),

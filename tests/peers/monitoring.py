@@ -38,8 +38,8 @@ def approval(at: int) -> str:
     return desk.approval(at=desk.stamp(at))
 
 
-def request(command: str) -> str:
-    first, last = desk.stamp(NOW - HOUR), desk.stamp(NOW + HOUR // 2)
+def request(command: str, at: int = NOW - HOUR) -> str:
+    first, last = desk.stamp(at), desk.stamp(at + HOUR + HOUR // 2)
     return desk.request(cmnds=[command], at=first, until=last, **{"from": first})
 
 
@@ -109,6 +109,22 @@ def desk_rows() -> list[tuple[str, str, str, list[str], int, str]]:
             "desk_parked=1 desk_parked_old=0",
         ),
         (
+            "a number that was given twice today",
+            calm,
+            base,
+            [*granted, request("/usr/local/sbin/")],
+            1,
+            "DESK WARNING - asked twice under one number: ann 7 |",
+        ),
+        (
+            "one that was given twice two days ago",
+            calm,
+            base,
+            [request("/usr/bin/id", NOW - 2 * DAY), request("/usr/local/sbin/", NOW - 2 * DAY)],
+            0,
+            "desk_messages=2",
+        ),
+        (
             "a needless grant",
             calm,
             base + "ann db1 = ALL\n",
@@ -162,6 +178,8 @@ def desks(folder: str) -> Iterator[tuple[str, bool, str]]:
             1,
             "WARNING - the store has ",
         )
+        bare = check("--desk", address.removeprefix("http://"), "--store", "-")
+        yield "as serve.conf has it", *is_said(bare, 0, "DESK OK |")
         yield "no store", *is_said(
             check("--desk", address, "--store", "/nowhere.db"), 2, "there is no /nowhere.db"
         )
@@ -354,36 +372,60 @@ def dated(ca: str, name: str, first: float, last: float) -> str:
     return os.path.join(ca, f"host-{name}.pem")
 
 
+def box_check(path: str, *words: str) -> tuple[int, str]:
+    """(the disk of this machine may be nearly full)"""
+    return check("--outbox", path, "--free-warning", "0", "--free-critical", "0", *words)
+
+
 def outboxes(folder: str) -> Iterator[Row]:
     """A relay's outbox, written by the relay's own program."""
     path = os.path.join(folder, "outbox.db")
     box = Outbox(path)
-    yield "nothing was sent", *is_said(check("--outbox", path), 0, "desk_outbox_waiting=0")
+    yield "nothing was sent", *is_said(box_check(path), 0, "desk_outbox_waiting=0")
     for no, age, status, says in (
         (1, 60, 0, "DESK OK | desk_outbox_waiting=1 desk_outbox_oldest_seconds=6"),
         (2, 400, 1, "2 messages wait in"),
         (3, 2 * HOUR, 2, "DESK CRITICAL - 3 messages wait in"),
     ):
         box.keep_verdict(Verdict("bob", "approve", "ann", no, desk.stamp(time.time() - age)))
-        yield f"one waits for {age} s", *is_said(check("--outbox", path), status, says)
+        yield f"one waits for {age} s", *is_said(box_check(path), status, says)
     limits = ("--waits-warning", "9000", "--waits-critical", "9000")
-    yield "other limits", *is_said(check("--outbox", path, *limits), 0, "DESK OK")
+    yield "other limits", *is_said(box_check(path, *limits), 0, "DESK OK")
     for kept in box.unposted()[1:]:
         box.answered(kept.id, "acked" if kept.id == 2 else "refused")
-    yield "these were answered", *is_said(check("--outbox", path), 0, "desk_outbox_waiting=1 ")
+    yield "these were answered", *is_said(box_check(path), 0, "desk_outbox_waiting=1 ")
     box.keep_verdict(Verdict("bob", "approve", "ann", 9, desk.stamp(time.time() + DAY)))
     box.answered(1, "acked")
-    yield "one of tomorrow", *is_said(check("--outbox", path), 2, "it has a message from the fut")
+    yield "one of tomorrow", *is_said(box_check(path), 2, "it has a message from the fut")
     box.answered(4, "acked")
+    os.rename(f"{folder}/reserve", f"{folder}/given-up")
+    given_up = box_check(path)
+    yield "its reserve is given up", *is_said(given_up, 2, "refusals and revocations alone are")
+    os.rename(f"{folder}/given-up", f"{folder}/reserve")
+    full = check("--outbox", path, "--free-warning", "100", "--free-critical", "0")
+    yield "its disk", *is_said(full, 1, "% of the outbox's disk are free")
     box.close()
-    yield "nobody has it open", *is_said(check("--outbox", path), 0, "desk_outbox_waiting=0")
+    yield "nobody has it open", *is_said(box_check(path), 0, "desk_outbox_waiting=0")
     box.base = sqlite3.connect(path)
     box.base.execute("INSERT INTO messages VALUES (9, '{}', '', '', '', 1, '', 'kept', '')")
     box.base.commit()
-    yield "a message without its moment", *is_said(check("--outbox", path), 2, "cannot look at")
+    yield "a message without its moment", *is_said(box_check(path), 2, "cannot look at")
     box.base.execute("DROP TABLE messages")
     box.close()
-    yield "another database", *is_said(check("--outbox", path), 2, "no such table: messages")
+    yield "another database", *is_said(box_check(path), 2, "no such table: messages")
+
+
+def programs(folder: str) -> Iterator[Row]:
+    """Whether the program is proved, by its own word."""
+    for said, status, says in (
+        ("desk 1.0\\nproved with rattle logic 1\\n", 0, "DESK OK | desk_proved=1"),
+        ("desk 1.0\\nNOT PROVED: rattle logic 1\\n", 1, "is NOT PROVED: it is for trials |"),
+        ("", 2, "it says no version of a desk"),
+    ):
+        path = desk.write(folder, "program", f"#!/bin/sh\nprintf '{said}'\n")
+        os.chmod(path, 0o755)
+        yield f"a program that says {said!r}", *is_said(check("--program", path), status, says)
+    yield "no program", *is_said(check("--program", "/nowhere/it"), 2, "there is no /nowhere/it")
 
 
 def fronts(folder: str) -> Iterator[Row]:
@@ -501,6 +543,7 @@ PARTS = (
     ends,
     fronts,
     outboxes,
+    programs,
     disks,
     unreadable,
     pages,

@@ -95,6 +95,11 @@ ASKED: list[tuple[list[str | bytes], tuple[str, bytes]]] = [
     (["/v1/count?x"], ("400 Bad Request", b"T2 BadTarget\n")),
     (["-X", "DELETE", "/v1/count"], ("405 Method Not Allowed", b"T4 BadMethod\n")),
     ([*post("chat", APPROVAL)[:-1], "/v1/count"], ("405 Method Not Allowed", b"T4 BadMethod\n")),
+    (["/v1/history"], ("404 Not Found", b"T3 NoRoute\n")),
+    (["/v1/history/"], ("404 Not Found", b"T3 NoRoute\n")),
+    (["/v1/history?x"], ("400 Bad Request", b"T2 BadTarget\n")),
+    (["-X", "DELETE", "/v1/history"], ("405 Method Not Allowed", b"T4 BadMethod\n")),
+    ([*post("chat", APPROVAL)[:-1], "/v1/history"], ("405 Method Not Allowed", b"T4 BadMethod\n")),
     (["--head", "/v1/requests"], ("200 OK", b"")),
     (["--head", "/v1/requests/after/20260105110000Z"], ("200 OK", b"")),
     (["--head", "/v1/requests/ann/7"], ("200 OK", b"")),
@@ -405,21 +410,42 @@ def by_bytes(address: str, given: bytes, one_at_a_time: bool = False) -> bytes:
         return whole
 
 
+def sum_of(path: str) -> str:
+    with open(path, "rb") as file:
+        return hashlib.sha256(file.read()).hexdigest()
+
+
+def history(rosters: Sequence[str], base: str) -> str:
+    """The text of a history in which these rosters were served one after the other."""
+    given = [*desk.named(), "check", base]
+    canonical = subprocess.run(given, capture_output=True, check=True).stdout
+    last = hashlib.sha256(canonical).hexdigest()
+    lines = (f"2026010{at}000000Z {sum_of(it)} {last}\n" for at, it in enumerate(rosters, 1))
+    return "".join(lines)
+
+
 @contextlib.contextmanager
-def serving(roster: str, base: str, requests: int | None = None) -> Iterator[str]:
-    """A server's address; behind it, the server has ended: by itself after so many connections, or
-    by SIGTERM."""
+def serving(
+    roster: str, base: str, requests: int | None = None, past: Sequence[str] = ()
+) -> Iterator[str]:
+    """The address of a server, whose site had those rosters before; behind it, the server has
+    ended: by itself after so many connections, or by SIGTERM."""
     more = [] if requests is None else ["--requests", str(requests)]
-    with tempfile.TemporaryFile("w+") as said:
+    with tempfile.TemporaryFile("w+") as said, tempfile.TemporaryDirectory() as folder:
+        told = desk.write(folder, "moments", history([*past, roster], base))
         with desk.Server(
-            "-", *more, program=desk.named(), roster=roster, base=base, stderr=said
+            *("-", *more),
+            program=desk.named(),
+            roster=roster,
+            base=base,
+            stderr=said,
+            environment=os.environ | ({"DESK_HISTORY": told} if past else {}),
         ) as server:
             yield server.address
             status = server.end() if requests is None else server.wait()
         said.seek(0)
         warned, begun, *lines = said.read().splitlines()
-        with open(roster, "rb") as file:
-            digest = hashlib.sha256(file.read()).hexdigest()
+        digest = sum_of(roster)
         last = lines[-1:] if requests else ["ended: all connections that were asked for are served"]
         is_right = (
             re.fullmatch(desk.EVERY_ACCOUNT, warned) is not None
@@ -796,16 +822,16 @@ def ask_later_files(address: str) -> Counts:
     return 2 * len(rows), wrong
 
 
-def fetch(words: Sequence[str], file: str) -> tuple[int, str]:
-    """The status of examples/fetch-sudoers.sh, and what it says, on a host that has no record."""
-    with tempfile.TemporaryDirectory() as state:
-        ran = subprocess.run(
-            ["sh", FETCH, "--state", state, *words, file],
-            stdout=subprocess.PIPE,
-            stderr=subprocess.STDOUT,
-            check=False,
-            env=dict(os.environ, PATH=desk.PATH, LC_ALL="C"),
-        )
+def fetch(words: Sequence[str], file: str, state: str) -> tuple[int, str]:
+    """The status of examples/fetch-sudoers.sh, and what it says, on a host that keeps its record in
+    that folder."""
+    ran = subprocess.run(
+        ["sh", FETCH, "--state", state, *words, file],
+        stdout=subprocess.PIPE,
+        stderr=subprocess.STDOUT,
+        check=False,
+        env=dict(os.environ, PATH=desk.PATH, LC_ALL="C"),
+    )
     return ran.returncode, ran.stdout.decode()
 
 
@@ -830,22 +856,21 @@ def grant_now(address: str) -> bytes:
     return LINE.replace(b"20260105090000Z", first).replace(b"20260105110000Z", last)
 
 
-def strangers(line: bytes) -> dict[str, Callable[[str], bytes]]:
-    """What servers that are no desk give, by their names."""
-    count, whole = replies.counted(2), replies.reply(line)
-    dated = replies.reply(line, more="Date: Mon, 05 Jan 2026 09:00:00 GMT\r\n")
-    no_alias = replies.reply(line.replace(b"ann", b"OPS", 1))
-    no_moment = replies.reply(re.sub(rb"NOTAFTER=[0-9]{6}", b"NOTAFTER=202613", line))
-    old = replies.of_a_host(whole, count)
-    return {
-        "odd": replies.of_a_host(replies.reply(b"ann db1 = (\n"), count),
-        "bad": replies.of_a_host(no_alias, count),
-        "late": replies.of_a_host(no_moment, count),
-        "cut": replies.of_a_host(replies.reply(line * 9)[:-60], count),
-        "old": lambda target: replies.NO_ROUTE if target.endswith("Z") else old(target),
-        "uncounted": replies.of_a_host(whole),
-        "dated": replies.of_a_host(dated, count),
+def strangers(whole: bytes, line: bytes) -> dict[str, Callable[[str], bytes]]:
+    """What servers that are no desk give, by their names: they change a desk's whole answer, which
+    ends with that line."""
+    no_alias = line.replace(b"ann", b"OPS", 1)
+    no_moment = re.sub(rb"NOTAFTER=[0-9]{6}", b"NOTAFTER=202613", line)
+    date = "Date: Mon, 05 Jan 2026 09:00:00 GMT\r\n"
+    given = {
+        "odd": replies.reply(whole + b"ann db1 = (\n"),
+        "bad": replies.reply(whole.replace(line, no_alias)),
+        "late": replies.reply(whole.replace(line, no_moment)),
+        "cut": replies.reply(whole + line * 9)[:-60],
+        "uncounted": replies.NO_ROUTE,
+        "dated": replies.reply(whole, more=date),
     }
+    return {name: replies.of_a_host(answer) for name, answer in given.items()}
 
 
 # What fetch-sudoers.sh is given, its status, and a part of what it says; None is silence. DESK is
@@ -853,20 +878,18 @@ def strangers(line: bytes) -> dict[str, Callable[[str], bytes]]:
 FETCHES: list[tuple[str, str, int, str | None]] = [
     ("a host's file", "DESK db1", 0, None),
     ("the same again", "DESK db1", 0, None),
-    ("a desk without the file after a moment", "old db1", 0, None),
     ("a host that the roster lacks", "DESK db9", 1, "the desk's roster has no host db9"),
-    ("what is no sudoers file", "odd db1", 1, "line 1 is none that a desk writes: ann db1 = ("),
+    ("what is no sudoers file", "odd db1", 1, "is none that a desk writes: ann db1 = ("),
     ("what visudo refuses", "bad db1", 1, "visudo refuses it: "),
-    ("and its place", "bad db1", 1, "/desk:1:"),
-    ("a thirteenth month", "late db1", 1, "line 1 has a moment that is none: 202613"),
+    ("and its place", "bad db1", 1, "/desk:"),
+    ("a thirteenth month", "late db1", 1, "has a moment that is none: 202613"),
     ("a file that is cut short", "cut db1", 1, "its 200 was cut short"),
     ("no server", "NOBODY db1", 1, "NOBODY: [Errno 111] Connection refused"),
     ("no server, then a desk", "NOBODY DESK db1", 0, "NOBODY: [Errno 111] Connection refused"),
     ("what is no sudoers file, then a desk", "odd DESK db1", 0, "none that a desk writes"),
     ("a desk, then none", "DESK NOBODY db1", 0, "NOBODY: [Errno 111] Connection refused"),
     ("none twice", "NOBODY NOBODY db1", 1, "no desk gave a file for db1 that can be taken"),
-    ("a desk that is too old", "uncounted db1", 1, "how many messages it holds: the desk is too"),
-    ("where that is allowed", "--without-count uncounted db1", 0, "as WITHOUT_COUNT says"),
+    ("a desk that is too old", "uncounted db1", 1, "what its file is made of: the desk is too old"),
     ("a clock that differs", "dated db1", 0, "seconds from that of http://127.0.0.1:"),
     ("the file again", "DESK db1", 0, None),
     ("no certificate", "--cert /no.pem DESK db1", 1, "cannot read the certificate /no.pem"),
@@ -883,15 +906,17 @@ def fetch_files(address: str) -> Counts:
     and leaves nothing else."""
     line, wrong = grant_now(address), 0
     with contextlib.ExitStack() as stack:
-        folder = stack.enter_context(tempfile.TemporaryDirectory())
-        servers = {name: replies.Replies(it) for name, it in strangers(line).items()}
+        folder, state = (stack.enter_context(tempfile.TemporaryDirectory()) for _ in range(2))
+        said = by_curl(address, [f"/v1/hosts/db1/at/{stamp(-1).decode()}"])
+        whole = said.partition(b"\r\n\r\n")[2]
+        servers = {name: replies.Replies(it) for name, it in strangers(whole, line).items()}
         urls = {name: stack.enter_context(it).url for name, it in servers.items()}
         urls |= {"DESK": f"http://{address}", "NOBODY": "http://127.0.0.1:1"}
         file = os.path.join(folder, "desk")
         for what, words, status, says in FETCHES:
             if os.path.exists(file):
                 os.utime(file, (0, 0))
-            ended, said = fetch([urls.get(word, word) for word in words.split()], file)
+            ended, said = fetch([urls.get(word, word) for word in words.split()], file, state)
             with open(file, "rb") as found:
                 text = found.read()
                 is_right = (
@@ -920,7 +945,7 @@ def long_history() -> Counts:
                 by_bytes(address, desk.posted(b"chat", body.encode()))
         whole = by_curl(address, ["/v1/hosts/db1/sudoers"])
         wrong += not check("a long history", whole, ("503 Service Unavailable", TOO_MANY))
-        file = os.path.join(folder, "desk")
+        file, state = (os.path.join(folder, it) for it in ("desk", "state"))
         last = desk.stamp(time.time() + HOUR)
         asked = desk.request(OLD, **window_until(last))
         approved = desk.approval(OLD, at=stamp(-2).decode())
@@ -929,7 +954,7 @@ def long_history() -> Counts:
         rows = ((asked, []), (approved, [last]), (revoked, [desk.stamp(at - 1)]))
         for body, ends in rows:
             by_bytes(address, desk.posted(b"chat", body.encode()))
-            ended, said = fetch([f"http://{address}", "db1"], file)
+            ended, said = fetch([f"http://{address}", "db1"], file, state)
             text = open(file, "rb").read() if ended == 0 else said.encode()
             lines = re.findall(rb"^ann db1 .* NOTAFTER=(\d+Z) /usr/bin/id$", text, re.MULTILINE)
             # (a revocation ends it a second before)
@@ -940,13 +965,65 @@ def long_history() -> Counts:
     return 4, wrong
 
 
+def between_desks() -> Counts:
+    """A host that is told of two desks, of which one lacks a revocation, and then of two with
+    another roster: it never goes back, and says how the one is accepted of which it cannot know
+    that it is newer."""
+    with contextlib.ExitStack() as stack:
+        folder = stack.enter_context(tempfile.TemporaryDirectory())
+        other = desk.write(folder, "other.toml", desk.read(desk.ROSTER) + "# another\n")
+        newer = desk.write(folder, "newer.toml", desk.read(desk.ROSTER) + "# a newer one\n")
+        sites = ((desk.ROSTER, []), (desk.ROSTER, []), (other, []), (newer, [desk.ROSTER]))
+        desks = [stack.enter_context(serving(it, desk.BASE, past=past)) for it, past in sites]
+        asked = desk.request(OLD, **window_until(desk.stamp(time.time() + HOUR)))
+        approved = desk.approval(OLD, at=stamp(-2).decode())
+        revoked = desk.approval(OLD, kind="revoke", at=desk.stamp(time.time() - HOUR * 2))
+        for address in desks:
+            knows = (revoked,) if address in (desks[0], desks[3]) else ()
+            for body in (asked, approved, *knows):
+                by_bytes(address, desk.posted(b"chat", body.encode()))
+        wrong = sum(not it for it in steps_between(folder, [f"http://{it}" for it in desks]))
+    return 9, wrong
+
+
+def steps_between(folder: str, desks: Sequence[str]) -> Iterator[bool]:
+    """Whether each fetch between these desks ends as it should."""
+    file, state = (os.path.join(folder, it) for it in ("desk", "state"))
+    right, lags, other, newer = desks
+    said = ""
+    for what, asked, status, has_line, says in (
+        ("the one that lags", [lags], 0, True, ""),
+        ("both", [lags, right], 0, False, ""),
+        ("then the one that lags", [lags], 1, False, "and this host's file is made of 3"),
+        ("another roster", [other], 1, False, "desk-host accept db1 "),
+        ("a roster that has left this one", [newer, other], 4, False, "desk-host accept db1 "),
+        ("the roster that was left", [right], 1, False, "a roster that this host has left"),
+        ("the newer one again", [newer], 0, False, ""),
+        ("that other one again", [other], 1, False, "desk-host accept db1 "),
+        ("that roster, accepted", [other], 0, True, ""),
+    ):
+        if what == "that roster, accepted":
+            conf = desk.write(folder, "fetch.conf", f"STATE={state}\n")
+            program = os.path.join(desk.ROOT, "packaging", "desk-host")
+            words = re.findall("desk-host (accept) (db1) ([0-9a-f]{64}) ([0-9a-f]{64})", said)
+            ran = subprocess.run([program, *words[0], "--conf", conf], check=False)
+            status = status or ran.returncode
+        ended, said = fetch([*asked, "db1"], file, state)
+        with open(file, "rb") as found:
+            has = b" /usr/bin/id\n" in found.read().rpartition(b"ann db1 ")[2]
+        is_right = ended == status and has == has_line and says in said
+        if not is_right:
+            print(f"between desks, {what}: {ended}, {has}: {said}")
+        yield is_right
+
+
 def window_until(last: str) -> dict[str, str]:
     """The moments of a request that is in force now, until that one."""
     return {"at": stamp(-3).decode(), "from": stamp(-1).decode(), "until": last}
 
 
 def main() -> None:
-    counts = [ask_exactly(), ask_reports(), long_history()]
+    counts = [ask_exactly(), ask_reports(), long_history(), between_desks()]
     with serving(desk.ROSTER, desk.BASE) as address:
         for part in (
             ask_all,

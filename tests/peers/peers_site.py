@@ -527,20 +527,59 @@ def reloads(count: Count, words: list[str], folder: str) -> None:
         count.same("it ends as before", served.end(), 0)
 
 
+def strange(served: Served) -> list[str]:
+    """Lines of the log that something else wrote."""
+    return [it for it in served.said().splitlines() if not it.startswith("desk: ")][:3]
+
+
 def reloads_early(count: Count, words: list[str], folder: str) -> None:
-    """SIGHUP before the desk is opened ends nothing: it is opened over what is there then, and its
-    history has that."""
+    """A flood of SIGHUP before the desk is opened ends nothing, and no shell complains of it: it is
+    opened over what is there then, and its history has that."""
+    chance, until = random.Random(7), time.monotonic() + PATIENCE
     with site_of(words, folder) as served:
         served.start()
         begun = comes(lambda: "starting over" in served.said(), PATIENCE) is not None
         count.holds("it begins", begun, served.said())
-        for _ in range(5):
+        while "serving" not in served.said() and time.monotonic() < until:
             served.hang_up()
-            time.sleep(0.02)
+            time.sleep(chance.uniform(0, 0.003))
         count.holds("it serves", comes(served.file, PATIENCE) is not None, served.said())
+        count.same("lines that are none of desk-serve's", strange(served), [])
         lines = desk.read(os.path.dirname(served.store), "history", "moments").splitlines()
         wanted = [digest_of(desk.read("examples", "roster.toml"))]
         count.same("the history", [it.split(" ")[1] for it in lines], wanted)
+        count.same("it ends as before", served.end(), 0)
+
+
+FLOOD = int(os.environ.get("FLOOD", "100"))  # how often a signal follows another one
+LOOK = 0.03  # seconds: so much later at most, while the files are looked at
+LOST = 5.0  # seconds: what is not told then is asked for once more
+
+
+def floods(count: Count, words: list[str], folder: str) -> None:
+    """Whenever a signal comes, also while a look at the files is under way, one follows: the log
+    says which of them cannot be read now."""
+    chance, lost = random.Random(FLOOD), list[int]()
+    with site_of(words, folder) as served:
+        served.start()
+        count.holds("it serves", comes(served.file, PATIENCE) is not None, served.said())
+        old, gone, there = served.file(), served.base, served.roster
+        os.rename(gone, f"{gone}.away")
+        for number in range(FLOOD):
+            served.hang_up()
+            time.sleep(chance.uniform(0, LOOK))
+            gone, there = there, gone
+            begun, told = len(served.said()), f"F1 FileFailed: cannot read {gone}: "
+            os.rename(gone, f"{gone}.away")
+            os.rename(f"{there}.away", there)
+            served.hang_up()
+            if comes(lambda at=begun, it=told: it in served.said()[at:], LOST) is None:
+                lost.append(number)
+                served.hang_up()
+                comes(lambda at=begun, it=told: it in served.said()[at:], PATIENCE)
+        count.same(f"lost signals, of {2 * FLOOD}", lost, [])
+        count.same("the old files are served", served.file(), old)
+        count.same("lines that are none of desk-serve's", strange(served), [])
         count.same("it ends as before", served.end(), 0)
 
 
@@ -833,6 +872,7 @@ PARTS = (
     struck_out,
     reloads,
     reloads_early,
+    floods,
     takes_rosters,
     takes_both,
     asks_meanwhile,

@@ -154,7 +154,7 @@ class Load:
 def heals(count: Count, title: str, service: Service, acked: list[str], number: int) -> None:
     """The desk answers again in time, without a person, and has all that it acknowledged."""
     body = desk.approval(number)
-    with Machine(service.process.pid, *children(service.process.pid)) as machine:
+    with Machine(service.process.pid, *below(service.process.pid)) as machine:
         took = comes(lambda: service.post(body), MOST, machine)
     count.holds(f"{title}: posts are taken again in {MOST:.0f} s", took is not None, service.last())
     listed = service.ask(LISTED)
@@ -163,12 +163,23 @@ def heals(count: Count, title: str, service: Service, acked: list[str], number: 
     count.holds(f"{title}: what was acknowledged", is_whole, listed[:80])
 
 
-def children(process: int) -> list[int]:
-    """The processes that this one has started, and that are there."""
+def below(process: int) -> list[int]:
+    """The processes that this one has started, those that they have, and so on."""
     with contextlib.suppress(OSError):
         with open(f"/proc/{process}/task/{process}/children", encoding="ascii") as file:
-            return [int(word) for word in file.read().split()]
+            children = [int(word) for word in file.read().split()]
+        return [it for child in children for it in (child, *below(child))]
     return []
+
+
+def desks(process: int) -> list[int]:
+    """The desks that serve below this process."""
+    found = []
+    for each in below(process):
+        with contextlib.suppress(OSError), open(f"/proc/{each}/cmdline", "rb") as file:
+            if b"serve" in file.read().split(b"\0"):
+                found.append(each)
+    return found
 
 
 def begin(count: Count, service: Service) -> str:
@@ -208,7 +219,7 @@ def shut(count: Count, service: Service) -> None:
     for place in range(1, 25):
         service.plan.set(CALLS, place)
         service.post(desk.approval(100 + place))
-        with Machine(service.process.pid, *children(service.process.pid)) as machine:
+        with Machine(service.process.pid, *below(service.process.pid)) as machine:
             is_shut = comes(lambda: "it is opened again in " in service.said(), LASTS, machine)
         if is_shut is not None:
             return
@@ -296,9 +307,9 @@ def killed(count: Count, words: list[str], step: int) -> None:
                 service.process.send_signal(signal.SIGHUP)
                 comes(lambda at=begun: ORDER in service.said()[at:], PATIENCE)
                 time.sleep(number / 1000)
-                for child in children(service.process.pid):
+                for serving_desk in desks(service.process.pid):
                     with contextlib.suppress(ProcessLookupError):
-                        os.kill(child, signal.SIGKILL)
+                        os.kill(serving_desk, signal.SIGKILL)
                 title = f"killed {number} ms after an order"
                 count.same(title, service.process.wait(PATIENCE), 128 + signal.SIGKILL)
                 service.process = service.started()

@@ -32,6 +32,7 @@ PIECES = [
     *(b"Content-Length: 0000000070\r\n", b"Transfer-Encoding: chunked\r\n", b"X: y\r\n" * 31),
     *("é".encode(), b"web", b"db1", b"db9", b"20260105093000Z", b"sudoers", b"messages", b"parked"),
     b"count",
+    b"history",
 ]
 REPLY = re.compile(
     rb"HTTP/1\.1 ([0-9]{3} [A-Za-z ]+)\r\nContent-Type: text/plain\r\n(?:Allow: ([A-Z, ]+)\r\n)?"

@@ -8,14 +8,17 @@ import pwd
 import re
 import sys
 import time
+from contextlib import nullcontext
 
 from desk_tools import base_words, change, changes, desks, evidence, lint, renaming
 from desk_tools import roster_words, served
+from desk_tools.adding import added
 from desk_tools.change import Compared, Desk, Halfway
 from desk_tools.desks import Machines
 from desk_tools.found import Parser, visible
 from desk_tools.history import Line
 from desk_tools.judge import NoDesk, program
+from desk_tools.roster_text import CannotEdit
 from desk_tools.schema import NoJsonschema
 from desk_tools.served import Failed
 from steelnewt_client.moments import stamp_of
@@ -40,7 +43,7 @@ def parser(kind: str) -> argparse.ArgumentParser:
         epilog=f"Exit status: 0 the desk has the {kind}, 1 nothing was changed, 2 it is refused"
         " or failed and all is as before, 3 it is not known yet, or not on each desk: run it again.",
     )
-    found.add_argument(kind, metavar=f"NEW_{kind.upper()}", help=f"the new {kind}; - is the input")
+    add_new(found, kind)
     found.add_argument("--yes", action="store_true", help="ask nobody")
     if kind == "roster":
         said = "with --yes: also where rights come back that were taken away"
@@ -58,6 +61,17 @@ def parser(kind: str) -> argparse.ArgumentParser:
     said = "the command that reaches them (ssh)"
     found.add_argument("--ssh", default="ssh -o BatchMode=yes", metavar="COMMAND", help=said)
     return found
+
+
+def add_new(found: argparse.ArgumentParser, kind: str) -> None:
+    """What is to be served: a file, or what a roster lacks of one."""
+    said = f"the new {kind}; - is the input"
+    if kind == "base":
+        found.add_argument(kind, metavar="NEW_BASE", help=said)
+        return
+    found.add_argument(kind, metavar="NEW_ROSTER", nargs="?", help=said)
+    said = "the new roster is the old one with what it lacks of this file's entries"
+    found.add_argument("--add", metavar="FILE", help=said)
 
 
 def add_reasons(found: argparse.ArgumentParser) -> None:
@@ -94,6 +108,18 @@ def text_of(path: str) -> bytes:
     return text
 
 
+def new_text(said: argparse.Namespace, kind: str) -> bytes:
+    """What is to be served: a file's text, or the old roster's with what it lacks of a file's."""
+    path = getattr(said, kind)
+    if path is not None:
+        return text_of(path)
+    old, more = text_of(served.settings(said.conf).roster), text_of(said.add)
+    try:
+        return added(old.decode("utf-8"), more.decode("utf-8"), said.add).encode("utf-8")
+    except (CannotEdit, UnicodeDecodeError) as fault:
+        raise Failed(str(fault)) from None
+
+
 def checked(name: str, text: bytes) -> None:
     """A roster's text, by desk-lint: faults end it, and warnings are shown."""
     looked = lint.look_at_roster(name, text, time.strftime("%Y%m%d", time.gmtime()))
@@ -124,7 +150,7 @@ def agreed(said: argparse.Namespace, kind: str, is_back: bool) -> bool:
         return False
     if said.yes:
         return True
-    if getattr(said, kind) == "-":
+    if "-" in (getattr(said, kind), getattr(said, "add", None)):
         raise Failed(f"the new {kind} is the input, so nobody is asked: add --yes")
     asks = f"Rights come back. Change the {kind}" if is_back else f"Change the {kind}"
     print(f"{asks}? [y/N] ", end="", flush=True)
@@ -178,7 +204,7 @@ def told(desk: Desk, line: Line, kind: str) -> int:
 
 def on_each(said: argparse.Namespace, kind: str) -> int:
     """On each of several desks: what it changes is shown there, and somebody is asked here."""
-    there = Machines(said, kind, reasons(said), text_of(getattr(said, kind)))
+    there = Machines(said, kind, reasons(said), new_text(said, kind))
     found = there.ask_all()
     for name, it in found.items():
         desks.show(name, it)
@@ -201,17 +227,15 @@ CHANGED = {"roster": changed_roster, "base": changed_base}
 
 def followed(said: argparse.Namespace, kind: str) -> int:
     """The change, from its words on."""
-    new = text_of(getattr(said, kind))
-    if kind == "roster":
-        checked(said.roster, new)
     desk = desk_of(said)
-    if not said.show:
-        with change.only_one(desk):
-            return changed(said, kind, desk, new)
-    return changed(said, kind, desk, new)
+    with nullcontext() if said.show else change.only_one(desk):
+        return changed(said, kind, desk)
 
 
-def changed(said: argparse.Namespace, kind: str, desk: Desk, new: bytes) -> int:
+def changed(said: argparse.Namespace, kind: str, desk: Desk) -> int:
+    new = new_text(said, kind)
+    if kind == "roster":
+        checked(said.roster or desk.settings.roster, new)
     if is_there(desk, kind, new):
         print(f"The desk has this {kind}.")
         return DONE
@@ -224,7 +248,10 @@ def main() -> int:
 
 def changing(kind: str) -> int:
     """The program that changes a roster, or a base."""
-    said = parser(kind).parse_args()
+    takes = parser(kind)
+    said = takes.parse_args()
+    if kind == "roster" and (said.roster is None) == (said.add is None):
+        takes.error("name a NEW_ROSTER, or --add a file, and not both")
     status = REFUSED
     try:
         return on_each(said, kind) if said.desks else followed(said, kind)

@@ -1,100 +1,100 @@
-"""What an audit of a time rests on: the inputs, the reports of the desk and of a second reading,
-and a manifest. The same inputs give the same bytes, on whatever day."""
+"""What an audit of a time rests on: the inputs, the reports of the desk and of a second reading, a
+summary with a page and a sample of requests, and a manifest. The same inputs give the same bytes,
+on whatever day."""
 
-import csv
-import hashlib
-import io
 import json
 import os
 import re
 import shutil
 import subprocess
-from collections.abc import Iterator
+import tempfile
+from collections.abc import Container, Iterable, Iterator
+from concurrent.futures import ThreadPoolExecutor
 from dataclasses import dataclass, field
 from typing import Any, NamedTuple
 
-from desk_tools import history
-from desk_tools.served import Failed
+from desk_tools import base_words, pieces, used_program
+from desk_tools.decisions import Desk
+from desk_tools.gaps import Gap, begins, gap_lines, gaps, numbers_of
+from desk_tools.judge import NoDesk
+from desk_tools.made import lines_of, made
+from desk_tools.periods import Period, read
+from desk_tools.pieces import Name, Piece, Reasons
+from desk_tools.report_html import page
+from desk_tools.rights import Base, Right, Standing
+from desk_tools.served import Failed, digest, file_digest
+from desk_tools.summary import Data, Summary, Told
 from desk_tools.toml_text import read as read_toml
+from desk_tools.touched import Touched, wider
 from desk_tools.use import GIVEN
+from desk_tools.used_program import Asked, Used, files_named
+from desk_tools.used_text import json_of
+from desk_tools.written_out import BadText
 from steelnewt_client.messages import canonical
-from steelnewt_client.moments import seconds, stamp_of
-from steelnewt_client.places import place
+from steelnewt_client.moments import seconds
 
 NAMESPACE = "desk-evidence"
-MANIFEST = "SHA256SUMS"
+MANIFEST, SUMMARY = "SHA256SUMS", "summary.json"
 REFUSED = re.compile(r"line (\d+): (.*)")
-COLUMNS = "roster who no target host commands from until approvers used".split()
+# A time is told with so many seconds around it: hosts' clocks are off, and a grant that was over or
+# was still to come says why something ran by none
+MARGIN = 86_400
 ABOUT = """\
 What an audit from {first} to {last} rests on. The same inputs give the same bytes.
 
+report.html     the page for people: begin there
+summary.json    what the page says, what made it, and the digests of the three next to it
+sample.csv      the sample of requests, where one was asked for
+grants.csv      each grant of that time on each host, cut to the time of each roster; moments
+                stand in it twice, the second time as a spreadsheet reads them
 messages        all that the desk was told, sorted
-base.sudo       the base policy
+gaps            the numbers of askers that no message has
+reasons         why people asked, as the relay keeps it
 versions        the programs, and their SHA-256
-grants.csv      each grant of that time, by roster and host
 logs            the logs of sudo that were read, and their SHA-256
-ROSTER/         for each roster of that time, by the moment since which it was served:
-  roster.toml   the roster
-  refused       messages that it does not admit, with the code; they are left out below
-  from.report   what `desk review` says of its first moment in that time
+MOMENT/         for each roster and base of that time, by the moment since which they were served:
+  made.json     what made the files here: the programs, and the digests of what they read
+  roster.toml, base.sudo
+  refused       messages that the roster does not admit, with the code; they are left out below
+  from.report   what `desk review` says of its first moment in that time, by what was said till
+                then
   until.report  and of its last one
   audit.json    what `desk-audit --json` tells of that time
-  statuses      each name with its status, as desk-audit tells it, of all times
+  statuses      each name that the time touches, or a day before or after it, with its status, as
+                desk-audit tells it
   second        the same by second-reading.jq, which uses nothing of the desk
   comparison    whether the two are the same, and whether desk-audit tells all messages
-  used.json     what `desk-used` tells of the logs, by the audit of all times
+  used.json     what `desk-used` tells of the logs, by these names and by what earlier rosters
+                granted them
 second-reading.jq  the second reading itself
+
+Each answer is that of one roster, and MOMENT says of which: ask about a day by the roster of it.
 
 To check it: sha256sum -c SHA256SUMS
 and who signed it: ssh-keygen -Y verify -f SIGNERS -I WHO -n desk-evidence \\
     -s SHA256SUMS.sig < SHA256SUMS
+(summary.json.sig is of the summary alone, for whoever has only that)
 """
 
 
-# of a grant on a host, by the logs
-Statuses = dict[tuple[str, int, str], str]
+def joined(lines: Iterable[bytes]) -> bytes:
+    return b"".join(line + b"\n" for line in lines)
 
 
-class Period(NamedTuple):
-    """A roster, since when it was served, and its part of the time."""
+class Part(NamedTuple):
+    """Some messages, each with its moment, and how many were left out of them."""
 
-    name: str
-    text: bytes
-    first: str
-    last: str
+    said: list[tuple[bytes, str]]
+    left_out: int = 0
 
+    def without(self, refused: Container[int]) -> "Part":
+        """All but some of them, which are counted from one."""
+        kept = [it for place, it in enumerate(self.said, 1) if place not in refused]
+        return Part(kept, len(self.said) - len(kept))
 
-def read(path: str) -> bytes:
-    with open(path, "rb") as file:
-        return file.read()
-
-
-def periods(folder: str, first: str, last: str) -> list[Period]:
-    """The rosters that were served in that time, by the desk's history. (A change of the base alone
-    is a moment there, too, with the same roster.)"""
-    found = history.lines(folder)
-    dated = [it for at, it in enumerate(found) if at == 0 or it.roster != found[at - 1].roster]
-    if not dated or dated[0].moment > first:
-        raise Failed(f"{folder}: its moments name no roster of {first} or before")
-    served: list[Period] = []
-    for it, after in zip(dated, [*dated[1:], None], strict=True):
-        end = last if after is None else min(last, stamp_of(seconds(after.moment) - 1))
-        if it.moment <= last and first <= end:
-            text = kept(folder, it)
-            served.append(Period(it.moment, text, max(it.moment, first), end))
-    return served
-
-
-def kept(folder: str, line: history.Line) -> bytes:
-    """The roster of a moment, which is the one that its line names."""
-    path = os.path.join(folder, line.moment, history.FILES["roster"])
-    try:
-        text = history.read(path)
-    except FileNotFoundError:
-        raise Failed(f"{path} is not there: bring it back from where it was carried") from None
-    if hashlib.sha256(text).hexdigest() != line.roster:
-        raise Failed(f"{path} is not the roster that {folder}/moments names")
-    return text
+    def text(self, until: str | None = None) -> bytes:
+        """All of them, or those up to a moment, one a line."""
+        return joined(line for line, at in self.said if until is None or at <= until)
 
 
 @dataclass
@@ -105,15 +105,28 @@ class Evidence:
     first: str
     last: str
     messages: list[bytes]
-    base: str
+    bases: list[Base]
     desk: str
     audit: str
     reading: str
     logs: list[str]
     log_options: list[str]
-    rows: list[dict[str, Any]] = field(default_factory=list)
+    reasons: Reasons | None
+    sample: tuple[int, str] | None  # how many, and the seed
+    key: str | None
+    used_by: Used | None = None  # the logs, once they are read
+    pieces: list[Piece] = field(default_factory=list)
     # what desk-audit tells of the names that a roster granted so far
-    given: dict[tuple[str, int], Any] = field(default_factory=dict)
+    given: dict[Name, Any] = field(default_factory=dict)
+    said: str = ""  # what the desk says of its version
+    moments: list[str] = field(default_factory=list)
+    touched: Touched = field(default_factory=Touched)
+    numbers: dict[str, list[int]] = field(default_factory=dict)
+    gaps: list[Gap] = field(default_factory=list)
+
+    @property
+    def margin(self) -> int:
+        return max(MARGIN, self.used_by.skew if self.used_by else 0)
 
     def put(self, name: str, data: bytes | str) -> str:
         path = os.path.join(self.folder, name)
@@ -121,6 +134,9 @@ class Evidence:
         with open(path, "wb") as file:
             file.write(data.encode() if isinstance(data, str) else data)
         return path
+
+    def put_json(self, name: str, told: Data) -> str:
+        return self.put(name, json.dumps(told, indent=1, sort_keys=True) + "\n")
 
     def run(self, *words: str, given: bytes = b"", ok: tuple[int, ...] = (0,)) -> tuple[bytes, str]:
         """A program's output, and its standard error."""
@@ -134,121 +150,235 @@ class Evidence:
         return ran.stdout, said
 
     def fill(self, found: list[Period]) -> None:
+        self.said = self.run(self.desk, "--version")[0].decode()
+        summary, before = Summary(self.first, self.last, self.reasons), None
+        with tempfile.TemporaryDirectory() as room:
+            self.read_logs(room)
+            self.numbers = numbers_of(self.looked_through())
+            self.touched.only(self.touched.names(*wider(self.first, self.last, self.margin)))
+            self.gaps = gaps(self.numbers)
+            self.inputs()
+            for it in found:
+                summary.take(self.period(it, before))
+                before = it
+        self.hand_on(summary, found)
+
+    def looked_through(self) -> Iterator[Data]:
+        """The messages. The request and the moment of each line are kept."""
+        for at, line in enumerate(self.messages):
+            message = message_of(line)
+            self.moments.append(message.get("at", ""))
+            self.touched.add(at, message)
+            if message:
+                yield message
+
+    def read_logs(self, room: str) -> None:
+        if self.logs:
+            words = [*self.log_options, "audit", "base", *self.logs]
+            self.used_by = Used(used_program.parser().parse_args(words), Desk(self.desk, room))
+
+    def inputs(self) -> None:
+        """What is put in as it was given."""
         self.put("messages", b"".join(it + b"\n" for it in self.messages))
-        self.put("base.sudo", read(self.base))
+        self.put("gaps", "".join(f"{line}\n" for line in gap_lines(self.numbers)))
         self.put("second-reading.jq", read(self.reading))
         self.put("README", ABOUT.format(first=self.first, last=self.last))
         self.put("versions", self.versions())
         if self.logs:
-            self.put("logs", "".join(f"{digest(path)}  {path}\n" for path in self.log_files()))
-        for it in found:
-            self.period(it)
-        text = io.StringIO()
-        table = csv.DictWriter(text, COLUMNS, lineterminator="\n")
-        table.writeheader()
-        table.writerows(self.rows)
-        self.put("grants.csv", text.getvalue())
-
-    def log_files(self) -> list[str]:
-        from desk_tools.used_program import files_named
-
-        return sorted({path for it in self.logs for _, path in files_named(it)})
+            files = log_files(self.logs)
+            self.put("logs", "".join(f"{file_digest(path)}  {path}\n" for path in files))
+        if self.reasons is not None:
+            lines = [json.dumps(it, sort_keys=True) for _, it in sorted(self.reasons.items())]
+            self.put("reasons", "".join(f"{line}\n" for line in lines))
 
     def versions(self) -> str:
-        lines = self.run(self.desk, "--version")[0].decode().splitlines()
+        lines = self.said.splitlines()
         for program in (self.desk, self.audit):
-            lines.append(f"{digest(program)}  {os.path.basename(program)}")
+            lines.append(f"{file_digest(program)}  {os.path.basename(program)}")
         lines += self.run("jq", "--version")[0].decode().splitlines()
         return "".join(f"{line}\n" for line in lines)
 
-    def period(self, it: Period) -> None:
+    # ---- one roster
+
+    def period(self, it: Period, before: Period | None) -> Told:
         roster = self.put(f"{it.name}/roster.toml", it.text)
-        texts = (roster, self.base, "-")
-        given = b"".join(line + b"\n" for line in self.messages)
-        whole, said = self.run(self.audit, *texts, "--json", given=given)
+        base = self.put(f"{it.name}/base.sudo", it.base)
+        texts = (roster, base, "-")
+        names = self.touched.names(*wider(it.first, it.last, self.margin))
+        part = Part([(self.messages[at], self.moments[at]) for at in self.touched.among(names)])
+        whole, said = self.run(self.audit, *texts, "--json", given=part.text())
         refused = {int(at): why for at, why in REFUSED.findall(said)}
-        kept = [line for at, line in enumerate(self.messages, 1) if at not in refused]
-        given = b"".join(line + b"\n" for line in kept)
-        lines = [why.encode() + b" " + self.messages[at - 1] for at, why in refused.items()]
-        self.put(f"{it.name}/refused", b"".join(line + b"\n" for line in lines))
-        for end, at in (("from", it.first), ("until", it.last)):
-            report, _ = self.run(self.desk, "review", *texts, at, given=given)
-            self.put(f"{it.name}/{end}.report", report)
+        lines = [why.encode() + b" " + part.said[at - 1][0] for at, why in refused.items()]
+        self.put(f"{it.name}/refused", joined(lines))
+        self.made(it, part, len(refused))
+        audit, kept = json.loads(whole), part.without(refused)
+        # (desk-audit has read it: it has no faults)
+        document = read_toml(it.text).value
+        with ThreadPoolExecutor(os.cpu_count()) as pool:
+            ends = (("from", it.first), ("until", it.last))
+            reports = [pool.submit(self.report, it, texts, kept, *end) for end in ends]
+            spanned = pool.submit(self.audited, it, texts, kept)
+            compared = pool.submit(self.compare, it, document, audit, kept)
+            used = self.used(it, self.with_revoked(audit, names), base)
+            for report in reports:
+                report.result()
+        told, is_same = spanned.result(), compared.result()
+        self.pieces += pieces.pieces_of(it.name, it.first, it.last, told, statuses_of(used))
+        return Told(
+            name=it.name,
+            first=it.first,
+            last=it.last,
+            roster=document,
+            said=it.said,
+            base_words=self.base_change(before, it),
+            names={(name["by"], name["no"]): name for name in audit["names"]},
+            used=used,
+            refused=[
+                (why, message)
+                for at, why in refused.items()
+                if (message := message_of(part.said[at - 1][0]))
+            ],
+            is_same=is_same,
+        )
+
+    def made(self, it: Period, part: Part, refused: int) -> None:
+        """Says what made the files of a roster."""
+        files = [("roster", digest(it.text)), ("base", digest(it.base))]
+        files.append(("messages", digest(part.text())))
+        more: Data = {"messages": len(part.said), "refused": refused}
+        more |= {"from": it.first, "until": it.last}
+        self.put_json(f"{it.name}/made.json", made(NAMESPACE, self.said, files, **more))
+
+    def report(self, it: Period, texts: tuple[str, ...], kept: Part, end: str, at: str) -> None:
+        """What the desk reports of one end of a time, by what had been said until then."""
+        report, _ = self.run(self.desk, "review", *texts, at, given=kept.text(at))
+        self.put(f"{it.name}/{end}.report", report)
+
+    def audited(self, it: Period, texts: tuple[str, ...], kept: Part) -> Data:
         span = ("--from", it.first, "--until", it.last)
-        told, _ = self.run(self.audit, *texts, *span, "--json", given=given)
+        told, _ = self.run(self.audit, *texts, *span, "--json", given=kept.text())
         self.put(f"{it.name}/audit.json", told)
-        self.compare(it, json.loads(whole), kept)
-        self.grants(it, json.loads(told), self.used(it, json.loads(whole)))
+        found: Data = json.loads(told)
+        return found
+
+    def base_change(self, before: Period | None, it: Period) -> list[str]:
+        """What another base opens up and takes away."""
+        if before is None or before.base == it.base:
+            return []
+        paths = [os.path.join(self.folder, each.name, "base.sudo") for each in (before, it)]
+        old, new = (self.run(self.desk, "check", path)[0].decode() for path in paths)
+        changed = base_words.lines(old, new)
+        return [*changed, *base_words.cases(self.desk, *paths)] if changed else []
 
     # ---- the second reading
 
-    def compare(self, it: Period, told: dict[str, Any], kept: list[bytes]) -> None:
+    def compare(self, it: Period, document: Data, told: Data, kept: Part) -> bool:
         statuses = "".join(f"{status_line(name)}\n" for name in told["names"])
         self.put(f"{it.name}/statuses", statuses)
-        # (desk-audit has read it: it has no faults)
-        roster = self.put(f"{it.name}/roster.json", json.dumps(read_toml(it.text).value))
-        given = b"".join(line + b"\n" for line in kept)
+        roster = self.put(f"{it.name}/roster.json", json.dumps(document))
         words = ["jq", "-rn", "--slurpfile", "roster", roster, "-f", self.reading]
-        second, _ = self.run(*words, given=given)
+        second, _ = self.run(*words, given=kept.text())
         os.unlink(roster)
         self.put(f"{it.name}/second", second)
         is_alike = second.decode() == statuses
-        is_whole = sorted(messages_told(told)) == kept
-        lines = [
+        is_whole = sorted(messages_told(told)) == [line for line, _ in kept.said]
+        told_all = "all messages of this time are told"
+        if kept.left_out or self.gaps:
+            parts = [f" but {kept.left_out:,} that are refused"] if kept.left_out else []
+            parts += [", and NUMBERS ARE MISSING (gaps)"] if self.gaps else []
+            told_all = f"all messages of this time that are here are told{''.join(parts)}"
+        said = [
             "the statuses are the same" if is_alike else "THE STATUSES DIFFER",
-            "all messages are told" if is_whole else "NOT ALL MESSAGES ARE TOLD, OR OTHERS",
+            told_all if is_whole else "NOT ALL MESSAGES ARE TOLD, OR OTHERS",
         ]
-        self.put(f"{it.name}/comparison", "".join(f"{line}\n" for line in lines))
+        self.put(f"{it.name}/comparison", "".join(f"{line}\n" for line in said))
+        return is_alike and is_whole
 
     # ---- the logs
 
-    def with_revoked(self, audit: dict[str, Any]) -> dict[str, Any]:
+    def with_revoked(self, audit: Data, touched: set[Name]) -> Data:
         """The audit by this roster, and beside it the grants that only an earlier roster had: a
         host that had not fetched yet may have run their commands after they were revoked."""
         names = {(it["by"], it["no"]): it for it in audit["names"]}
-        self.given |= {key: it for key, it in names.items() if it["status"] in GIVEN}
+        given = {key: it for key, it in self.given.items() if key in touched}
+        self.given = given | {key: it for key, it in names.items() if it["status"] in GIVEN}
         return audit | {"names": list((names | self.given).values())}
 
-    def used(self, it: Period, audit: dict[str, Any]) -> Statuses:
-        """Each grant's status by the logs. The audit is of all times: what ran in this one may have
-        been revoked before it."""
-        if not self.logs:
-            return {}
-        given = json.dumps(self.with_revoked(audit)).encode()
-        words = [place("tools/desk-used", "bin/desk-used"), "--json", "--desk", self.desk]
-        words += [*self.log_options, "--from", it.first, "--until", it.last, "-", self.base]
-        out, _ = self.run(*words, *self.logs, given=given, ok=(0, 1))
-        self.put(f"{it.name}/used.json", out)
-        return {(it["by"], it["no"], it["host"]): it["status"] for it in json.loads(out)["grants"]}
+    def used(self, it: Period, audit: Data, base: str) -> Data | None:
+        """What desk-used tells of the logs."""
+        if self.used_by is None:
+            return None
+        given = digest(json.dumps(audit).encode())
+        asked = Asked(audit, given, base, seconds(it.first), seconds(it.last))
+        told = self.used_by.told(asked, self.used_by.use(asked))
+        with open(self.put(f"{it.name}/used.json", json_of(told)), encoding="utf-8") as file:
+            found: Data = json.load(file)
+        return found
 
-    def grants(self, it: Period, told: dict[str, Any], used: Statuses) -> None:
-        names = {(name["by"], name["no"]): name for name in told["names"]}
-        for window in told["windows"]:
-            name = names[window["by"], window["no"]]
-            asked = name["requests"][0]
-            row = (
-                it.name,
-                name["by"],
-                name["no"],
-                asked["runas"],
-                window["host"],
-                ", ".join(asked["cmnds"]),
-                window["from"],
-                window["until"],
-                " ".join(approvers(name)),
-                used.get((name["by"], name["no"], window["host"]), ""),
-            )
-            self.rows.append(dict(zip(COLUMNS, row, strict=True)))
+    # ---- what is handed on
+
+    def standing(self) -> tuple[list[Right], str]:
+        """The standing rights at the end, with the bases since when each is there; or why they are
+        not known."""
+        with tempfile.TemporaryDirectory() as room:
+            try:
+                return list(Standing(Desk(self.desk, room), self.bases, self.last).all()), ""
+            except (NoDesk, BadText) as fault:
+                return [], f"They are not known: {fault}"
+
+    def hand_on(self, summary: Summary, found: list[Period]) -> None:
+        """The summary, the page, the sample, and the table of the grants."""
+        lasts = {it.name: it.last for it in found}
+        reasons = self.reasons or {}
+        table = self.put("grants.csv", pieces.table_of(self.pieces, lasts, reasons))
+        rights, unknown = self.standing()
+        told = summary.data(rights, self.gaps)
+        told["standing_unknown"] = unknown
+        told["begins"] = [{"by": by, "no": no} for by, no in begins(self.numbers)]
+        files, rows = {"grants.csv": file_digest(table)}, list[dict[str, str]]()
+        if self.sample:
+            count, seed = self.sample
+            drawn = summary.sampled(seed, count)
+            rows = pieces.sampled_rows(drawn, self.pieces, lasts, reasons)
+            path = self.put("sample.csv", pieces.sample_csv(rows))
+            files["sample.csv"] = file_digest(path)
+            told["sample"] = {"count": count, "seed": seed, "of": len(summary.names)}
+        head = self.head(found)
+        text = page(told, rows, lines_of(head), bool(self.logs))
+        files["report.html"] = file_digest(self.put("report.html", text))
+        path = self.put_json(SUMMARY, {"made": head, **told, "files": files})
+        if self.key:
+            sign(path, self.key)
+
+    def head(self, found: list[Period]) -> Data:
+        """What made the whole."""
+        files = [("messages", digest(joined(self.messages)))]
+        files += [(f"roster of {it.name}", digest(it.text)) for it in found]
+        files += [(f"base of {it.name}", digest(it.base)) for it in found]
+        logs = log_files(self.logs)
+        files += [(f"log {path}", file_digest(path)) for path in logs]
+        more = {"messages": len(self.messages), "from": self.first, "until": self.last}
+        return made(NAMESPACE, self.said, files, **more)
 
 
-def digest(path: str) -> str:
-    with open(path, "rb") as file:
-        return hashlib.file_digest(file, "sha256").hexdigest()
+def log_files(logs: list[str]) -> list[str]:
+    return sorted({path for it in logs for _, path in files_named(it)})
 
 
-def approvers(name: dict[str, Any]) -> list[str]:
-    counted = [it["verdict"] for it in name["verdicts"] if it["counts"]]
-    return sorted({it["by"] for it in counted if it["kind"] == "approve"})
+def message_of(line: bytes) -> Data:
+    """A line as a message; an empty one where it is none, which the desk refuses."""
+    try:
+        found = json.loads(line)
+        found.get("of", found["by"])
+        more = {"until": str(found["until"])} if "until" in found else {}
+        return {**found, "no": int(found["no"]), "at": str(found["at"]), **more}
+    except (ValueError, KeyError, TypeError, AttributeError, RecursionError):
+        return {}
+
+
+def statuses_of(used: Data | None) -> dict[tuple[str, int, str], str]:
+    rows = used["grants"] if used else []
+    return {(it["by"], it["no"], it["host"]): it["status"] for it in rows}
 
 
 def status_line(name: dict[str, Any]) -> str:
@@ -272,11 +402,12 @@ def manifest(folder: str) -> str:
     found = []
     for top, _, names in os.walk(folder):
         found += [os.path.relpath(os.path.join(top, name), folder) for name in names]
-    return "".join(f"{digest(os.path.join(folder, it))}  {it}\n" for it in sorted(found))
+    return "".join(f"{file_digest(os.path.join(folder, it))}  {it}\n" for it in sorted(found))
 
 
-def sign(folder: str, key: str) -> None:
-    words = ["ssh-keygen", "-Y", "sign", "-f", key, "-n", NAMESPACE, os.path.join(folder, MANIFEST)]
+def sign(path: str, key: str) -> None:
+    """Signs a file, by a file beside it."""
+    words = ["ssh-keygen", "-Y", "sign", "-f", key, "-n", NAMESPACE, path]
     try:
         ran = subprocess.run(words, stderr=subprocess.PIPE, text=True, check=False)
     except OSError as fault:

@@ -43,6 +43,25 @@ def lines(folder: str) -> list[Line]:
     return [Line(*it.groups()) for it in found if it]
 
 
+def path_of(folder: str, kind: str, wanted: str) -> str | None:
+    """The newest roster or base with this digest that has its folder still."""
+    for line in reversed(lines(folder)):
+        path = os.path.join(folder, line.moment, FILES[kind])
+        if getattr(line, kind) == wanted and os.path.exists(path):
+            return path
+    return None
+
+
+def said(folder: str, moment: str) -> list[tuple[str, str]]:
+    """What was said of the change of a moment, where it is kept: a word, as `why`, and a text."""
+    try:
+        told = read(os.path.join(folder, moment, CHANGE)).decode("utf-8", "replace")
+    except FileNotFoundError:
+        return []
+    parts = [line.partition(" ") for line in told.splitlines()]
+    return [(word, text) for word, _, text in parts]
+
+
 class History:
     """The history of the desk with these settings."""
 
@@ -55,27 +74,18 @@ class History:
         found = lines(self.folder)
         return found[-1] if found else None
 
-    def path(self, moment: str, name: str) -> str:
-        return os.path.join(self.folder, moment, name)
-
-    def path_of(self, kind: str, digest: str) -> str | None:
-        """The newest roster or base with this digest that has its folder still."""
-        for line in reversed(lines(self.folder)):
-            path = self.path(line.moment, FILES[kind])
-            if getattr(line, kind) == digest and os.path.exists(path):
-                return path
-        return None
+    def path_of(self, kind: str, wanted: str) -> str | None:
+        return path_of(self.folder, kind, wanted)
 
     def reason(self, moment: str) -> str:
         """Why it was changed then."""
-        told = read(self.path(moment, CHANGE)).decode("utf-8", "replace").splitlines()
-        return "".join(it.removeprefix("why ") for it in told if it.startswith("why "))
+        return "".join(text for word, text in said(self.folder, moment) if word == "why")
 
     def write(self, roster: str, base: str, words: list[str]) -> Line:
         """Has it written, as the desk's account, that these are served from now on."""
         run = [self.program, self.folder, roster, base, *words]
-        said = served.run(run, owner=self.store, DESK=self.desk)
-        for warning in said.splitlines()[:-1]:
+        told = served.run(run, owner=self.store, DESK=self.desk)
+        for warning in told.splitlines()[:-1]:
             print(warning)
         found = self.last()
         if found is None:

@@ -1,14 +1,32 @@
-"""A narrower ceiling, as text for the roster: what the grants under it used, and no more."""
+"""A narrower ceiling, as text for the roster: it has what its grants used, and no more. Beside it
+stand the warnings of desk-lint, and each person's use."""
 
 import json
 from collections.abc import Iterable
 from typing import Any, NamedTuple
 
 from desk_tools.decisions import PATH
+from desk_tools.toml_text import read as read_toml
 from desk_tools.use import Grant
+from desk_tools.warnings import Warnings
+from steelnewt_client.messages import BadWord, command_of
+from steelnewt_client.moments import stamp_of
 
-# a folder or ALL of which more files than these were run stays as it is
-MOST_FILES = 16
+# a folder or ALL of which more than these were run, as commands or as files, stays as it is
+MOST = 16
+# a command as it was run: the file and its arguments
+Words = tuple[str, ...]
+
+
+class Person(NamedTuple):
+    """What one person had under a ceiling, and what of it they used."""
+
+    by: str
+    grants: int
+    commands: list[str]
+    hosts: list[str]
+    used_commands: list[str]
+    used_hosts: list[str]
 
 
 class Narrower(NamedTuple):
@@ -17,31 +35,51 @@ class Narrower(NamedTuple):
     unused: int
     unlogged: int
     text: str  # empty where there is nothing to take away
+    warnings: list[str]
+    persons: list[Person]
 
 
-def narrowed(command: str, ran: Iterable[str]) -> list[str]:
-    """The files that were run by a command that is ALL or a folder."""
+def as_granted(words: Words) -> str | None:
+    """A command as a roster writes it, with just these arguments; None if no roster can."""
+    try:
+        return command_of(words if len(words) > 1 else (*words, ""))
+    except BadWord:
+        return None
+
+
+def narrowed(command: str, seen: Iterable[Words]) -> list[str]:
+    """What was run by a command that is ALL or a folder: the commands with the arguments that were
+    seen, or else the files."""
     if command != "ALL" and not command.endswith("/"):
         return [command]
-    paths = sorted(set(ran))
-    is_short = len(paths) <= MOST_FILES and all(map(PATH.fullmatch, paths))
+    every = sorted(set(seen))
+    exact = sorted({it for it in map(as_granted, every) if it})
+    if len(exact) == len(every) <= MOST:
+        return exact
+    paths = sorted({it[0] for it in every})
+    is_short = len(paths) <= MOST and all(map(PATH.fullmatch, paths))
     return paths if is_short and "/sudoedit" not in "".join(paths) else [command]
+
+
+def used_of(grants: Iterable[Grant]) -> list[str]:
+    """The commands that were used, each as narrow as it was run."""
+    seen: dict[str, set[Words]] = {}
+    for it in grants:
+        for command, words in it.seen.items():
+            seen.setdefault(command, set()).update(words)
+    return sorted({text for it, words in seen.items() for text in narrowed(it, words)})
 
 
 def kept(grants: list[Grant]) -> dict[str, list[str]]:
     """The hosts, targets and commands that were used; all of a grant's where there is no log."""
-    hosts, targets, commands = set(), set(), set()
-    for it in grants:
-        if not it.is_logged:
-            hosts.add(it.host)
-            targets.add(it.runas)
-            commands.update(it.commands)
-        elif it.used:
-            hosts.add(it.host)
-            targets.add(it.runas)
-            for command in it.used:
-                commands.update(narrowed(command, it.ran[command]))
-    return {"hosts": sorted(hosts), "runas": sorted(targets), "commands": sorted(commands)}
+    held = [it for it in grants if it.used or not it.is_logged]
+    commands = {it for grant in grants if not grant.is_logged for it in grant.commands}
+    commands.update(used_of(it for it in grants if it.is_logged))
+    return {
+        "hosts": sorted({it.host for it in held}),
+        "runas": sorted({it.runas for it in held}),
+        "commands": sorted(commands),
+    }
 
 
 def proposal(label: str, ceiling: dict[str, Any], grants: list[Grant]) -> str:
@@ -58,6 +96,38 @@ def proposal(label: str, ceiling: dict[str, Any], grants: list[Grant]) -> str:
     return "".join(f"{line}\n" for line in lines)
 
 
+def linted(roster: dict[str, Any], label: str, text: str, today: str) -> list[str]:
+    """What desk-lint says of a proposal's commands, in the ceiling's place."""
+    document = read_toml(text.encode())
+    if label not in document.value.get("ceilings", {}):
+        return []
+    proposed = document.value["ceilings"]
+    document.value.update({**roster, "ceilings": proposed})
+    warnings = Warnings(document, today)
+    warnings.commands(label)
+    return [it.said for it in sorted(warnings.found)]
+
+
+def person_of(by: str, grants: list[Grant]) -> Person:
+    return Person(
+        by,
+        len(grants),
+        sorted({it for grant in grants for it in grant.commands}),
+        sorted({it.host for it in grants}),
+        used_of(grants),
+        sorted({it.host for it in grants if it.used}),
+    )
+
+
+def persons(grants: list[Grant]) -> list[Person]:
+    """What each person used, by the grants whose hosts have a log."""
+    by: dict[str, list[Grant]] = {}
+    for it in grants:
+        if it.is_logged:
+            by.setdefault(it.by, []).append(it)
+    return [person_of(person, found) for person, found in sorted(by.items())]
+
+
 def proposals(roster: dict[str, Any], grants: list[Grant], until: int) -> list[Narrower]:
     """For each ceiling of the roster, by the grants under it that ended."""
     found = []
@@ -68,5 +138,7 @@ def proposals(roster: dict[str, Any], grants: list[Grant], until: int) -> list[N
         logged = [it for it in under if it.is_logged]
         text = proposal(label, ceiling, under)
         unused = sum(not it.used for it in logged)
-        found.append(Narrower(label, len(under), unused, len(under) - len(logged), text))
+        counts = len(under), unused, len(under) - len(logged)
+        warned = linted(roster, label, text, stamp_of(until)[:8])
+        found.append(Narrower(label, *counts, text, warned, persons(under)))
     return found

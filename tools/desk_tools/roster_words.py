@@ -2,6 +2,7 @@
 
 from __future__ import annotations
 
+import re
 from collections.abc import Iterator
 from typing import Any
 
@@ -11,6 +12,7 @@ from desk_tools.toml_text import read as read_toml
 
 Tree = dict[str, Any]
 LISTS = {"relays": "relay", "hosts": "host", "duties": "duty"}
+LEAVING_HOST = re.compile(r"the host \S+ leaves")
 HOST_LEAVES = ": it gets no file, so remove its /etc/sudoers.d/desk"
 
 
@@ -73,13 +75,17 @@ def ceiling_lines(old: Tree, new: Tree) -> Iterator[str]:
 
 
 def lines(old_text: bytes, new_text: bytes) -> list[str]:
+    """What another roster changes, a line for each thing, for whoever changes it."""
+    found = differences(tree_of(old_text), tree_of(new_text))
+    return [f"{it}{HOST_LEAVES}" if LEAVING_HOST.fullmatch(it) else it for it in found]
+
+
+def differences(old: Tree, new: Tree) -> list[str]:
     """What another roster changes, a line for each thing."""
-    old, new = tree_of(old_text), tree_of(new_text)
     found: list[str] = []
     for key, kind in LISTS.items():
         found += [f"the {kind} {it} is new" for it in new[key] if it not in old[key]]
-        leaves = HOST_LEAVES if kind == "host" else ""
-        found += [f"the {kind} {it} leaves{leaves}" for it in old[key] if it not in new[key]]
+        found += [f"the {kind} {it} leaves" for it in old[key] if it not in new[key]]
     pairs = [{frozenset(it) for it in tree["conflicts"]} for tree in (old, new)]
     for said, these in (("is new", pairs[1] - pairs[0]), ("is gone", pairs[0] - pairs[1])):
         found += [f"the conflict of {it} {said}" for it in sorted(map(pair, these))]

@@ -39,9 +39,10 @@ class Grant:
     revoked: int | None
     is_logged: bool = False
     moments: list[int] = field(default_factory=list)
-    # by command: when it was run, and which files
+    # by command: when it was run, which files, and each file with its arguments
     used: dict[str, list[int]] = field(default_factory=dict)
     ran: dict[str, set[str]] = field(default_factory=dict)
+    seen: dict[str, set[tuple[str, ...]]] = field(default_factory=dict)
 
     @property
     def name(self) -> str:
@@ -151,6 +152,15 @@ def done_of(run: Run) -> Done:
     return Done(run.host, run.user, run.target, run.beside, path, tuple(words))
 
 
+def runs_of(logs: Logs) -> dict[Done, Moments]:
+    """What ran, in the order of its words, with the moments in their order."""
+    without_exits(logs)
+    merged: dict[Done, Moments] = {}
+    for run, moments in logs.runs.items():
+        merged.setdefault(done_of(Run(*run)), array("q")).extend(moments)
+    return {done: array("q", sorted(merged[done])) for done in sorted(merged)}
+
+
 class Row(NamedTuple):
     """Runs of one command on one ground."""
 
@@ -190,20 +200,15 @@ class Use:
     covered: dict[tuple[Done, int], list[str]] = field(default_factory=dict)
     places: dict[tuple[str, str, str], list[int]] = field(default_factory=dict)
 
-    def take(self, logs: Logs, span: Span) -> None:
-        """The runs of the span, in the order of their words and moments."""
-        without_exits(logs)
-        merged: dict[Done, Moments] = {}
-        for run, moments in logs.runs.items():
-            merged.setdefault(done_of(Run(*run)), array("q")).extend(moments)
-        for done in sorted(merged):
-            kept = sorted(it for it in merged[done] if span.first <= it <= span.last)
-            if kept:
-                self.done[done] = array("q", kept)
-        spans = logs.logged()
+    def take(self, runs: dict[Done, Moments], spans: dict[str, tuple[int, int]], span: Span) -> None:
+        """The runs of the span; each host's log has a time of its own."""
+        for done, moments in runs.items():
+            first, last = bisect_left(moments, span.first), bisect_right(moments, span.last)
+            if first < last:
+                self.done[done] = moments[first:last]
         for grant in self.grants:
-            first, last = spans.get(grant.host, (1, 0))
-            grant.is_logged = first <= grant.last and grant.first <= last
+            begin, end = spans.get(grant.host, (1, 0))
+            grant.is_logged = begin <= grant.last and grant.first <= end
 
     def judge(self) -> None:
         self.cover()
@@ -275,6 +280,7 @@ class Use:
                 for command in commands:
                     grant.used.setdefault(command, []).extend(found)
                     grant.ran.setdefault(command, set()).add(done.path)
+                    grant.seen.setdefault(command, set()).add((done.path, *done.args))
             if within:
                 grants = tuple(covering[it][0] for it in within)
                 self.rows.append(Row(done, "grant", grants, "", found))

@@ -2,24 +2,27 @@
 
 import argparse
 import json
+import os
 import re
 import sys
 import tempfile
 import zoneinfo
 from collections.abc import Callable
-from typing import Any
+from typing import Any, NamedTuple
 
 from desk_tools.decisions import Desk
 from desk_tools.found import Parser, visible
 from desk_tools.judge import NoDesk, program
+from desk_tools.made import Made, made
 from desk_tools.narrower import proposals
 from desk_tools.peers import BadPeers, Peers
+from desk_tools.served import digest, file_digest
 from desk_tools.standing import Standing, beyond
 from desk_tools.starts import read_starts, unlogged
 from desk_tools.starts import told_of as starts_told
 from desk_tools.sudo_logs import Logs, files_of, read_log
 from desk_tools.toml_text import read as read_toml
-from desk_tools.use import Span, Use, grants_of, revoked_of
+from desk_tools.use import Span, Use, grants_of, revoked_of, runs_of
 from desk_tools.used_text import Told, json_of, text_of, told_of
 from steelnewt_client.moments import seconds, stamp_of
 
@@ -72,15 +75,69 @@ def parser() -> argparse.ArgumentParser:
     return found
 
 
-def audit_of(path: str) -> dict[str, Any]:
+def audit_of(path: str) -> tuple[dict[str, Any], str]:
+    """What an audit tells, and the digest of its text."""
+    with open(0 if path == "-" else path, "rb") as file:
+        data = file.read()
     try:
-        with open(0 if path == "-" else path, encoding="utf-8") as file:
-            told: dict[str, Any] = json.load(file)
+        told: dict[str, Any] = json.loads(data)
         grants_of(told)
         revoked_of(told)
     except (ValueError, KeyError, TypeError, RecursionError):
         raise Failed(f"{path}: it is not what desk-audit --json prints") from None
-    return told
+    return told, digest(data)
+
+
+class Asked(NamedTuple):
+    """An audit with its digest, a base's path, and the first and the last moment, where they are
+    given."""
+
+    audit: dict[str, Any]
+    digest: str
+    base: str
+    first: int | None
+    last: int | None
+
+    @property
+    def span(self) -> Span:
+        return Span(self.first or 0, ENDLESS if self.last is None else self.last)
+
+
+class Used:
+    """Logs, read once, and what is told by them."""
+
+    def __init__(self, said: argparse.Namespace, desk: Desk) -> None:
+        self.desk, self.logs, self.skew = desk, logs_of(said), said.skew or 0
+        self.runs, self.spans = runs_of(self.logs), self.logs.logged()
+        self.version = desk.run("--version").stdout
+        paths = sorted({path for word in said.logs for _, path in files_named(word)})
+        # (of what is no file, such as a pipe, there is no digest)
+        self.files = [
+            (f"log {visible(it)}", file_digest(it)) for it in paths if os.path.isfile(it)
+        ]
+
+    def use(self, it: Asked) -> Use:
+        base, span = self.desk.policy(self.desk.canonical(it.base)), it.span
+        grants = [
+            grant
+            for grant in grants_of(it.audit)
+            if grant.first <= span.last and span.first <= grant.last
+        ]
+        found = Use(self.desk, base, grants, revoked_of(it.audit), self.skew)
+        found.take(self.runs, self.spans, span)
+        found.judge()
+        return found
+
+    def told(self, it: Asked, use: Use, roster: str | None = None) -> Told:
+        return {"made": self.made(it, roster), **told_of(self.logs, use)}
+
+    def made(self, it: Asked, roster: str | None) -> Made:
+        """What made the output."""
+        files = [("audit", it.digest), ("base", file_digest(it.base))]
+        files += [("roster", file_digest(roster))] if roster else []
+        span = {"from": it.first, "until": it.last}
+        more = {key: stamp_of(at) for key, at in span.items() if at is not None}
+        return made("desk-used", self.version, [*files, *self.files], **more)
 
 
 def files_named(word: str) -> list[tuple[str, str]]:
@@ -134,6 +191,8 @@ def more_of(said: argparse.Namespace, use: Use, until: int) -> Told:
                 "unused": it.unused,
                 "no_log": it.unlogged,
                 "proposal": it.text,
+                "warnings": it.warnings,
+                "persons": [person._asdict() for person in it.persons],
             }
             for it in proposals(roster_of(said.roster), use.grants, until)
         ]
@@ -151,18 +210,13 @@ def starts_of(said: argparse.Namespace, logs: Logs, use: Use, span: Span) -> Tol
 
 
 def used(said: argparse.Namespace) -> int:
-    audit, logs = audit_of(said.audit), logs_of(said)
-    until = last_of(logs) if said.until is None else said.until
-    since = getattr(said, "from") or 0
-    span = Span(since, ENDLESS if said.until is None else said.until)
+    asked = Asked(*audit_of(said.audit), said.base, getattr(said, "from"), said.until)
     with tempfile.TemporaryDirectory() as folder:
-        desk = Desk(program(said.desk), folder)
-        base = desk.policy(desk.canonical(said.base))
-        grants = [it for it in grants_of(audit) if it.first <= span.last and span.first <= it.last]
-        use = Use(desk, base, grants, revoked_of(audit), said.skew or 0)
-        use.take(logs, span)
-        use.judge()
-        told = told_of(logs, use) | more_of(said, use, until) | starts_of(said, logs, use, span)
+        it = Used(said, Desk(program(said.desk), folder))
+        use, logs = it.use(asked), it.logs
+        until = last_of(logs) if said.until is None else said.until
+        told = it.told(asked, use, said.roster) | more_of(said, use, until)
+        told |= starts_of(said, logs, use, asked.span)
     sys.stdout.write(json_of(told) if said.json else text_of(told))
     is_clean = not told["after_revocation"] and not logs.count_unread
     is_clean = is_clean and not told.get("unlogged") and not told.get("starts_lost")

@@ -5,6 +5,7 @@ from collections.abc import Iterable, Iterator
 from typing import Any
 
 from desk_tools.found import visible
+from desk_tools.made import lines_of as made_lines
 from desk_tools.sudo_logs import Logs
 from desk_tools.use import Grant, Row, Use, escaped
 from steelnewt_client.moments import stamp_of
@@ -179,12 +180,29 @@ def lines_of(told: Told) -> Iterator[str]:
             yield f"{it['user']}  {it.get('witness') or it.get('code', 'none')}"
     if "ceilings" in told:
         yield "CEILINGS"
-        for it in told["ceilings"]:
-            counts = f"{it['grants']} ended, {it['unused']} unused, {it['no_log']} without a log"
-            yield f"# {it['ceiling']}: {counts}"
-            yield from it["proposal"].splitlines()
+        yield from of_ceilings(told["ceilings"])
     yield "REFUSED"
     yield from of_logs(told["logs"])
+    yield "MADE"
+    yield from made_lines(told["made"])
+
+
+def of_ceilings(ceilings: list[Told]) -> Iterator[str]:
+    """The proposals, as text for the roster."""
+    for it in ceilings:
+        counts = f"{it['grants']} ended, {it['unused']} unused, {it['no_log']} without a log"
+        yield f"# {it['ceiling']}: {counts}"
+        yield from (f"# {person['by']}: {of_person(person)}" for person in it["persons"])
+        yield from (f"# warning: {warning}" for warning in it["warnings"])
+        yield from it["proposal"].splitlines()
+
+
+def of_person(it: Told) -> str:
+    """What a person had under a ceiling, and used of it."""
+    had = f"{', '.join(it['commands'])} on {' '.join(it['hosts'])}"
+    if not it["used_hosts"]:
+        return f"{had}, used nothing"
+    return f"{had}, used {', '.join(it['used_commands'])} on {' '.join(it['used_hosts'])}"
 
 
 def text_of(told: Told) -> str:

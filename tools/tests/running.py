@@ -140,6 +140,14 @@ class Running:
             check=False,
         )
 
+    def add(self, path: str, *more: str) -> subprocess.CompletedProcess[str]:
+        """Gives the desk what its roster lacks of a file's entries."""
+        words = self.words(Path("--add"), *more)
+        words.insert(words.index("--add") + 1, path)
+        return subprocess.run(
+            words, env=self.environment, capture_output=True, text=True, timeout=PATIENCE, check=False
+        )
+
     def moments(self) -> list[history.Line]:
         return history.lines(str(self.folder / "store" / "history"))
 

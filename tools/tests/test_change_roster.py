@@ -79,6 +79,23 @@ def test_a_roster_is_changed(running: Running) -> None:
     assert len(running.moments()) == 2
 
 
+def test_the_envelope_is_added(running: Running) -> None:
+    """RUNBOOKS, 'Nobody can approve': the roster has what the file has, and all else as before."""
+    asked(running)
+    path = os.path.join(ROOT, "examples", "break-glass.toml")
+    old, before = running.roster.read_text(), running.messages()
+    ran = running.add(path, "--yes")
+    assert ran.returncode == 0 and "No grant changes" in ran.stdout, ran
+    new = running.roster.read_text()
+    assert "\n[ceilings.break-glass]\n" in new and '\nglass = ["break-glass"]\n' in new
+    assert running.serves() == digest(running.roster) and running.messages() == before
+    assert {*old.splitlines()} - {*new.splitlines()} == {
+        it for it in old.splitlines() if it.startswith(("duties = ", "conflicts = "))
+    }
+    again = running.add(path, "--yes")
+    assert again.stdout.endswith("The desk has this roster.\n") and again.returncode == 0, again
+
+
 def test_the_history_is_the_accounts_alone(running: Running) -> None:
     """Each line names what /v1/count does, and nobody else reads or writes it."""
     folder = running.folder / "store" / "history"

@@ -3,17 +3,19 @@
 from __future__ import annotations
 
 import csv
-import hashlib
 import json
 import os
 import subprocess
 from collections.abc import Callable
 from pathlib import Path
+from typing import Any
 
 import pytest
 
 from conftest import ROOT
 from texts import newer
+
+from tests.common.histories import Moment, write_history
 
 EXAMPLES = os.path.join(ROOT, "examples")
 SPAN = ("20260101000000Z", "20260331235959Z")
@@ -48,26 +50,21 @@ def bytes_of(folder: str) -> dict[str, bytes]:
     return found
 
 
-def dated(folder: Path, texts: dict[str, str]) -> None:
-    """A history of these rosters, all with one base, as a desk keeps it."""
-    lines = ""
-    for moment, text in texts.items():
-        (folder / moment).mkdir(exist_ok=True)
-        (folder / moment / "roster.toml").write_text(text)
-        lines += f"{moment} {hashlib.sha256(text.encode()).hexdigest()} {'0' * 64}\n"
-    (folder / "moments").write_text(lines)
+def dated(folder: Path, desk: str, rosters: dict[str, str]) -> None:
+    """A history of these rosters, all with one base."""
+    base = Path(EXAMPLES, "site.sudo").read_text()
+    write_history(str(folder), desk, {at: Moment(it, base) for at, it in rosters.items()})
 
 
 @pytest.fixture
 def evidence(desk: str, tmp_path: Path) -> Make:
     """Makes a folder of the examples, with these words besides."""
-    rosters = tmp_path / "rosters"
-    rosters.mkdir()
-    with open(os.path.join(EXAMPLES, "roster.toml"), encoding="utf-8") as file:
-        text = file.read()
+    text = Path(EXAMPLES, "roster.toml").read_text()
     # at half past nine bob loses his duty
     without = text.replace('bob = ["approve-db"]', "bob = []")
-    dated(rosters, {"20250101000000Z": text, CHANGED: without, "20270101000000Z": "later"})
+    rosters = {"20250101000000Z": text, CHANGED: without, "20270101000000Z": "later"}
+    history = tmp_path / "history"
+    dated(history, desk, rosters)
 
     def make(
         name: str, *words: str, messages: str = "audited.messages", span: tuple[str, str] = SPAN
@@ -75,7 +72,8 @@ def evidence(desk: str, tmp_path: Path) -> Make:
         folder = str(tmp_path / name)
         program = os.path.join(ROOT, "tools", "desk-evidence")
         given = ["--messages", os.path.join(EXAMPLES, messages), "--desk", desk]
-        given += ["--base", os.path.join(EXAMPLES, "site.sudo"), "--rosters", str(rosters)]
+        if "--roster" not in words:
+            given += ["--history", str(history)]
         return folder, run(program, folder, *span, *given, *words)
 
     return make
@@ -125,7 +123,7 @@ def test_each_roster_has_its_time(evidence: Make) -> None:
     assert found[f"{CHANGED}/from.report"].startswith(b"REVIEW 20260105093000Z\nLIVE\nBARRED\n")
     for name in names:
         assert found[f"{name}/comparison"] == (
-            b"the statuses are the same\nall messages are told\n"
+            b"the statuses are the same\nall messages of this time are told\n"
         ), name
         assert found[f"{name}/statuses"] == found[f"{name}/second"]
     rows = list(csv.DictReader(found["grants.csv"].decode().splitlines()))
@@ -135,15 +133,15 @@ def test_each_roster_has_its_time(evidence: Make) -> None:
     assert rows[0]["commands"] == "/usr/bin/id, /usr/bin/systemctl restart postgresql"
 
 
-def test_without_logs_and_of_one_roster(evidence: Make, desk: str) -> None:
-    other = os.path.join(EXAMPLES, "roster.toml")
-    folder, ran = evidence("made", "--roster", other)
-    assert ran.returncode == 2 and "not allowed with" in ran.stderr and not os.path.exists(folder)
-    program = os.path.join(ROOT, "tools", "desk-evidence")
-    words = [program, folder, *SPAN, "--roster", other, "--desk", desk]
-    words += ["--messages", f"{EXAMPLES}/audited.messages", "--base", f"{EXAMPLES}/site.sudo"]
-    assert run(*words).returncode == 0
-    assert b",bob,\n" in bytes_of(folder)["grants.csv"] and "logs" not in bytes_of(folder)
+def test_without_logs_and_of_one_roster(evidence: Make) -> None:
+    roster, base = f"{EXAMPLES}/roster.toml", f"{EXAMPLES}/site.sudo"
+    for words in (("--base", base), ("--roster", roster)):
+        folder, ran = evidence("made", *words)
+        assert ran.returncode == 2 and "--history DIR, or --roster" in ran.stderr, ran
+        assert not os.path.exists(folder)
+    folder, ran = evidence("made", "--roster", roster, "--base", base)
+    assert ran.returncode == 0, ran
+    assert b",bob,,2026-" in bytes_of(folder)["grants.csv"] and "logs" not in bytes_of(folder)
 
 
 def test_a_second_reading_that_differs(evidence: Make, tmp_path: Path) -> None:
@@ -168,12 +166,14 @@ def test_what_is_refused(evidence: Make, tmp_path: Path) -> None:
     (tmp_path / "there").mkdir()
     for name, words, span, said in (
         ("there", (), SPAN, "it is there already"),
-        ("a", (), ("20240101000000Z", SPAN[1]), "its moments name no roster"),
+        ("a", (), ("20240101000000Z", SPAN[1]), "its moments name nothing of"),
         ("a", (), (SPAN[1], SPAN[0]), "UNTIL is before FROM"),
-        ("a", ("--base", "/nowhere"), SPAN, "/nowhere"),
+        ("a", ("--roster", "/nowhere", "--base", "/nowhere"), SPAN, "/nowhere"),
         ("a", ("--log", "/nowhere"), SPAN, "/nowhere"),
         ("a", ("--key", "/nowhere"), SPAN, "ssh-keygen: "),
         ("a", ("--second-reading", "/nowhere"), SPAN, "there is no /nowhere"),
+        ("a", ("--sample", "3"), SPAN, "--sample N --seed TEXT"),
+        ("a", ("--reasons", os.path.join(EXAMPLES, "used.log")), SPAN, "desk-relay reasons prints"),
     ):
         before = sorted(os.listdir(tmp_path))
         _, ran = evidence(name, *words, span=span)
@@ -193,21 +193,23 @@ def test_a_forged_line_stops_no_evidence(evidence: Make, tmp_path: Path) -> None
         folder, ran = evidence(name, "--log", f"db1={log}")
         assert ran.returncode == 0, ran
         found = bytes_of(folder)
-        assert b"db1=" not in found["logs"] and b",bob,used\n" in found["grants.csv"]
+        assert b"db1=" not in found["logs"] and b",bob,used,2026-" in found["grants.csv"]
         unread = json.loads(found["20250101000000Z/used.json"])["logs"]["unread_lines"]
         why = "its moment is out of range"
         assert unread == [{"file": str(log), "line": text.count("\n") + 1, "why": why}]
 
 
-def test_a_roster_hides_no_run_after_a_revocation(evidence: Make, tmp_path: Path) -> None:
+def test_a_roster_hides_no_run_after_a_revocation(
+    evidence: Make, desk: str, tmp_path: Path
+) -> None:
     """A roster that came after a revocation tells what ran under it, whether it would have let the
     grant be or not."""
-    rosters, log = tmp_path / "rosters", f"db1={EXAMPLES}/used.log"
-    text = (rosters / "20250101000000Z" / "roster.toml").read_text()
+    log, text = f"db1={EXAMPLES}/used.log", Path(EXAMPLES, "roster.toml").read_text()
     late = [("ann", 7, "20260105103112Z")]
     for no, bob in enumerate(('bob = ["approve-db"] # still', "bob = []")):
         changed = text.replace('bob = ["approve-db"]', bob)
-        dated(rosters, {"20250101000000Z": text, "20260105103100Z": changed})
+        rosters = {"20250101000000Z": text, "20260105103100Z": changed}
+        dated(tmp_path / "history", desk, rosters)
         folder, ran = evidence(str(no), "--log", log)
         assert ran.returncode == 0, ran
         found = bytes_of(folder)
@@ -220,26 +222,128 @@ def test_a_roster_hides_no_run_after_a_revocation(evidence: Make, tmp_path: Path
         ]
 
 
-def test_a_roster_of_toml_1_1(evidence: Make, tmp_path: Path) -> None:
+def test_a_roster_of_toml_1_1(evidence: Make, desk: str, tmp_path: Path) -> None:
     """A table may stand over several lines: a desk takes it, and so does the second reading."""
-    path = tmp_path / "rosters" / "20250101000000Z" / "roster.toml"
-    dated(tmp_path / "rosters", {"20250101000000Z": newer(path.read_text())})
+    path = tmp_path / "history" / "20250101000000Z" / "roster.toml"
+    dated(tmp_path / "history", desk, {"20250101000000Z": newer(path.read_text())})
     folder, ran = evidence("made", "--log", f"db1={EXAMPLES}/used.log")
     assert ran.returncode == 0, ran
     found = bytes_of(folder)
     assert found["20250101000000Z/roster.toml"] == path.read_bytes()
-    said = b"the statuses are the same\nall messages are told\n"
+    said = b"the statuses are the same\nall messages of this time are told\n"
     assert found["20250101000000Z/comparison"] == said
     assert b"ann 7 granted " in found["20250101000000Z/second"]
 
 
+def test_what_is_missing_is_named(evidence: Make, tmp_path: Path) -> None:
+    """Where a number of somebody's is missing, or a message is left out, nothing is said of all."""
+    asked: dict[str, Any] = {"at": "20260105080000Z", "by": "carol", "ceiling": "db-care"}
+    asked |= {"cmnds": ["/usr/bin/id"], "from": "20260105090000Z", "hosts": ["db1"]}
+    asked |= {"kind": "request", "no": 4, "runas": "root", "until": "20260105100000Z"}
+    with open(os.path.join(EXAMPLES, "audited.messages"), encoding="utf-8") as file:
+        text = file.read()
+    messages = tmp_path / "messages"
+    here = b"the statuses are the same\nall messages of this time that are here are told"
+    rows: tuple[tuple[str, dict[str, Any], bytes, bytes], ...] = (
+        ("gap", {}, b", and NUMBERS ARE MISSING (gaps)\n", b"carol lacks 3\n"),
+        ("left", {"no": 3, "by": "zoe"}, b" but 1 that are refused\n", b"zoe begins at 3\n"),
+    )
+    for name, more, said, gap in rows:
+        line = json.dumps(asked | more, sort_keys=True, separators=(",", ":"))
+        messages.write_text(f"{text}{line}\n")
+        folder, ran = evidence(name, messages=str(messages))
+        assert ran.returncode == 0, ran
+        found = bytes_of(folder)
+        assert found["20250101000000Z/comparison"] == here + said, found
+        assert found["gaps"] == b"ann begins at 7\n" + gap
+    told = json.loads(found["summary.json"])["left_out"]
+    assert [(it["code"], it["message"]["by"]) for it in told] == [("A1 UnknownPerson", "zoe")]
+
+
+def test_a_time_is_told_by_its_requests(evidence: Make) -> None:
+    """A request is told in the times that it touches and a day around them, and nowhere else; what
+    was said is kept whole."""
+    for name, span, told in (
+        ("next", ("20260106000000Z", "20260107000000Z"), ["ann 7", "ann 8", "carol 1", "carol 2"]),
+        ("later", ("20260301000000Z", "20260331235959Z"), []),
+    ):
+        folder, ran = evidence(name, "--log", f"db1={EXAMPLES}/used.log", span=span)
+        assert ran.returncode == 0, ran
+        found = bytes_of(folder)
+        lines = found[f"{CHANGED}/statuses"].decode().splitlines()
+        assert [line.rpartition(" ")[0] for line in lines] == told, lines
+        assert found[f"{CHANGED}/comparison"].splitlines()[0] == b"the statuses are the same"
+        assert len(found["messages"].splitlines()) > 5 and found["grants.csv"].count(b"\n") == 1
+
+
+def test_a_page_of_hostile_words(evidence: Make, tmp_path: Path) -> None:
+    """What people wrote is shown, and is no part of the page."""
+    reasons, ticket = tmp_path / "reasons", "<script>alert(1)</script>"
+    row = {"who": "ann", "no": 7, "why": "\u202e<b>", "ticket": ticket, "state": "acked"}
+    reasons.write_text(json.dumps(row) + "\n")
+    words = ("--reasons", str(reasons), "--sample", "9", "--seed", "<i>&")
+    folder, ran = evidence("made", *words)
+    assert ran.returncode == 0, ran
+    found = bytes_of(folder)
+    text = found["report.html"].decode()
+    assert "<script" not in text and "&lt;script&gt;alert(1)" in text and "<i>" not in text
+    assert ticket in found["sample.csv"].decode() and ticket in found["grants.csv"].decode()
+    told = json.loads(found["summary.json"])
+    assert told["without_reason"] == ["ann 8", "carol 1"] and told["sample"]["seed"] == "<i>&"
+
+
+def test_bases_by_their_moments(evidence: Make, desk: str, tmp_path: Path) -> None:
+    """What the base of the day allowed accuses nobody, whatever base came later; and who changed it
+    is told."""
+    roster, base = (Path(EXAMPLES, it).read_text() for it in ("roster.toml", "site.sudo"))
+    later = Moment(roster, "eve db1 = (root) /usr/bin/vi\n", "by bob\nwhy <eve> edits\n")
+    moments = {"20250101000000Z": Moment(roster, base), "20260105100000Z": later}
+    write_history(str(tmp_path / "history"), desk, moments)
+    folder, ran = evidence("made", "--log", f"db1={EXAMPLES}/used.log")
+    assert ran.returncode == 0, ran
+    found = bytes_of(folder)
+    told = json.loads(found["summary.json"])
+    # (dba ran psql at 9:45 by the first base, and eve vi at 11:15 by the second)
+    assert [it["by"] for it in told["without_grant"]] == ["ann"], told["without_grant"]
+    standing = [(it["user"], it["since"], it["or_before"]) for it in told["standing"]]
+    assert standing == [("eve", "20260105100000Z", False)]
+    (changed,) = told["changes"]
+    assert changed["at"] == "20260105100000Z" and changed["said"] == [
+        {"word": "by", "text": "bob"},
+        {"word": "why", "text": "<eve> edits"},
+    ]
+    assert "new in the base: eve db1 = (root) /usr/bin/vi" in changed["words"], changed
+    assert b"<li>why: &lt;eve&gt; edits</li>" in found["report.html"]
+
+
 def test_a_history_that_does_not_fit(evidence: Make, tmp_path: Path) -> None:
-    """A roster that was carried away, and one that is another than its line names, are named."""
-    path = tmp_path / "rosters" / CHANGED / "roster.toml"
-    path.write_text(path.read_text() + "# more\n")
-    _, ran = evidence("made")
-    assert ran.returncode == 2 and "is not the roster that" in ran.stderr, ran
-    path.unlink()
+    """A roster or a base that was carried away, and one that is another than its line names, are
+    named."""
+    for kind, name in (("roster", CHANGED), ("base", "20250101000000Z")):
+        path = tmp_path / "history" / name / {"roster": "roster.toml", "base": "base.sudo"}[kind]
+        kept = path.read_text()
+        path.write_text(kept + "zed ALL = ALL\n")
+        folder, ran = evidence("made")
+        assert ran.returncode == 2 and f"{path} is not the {kind} that" in ran.stderr, ran
+        path.write_text(kept)
+    for it in (tmp_path / "history").glob(f"{CHANGED}/*"):
+        it.unlink()
     folder, ran = evidence("made")
-    assert ran.returncode == 2 and "bring it back" in ran.stderr, ran
+    assert ran.returncode == 2 and "roster.toml is not there: bring it back" in ran.stderr, ran
     assert not os.path.exists(folder)
+
+
+def test_what_was_carried_away_may_be_there_again(
+    evidence: Make, desk: str, tmp_path: Path
+) -> None:
+    """A moment whose folder is gone is told by another with the same roster and base; and a moment
+    that says the same once more cuts nothing."""
+    text = Path(EXAMPLES, "roster.toml").read_text()
+    moments = dict.fromkeys(("20250101000000Z", CHANGED), text)
+    dated(tmp_path / "history", desk, moments)
+    for it in (tmp_path / "history" / "20250101000000Z").iterdir():
+        it.unlink()
+    folder, ran = evidence("made")
+    assert ran.returncode == 0, ran
+    names = {name.split("/")[0] for name in bytes_of(folder) if "/" in name}
+    assert names == {"20250101000000Z"}

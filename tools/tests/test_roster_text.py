@@ -6,8 +6,12 @@ from __future__ import annotations
 import random
 import tomllib
 from datetime import date, timedelta
+from pathlib import Path
 
-from desk_tools.roster_text import Days, RosterText, cut, held_by, merged, without
+import pytest
+
+from desk_tools.adding import added
+from desk_tools.roster_text import CannotEdit, Days, RosterText, cut, held_by, merged, without
 from desk_tools.site import FIRST, LAST
 
 TODAY = "20260310"
@@ -106,3 +110,43 @@ def test_days() -> None:
         assert {n for n in range(90) for it in left if it.first <= day(n) <= it.last} == (
             sets[0] - sets[1]
         )
+
+
+ENVELOPE = (Path(__file__).parents[2] / "examples" / "break-glass.toml").read_text()
+SITE = (Path(__file__).parents[2] / "examples" / "roster.toml").read_text()
+
+
+def test_the_envelope_is_added() -> None:
+    """What a roster has stays, to the letter; what it lacks is there; and once more changes
+    nothing."""
+    found = added(SITE, ENVELOPE, "break-glass.toml")
+    old, new, more = (tomllib.loads(it) for it in (SITE, found, ENVELOPE))
+    assert new["people"] == old["people"] | {"glass": ["break-glass"]}
+    assert new["duties"] == [*old["duties"], "break-glass", "on-call"]
+    assert new["conflicts"] == [*old["conflicts"], ["break-glass", "on-call"]]
+    assert new["ceilings"] == old["ceilings"] | more["ceilings"]
+    assert comments(found) == comments(SITE)
+    assert added(found, ENVELOPE, "break-glass.toml") == found
+
+
+@pytest.mark.parametrize(
+    ("more", "says"),
+    [
+        ("[ceilings.db-care]\nask = 'operate-db'\n", "the roster has another ceiling db-care"),
+        ("[ceilings]\nx = { ask = 'on-call' }\n", "write .ceilings.x."),
+        ("[people\n", "more.toml:1: "),
+        ("host = ['db9']\n", "no roster has such a host"),
+        ("hosts = 'db9'\n", "no roster has such a hosts"),
+        ("[people]\nann = 'operate-db'\n", "ann is no list"),
+    ],
+)
+def test_what_cannot_be_added(more: str, says: str) -> None:
+    with pytest.raises(CannotEdit, match=says):
+        added(SITE, more, "more.toml")
+
+
+def test_entries_of_people_and_lists_on_several_lines() -> None:
+    more = "hosts = ['db9']\nconflicts = [['audit', 'approve-db']]\n[people]\nann = ['audit']\n"
+    found = tomllib.loads(added(SITE.replace('["db1", "db2", "web1"]', '[\n  "db1",\n]'), more, ""))
+    assert found["hosts"] == ["db1", "db9"] and found["people"]["ann"] == ["operate-db", "audit"]
+    assert found["conflicts"] == [["approve-db", "audit"]]

@@ -5,6 +5,7 @@ from __future__ import annotations
 
 import bz2
 import gzip
+import hashlib
 import json
 import lzma
 import os
@@ -21,6 +22,7 @@ import jsonschema
 import pytest
 
 from desk_tools.decisions import Desk, Invocation, Question
+from desk_tools.narrower import linted, narrowed
 from desk_tools.peers import BadPeers, Peers
 from desk_tools.sudo_logs import Logs, Run, read_log, without_exits
 from desk_tools.use import Done, done_of, grants_of
@@ -384,6 +386,14 @@ def test_a_narrower_ceiling(used: Tell, lint: Program, tmp_path: Path) -> None:
     ceiling = tomllib.loads(told["proposal"])["ceilings"]["db-care"]
     assert (ceiling["hosts"], ceiling["runas"]) == (["db1"], ["root"])
     assert ceiling["commands"] == ["/usr/bin/id"] and ceiling["longest"] == 7200
+    (person,) = told["persons"]
+    assert (person["by"], person["used_commands"], person["used_hosts"]) == (
+        "ann",
+        ["/usr/bin/id"],
+        ["db1"],
+    )
+    assert person["commands"] == ["/usr/bin/id", "/usr/bin/systemctl restart postgresql"]
+    assert not told["warnings"]
     with open(ROSTER, encoding="utf-8") as file:
         head, _, rest = file.read().partition("[ceilings.db-care]")
     made = tmp_path / "roster.toml"
@@ -393,6 +403,45 @@ def test_a_narrower_ceiling(used: Tell, lint: Program, tmp_path: Path) -> None:
     text = line("20260105092000Z", "root ; COMMAND=/bin/x")
     (told,) = used(text, *options)[0]["ceilings"]
     assert told["proposal"].startswith("# No grant of db-care was used")
+
+
+def test_what_was_seen_is_proposed() -> None:
+    """ALL and a folder become what was run, with its arguments; a file stays as it is."""
+    many: set[tuple[str, ...]] = {("/usr/bin/a", str(it)) for it in range(17)}
+    rows: tuple[tuple[str, set[tuple[str, ...]], list[str]], ...] = (
+        ("ALL", {("/usr/bin/systemctl", "restart", "pg")}, ["/usr/bin/systemctl restart pg"]),
+        ("/usr/bin/", {("/usr/bin/id",)}, ['/usr/bin/id ""']),
+        ("ALL", {("/usr/bin/a", "x=1"), ("/usr/bin/b",)}, ["/usr/bin/a x\\=1", '/usr/bin/b ""']),
+        # no roster can write an argument with a blank, and seventeen are too many
+        ("ALL", {("/usr/bin/a", "x y"), ("/usr/bin/b",)}, ["/usr/bin/a", "/usr/bin/b"]),
+        ("ALL", many, ["/usr/bin/a"]),
+        ("ALL", {(f"/usr/bin/a{it}",) for it in range(17)}, ["ALL"]),
+        ("ALL", {("/usr/bin/sudoedit", "x")}, ["ALL"]),
+        ("/usr/bin/id", {("/usr/bin/id", "-u")}, ["/usr/bin/id"]),
+    )
+    for command, seen, wanted in rows:
+        assert narrowed(command, seen) == wanted, command
+    roster = tomllib.loads(Path(ROSTER).read_text(encoding="utf-8"))
+    text = f"[ceilings.db-care]\n{care(roster, ['/usr/bin/vi /etc/motd'])}"
+    (said,) = linted(roster, "db-care", text, "20260101")
+    assert said.startswith("/usr/bin/vi /etc/motd: an editor "), said
+
+
+def care(roster: dict[str, Any], commands: list[str]) -> str:
+    """The ceiling db-care with other commands, as text."""
+    rows = roster["ceilings"]["db-care"] | {"commands": commands}
+    return "".join(f"{key} = {json.dumps(value)}\n" for key, value in rows.items())
+
+
+def test_what_made_it(used: Tell, audit: str) -> None:
+    """The digests are those of the files that were read."""
+    text = line("20260105092000Z", "root ; COMMAND=/usr/bin/id")
+    told = used(text, "--from", "20260101000000Z", "--roster", ROSTER)[0]["made"]
+    assert told["program"] == "desk-used" and told["from"] == "20260101000000Z"
+    digests = {it["what"].partition(" ")[0]: it["sha256"] for it in told["read"]}
+    for what, path in (("audit", audit), ("base", BASE), ("roster", ROSTER)):
+        assert digests[what] == hashlib.sha256(Path(path).read_bytes()).hexdigest(), what
+    assert digests["log"] == hashlib.sha256(text.encode()).hexdigest()
 
 
 def test_what_stands_for_others_is_decided_alike(desk: str, tmp_path: Path) -> None:
@@ -765,7 +814,8 @@ def test_a_roster_of_toml_1_1(used: Tell, tmp_path: Path) -> None:
         tomllib.loads(newer(text))
     log = line("20260105092000Z", IDS)
     options = ("--until", "20260201000000Z", "--roster")
-    assert used(log, *options, str(roster)) == used(log, *options, ROSTER)
+    (told, status), (wanted, same) = used(log, *options, str(roster)), used(log, *options, ROSTER)
+    assert told.pop("made") != wanted.pop("made") and (told, status) == (wanted, same)
     roster.write_text(text + "\n]")
     with pytest.raises(AssertionError, match=f"roster.toml:{text.count(chr(10)) + 2}: a key is"):
         used(log, *options, str(roster))

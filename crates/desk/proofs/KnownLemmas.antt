@@ -124,12 +124,14 @@ known_looked : (S : Message → Type 0) → ((m : Message) → S m → IsMessage
 known_looked S messages Old Kept more it = (it.0, it.1, more it.0 (λ m there. messages m ((it.1 m).1 there)) it.2)
 
 -- and all that holds of a desk still holds, once what is known was looked at
-pub desk_looked_at : {Fits Desk Durable Live Digests Up Was : Type 0} {now was text : List ℕ} {Old Kept : List Message → Type 0} (S : Message → Type 0)
+pub desk_looked_at : {Fits Desk Durable Live Digests History Up Was : Type 0} {now was text : List ℕ} {Old Kept : List Message → Type 0}
+    (S : Message → Type 0)
     → ((m : Message) → S m → IsMessage m) → ((set : List Message) → ((m : Message) → Contains set m → IsMessage m) → Old set → Kept set)
     → Fits → (Up → Desk) → (Up → now ≡ was) → (Was → was ≡ text) → (Up → Was) → (Up → Durable)
-    → (Up → (set : List Message) × Lists S set × Old set) → Live → Digests
-    → Fits × (Up → Desk) × (Up → now ≡ text) × (Up → Durable) × (Up → (set : List Message) × Lists S set × Kept set) × Live × Digests
-desk_looked_at {Old = Old} {Kept = Kept} S messages more fits desk same was before durable known live digests = (
+    → (Up → (set : List Message) × Lists S set × Old set) → Live → Digests → History
+    → Fits × (Up → Desk) × (Up → now ≡ text) × (Up → Durable) × (Up → (set : List Message) × Lists S set × Kept set)
+    × Live × Digests × History
+desk_looked_at {Old = Old} {Kept = Kept} S messages more fits desk same was before durable known live digests history = (
   fits,
   desk,
   λ up. same up ∙ was (before up),
@@ -137,6 +139,7 @@ desk_looked_at {Old = Old} {Kept = Kept} S messages more fits desk same was befo
   λ up. known_looked S messages Old Kept more (known up),
   live,
   digests,
+  history,
 )
 
 -- and something is known only where something was known

@@ -200,7 +200,11 @@ module _ (f : RosterFields Cmnd) (roster : List ℕ) (S : Message
 
 -- what stays over each of two calls stays over both
 pub settings_both : {K : Type 0} (a b c : DeskState K) → KeepsSettings a b → KeepsSettings b c → KeepsSettings a c
-settings_both a b c first second = record { roster = second.roster ∙ first.roster; base = second.base ∙ first.base }
+settings_both a b c first second = record {
+  roster = second.roster ∙ first.roster;
+  base = second.base ∙ first.base;
+  history = second.history ∙ first.history;
+}
 
 -- a want is told
 pub asks_want : {K A : Type 0} (g : Ghosts K) (a b : DeskState K) (r : Result A Refusal) → IsErrAnd r IsWant

@@ -1,6 +1,7 @@
 -- what a desk is, how it is opened and rebuilt, and what it answers to deliveries
 pub mod State
 pub mod Digests
+pub mod History
 pub mod Refusals
 pub mod Serving
 pub mod Opening

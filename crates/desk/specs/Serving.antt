@@ -15,12 +15,13 @@ abbrev pub ServesAnswer : {K T : Type 0} → Ghosts K → (before after : K) →
 ServesAnswer g before after result =
     Serves g before after (result ≡ Err Storage) (IsErrAnd result IsWant)
 
--- The roster and the base, which the desk was opened with, stay.
+-- The roster and the base, which the desk was opened with, stay, and so does the history.
 pub record KeepsSettings {K : Type 0} (before after : DeskState K) : Type 0 where
   pub roster : after.roster ≡ before.roster
   pub base : after.base ≡ before.base
+  pub history : after.history ≡ before.history
 
--- A question changes nothing of a desk. The roster and the base stay, and while the keeper is up it
+-- A question changes nothing of a desk. The settings stay, and while the keeper is up it
 -- keeps what it kept. The answer tells what storage did. Over a disk that has been honest the
 -- keeper is up after an answer, and also after each refusal but a want and an unknown host, which
 -- the roster alone tells; and nothing is committed.

@@ -31,8 +31,8 @@ use std::alloc::Global;
 use std::marker::Model;
 use sudo_policy::Policy;
 
-/// A desk, which contracts see as its roster, its base policy and its keeper, which holds the set
-/// of messages.
+/// A desk, which contracts see as its roster, its base policy, the history of the site, and its
+/// keeper, which holds the set of messages.
 ///
 /// A base has at most 4,096 entries, a weight of at most 65,536, and a canonical text of at most 1
 /// MiB.
@@ -43,6 +43,8 @@ pub struct Desk<K: Keeper> {
     pub(crate) base: Base,
     /// The digests of the roster and the base, once they were asked for.
     pub(crate) digests: Option<String>,
+    /// The history of the site; empty where none is known.
+    pub(crate) history: String,
     pub(crate) keeper: K,
     pub(crate) known: Option<Known>,
     pub(crate) reader: MessageReader,
@@ -54,18 +56,25 @@ impl<K: Keeper> Model for Desk<K> {
     ghost use Rattle.desk_store.specs.Left.{IsDeskOf, LeavesOnly};
     ghost use Rattle.desk.specs.private.Known.{IsKnown, IsKnownOfUp};
     ghost use Rattle.desk.specs.Digests.{digests_text};
+    ghost use Rattle.desk.specs.History.{IsHistory};
     ghost use Rattle.desk.specs.State.{DeskState};
 
     ghost Value = { DeskState K };
 
-    ghost view = { λ d. record { roster = d.roster; base = d.base; keeper = d.keeper } };
+    ghost view = { λ d. record {
+      roster = d.roster;
+      base = d.base;
+      history = string_bytes d.history;
+      keeper = d.keeper;
+    } };
 
     ghost invariant = { λ d. FitsBase d.base × (K.is_up d.keeper → K.is_desk d.keeper)
         × (K.is_up d.keeper → K.roster d.keeper ≡ d.roster.text) × (K.is_up d.keeper
         → LeavesOnly (K.may_leave d.keeper) (IsDeskOf (K.roster d.keeper) (K.holds d.keeper)))
         × IsKnown d.roster.says (K.is_up d.keeper) (K.holds d.keeper) d.known
         × IsKnownOfUp (K.is_clean d.keeper) (K.is_up d.keeper) d.known
-        × IfSome d.digests (λ text. string_bytes text ≡ digests_text d.roster.text d.base) };
+        × IfSome d.digests (λ text. string_bytes text ≡ digests_text d.roster.text d.base)
+        × IsHistory d.roster.text d.base (string_bytes d.history) };
 }
 
 impl<K: Keeper> Desk<K> {
@@ -137,6 +146,7 @@ impl<K: Keeper> Desk<K> {
                 roster,
                 base: Base::new(base),
                 digests: None,
+                history: String::new(alloc),
                 keeper,
                 known: known_at_first(alloc, origin),
                 reader: MessageReader::new(alloc),
@@ -336,12 +346,14 @@ impl<K: Keeper> Desk<K> {
             roster,
             base,
             digests,
+            history,
             keeper,
             known,
             reader,
         } = self;
         drop(reader);
         drop(known);
+        drop(history);
         drop(digests);
         drop(base);
         drop(roster);

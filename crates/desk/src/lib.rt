@@ -8,6 +8,7 @@ mod counting;
 mod delivery;
 mod desk;
 mod digests;
+mod history;
 mod holdings;
 pub mod laws;
 mod loading;

@@ -130,6 +130,7 @@ impl<K: Keeper> Desk<K> {
                 roster,
                 base: Base::new(base),
                 digests: None,
+                history: String::new(alloc),
                 keeper,
                 known: None,
                 reader: MessageReader::new(alloc),

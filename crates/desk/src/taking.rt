@@ -1,6 +1,6 @@
 //! A desk that takes another roster while it is open.
 
-ghost use Rattle.std.specs.Prelude.{◌≡◌, IfErr, OnErr, OnOk};
+ghost use Rattle.std.specs.Prelude.{◌≡◌, [], IfErr, OnErr, OnOk};
 ghost use Rattle.store_tables.specs.Sets.{SameSet};
 ghost use Rattle.desk_store.specs.Left.{AddsOnly, IsCommitted, IsDeskOf, LeavesOnly};
 ghost use Rattle.desk.specs.Crash.{IsLeftByTaking};
@@ -27,6 +27,9 @@ impl<K: Keeper> Desk<K> {
         ensures taken { OnOk result (self.new.roster ≡ roster) }
         ensures kept { OnErr result (self.new.roster ≡ self.old.roster) }
         ensures base { self.new.base ≡ self.old.base }
+        // The history that was known ends with the roster that was there before.
+        ensures history { OnOk result (self.new.history ≡ []) }
+        ensures history_kept { OnErr result (self.new.history ≡ self.old.history) }
         ensures held { K.is_up self.new.keeper
             → OnOk result (SameSet (K.holds self.old.keeper) (K.holds self.new.keeper)) }
         ensures unchanged { K.is_up self.new.keeper
@@ -47,13 +50,15 @@ impl<K: Keeper> Desk<K> {
         ensures durable { K.is_up self.new.keeper → LeavesOnly (K.may_leave self.new.keeper)
             (IsDeskOf self.new.roster.text (K.holds self.new.keeper)) }
     {
-        // What is known stays only where the roster is recorded. The digests name the roster that
-        // was there before, so the next question makes them anew.
+        // What is known stays only where the roster is recorded. The digests and the history name
+        // the roster that was there before: the next question makes the digests anew, and the
+        // history is nobody's until it is taken again.
         let known = self.known.take();
         match self.keeper.replace(roster.text()) {
             Ok(()) => {
                 self.known = under_another(known);
                 self.digests = None;
+                self.history = String::new(self.alloc);
                 self.roster = roster;
                 Ok(())
             }

@@ -1,6 +1,6 @@
 //! Opening a desk over the bytes of its files and what a keeper keeps.
 
-ghost use Rattle.std.specs.Prelude.{◌≡◌, ◌⊎◌, IfErr, IfOk, MatchResult, OnErr, OnOk};
+ghost use Rattle.std.specs.Prelude.{◌≡◌, ◌⊎◌, [], IfErr, IfOk, IsErrAnd, MatchResult, OnErr, OnOk};
 ghost use Rattle.sudo_policy.specs.Spelling.{Spells};
 ghost use Rattle.desk_store.specs.Left.{AddsOnly, IsCommitted, IsDeskOf, LeavesOnly};
 ghost use Rattle.desk_store.specs.Serves.{Serves};
@@ -122,11 +122,15 @@ pub fn take_file<K: Keeper>(
     ensures recorded { OnOk result (desk.new.roster.text ≡ file.now) }
     ensures kept { OnErr result (desk.new.roster ≡ desk.old.roster) }
     ensures base { desk.new.base ≡ desk.old.base }
+    ensures history { OnOk result (desk.new.history ≡ []) }
+    ensures history_kept { OnErr result (desk.new.history ≡ desk.old.history) }
     ensures held { K.is_up desk.new.keeper
         → OnOk result (SameSet (K.holds desk.old.keeper) (K.holds desk.new.keeper)) }
     ensures unchanged { K.is_up desk.new.keeper
         → OnErr result (K.is_same desk.old.keeper desk.new.keeper) }
     ensures err { IfErr result (EndsTakingFile file.now) }
+    ensures served { Serves K.Keeper desk.old.keeper desk.new.keeper
+        ⊥ (IsErrAnd result IsWanting) }
     ensures live { K.is_clean desk.new.keeper → OnOk result (K.is_up desk.new.keeper) }
     // Where the file holds no roster, nothing was done.
     ensures crash { K.is_up desk.old.keeper → K.is_clean desk.new.keeper

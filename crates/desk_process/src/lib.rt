@@ -11,6 +11,7 @@ mod changes;
 mod changing;
 mod connection;
 mod files;
+mod history;
 mod listener;
 mod listening;
 mod log;

@@ -1,5 +1,6 @@
 //! Listening, and what is said as a service begins and ends.
 
+use crate::history::take_history;
 use crate::listening::Listening;
 use crate::log::{Log, Serving};
 use crate::service::{End, Service, events};
@@ -176,6 +177,7 @@ pub(crate) fn serve_at<K: Keeper>(
         tell(rt, &mut log, at, Offered::Questions)?;
     }
     log.say(rt, &Serving::now(desk, roster));
+    take_history(rt, desk, &mut log);
     let served = service.run(rt, desk, words.roster, &mut log, &mut events);
     log.say(rt, &Ended(&served));
     served.map_err(|error| failed(rt, addr, error))

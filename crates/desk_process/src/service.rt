@@ -1,6 +1,7 @@
 //! The connections of a service, and whose turn it is.
 
 use crate::connection::{Buffers, Connection, Next, Peer, Step};
+use crate::history::take_history;
 use crate::listening::Listening;
 use crate::log::{Answered, Log, Serving};
 use crate::orders::{MOST_READ, Orders};
@@ -336,7 +337,10 @@ impl Service {
         let taken = take(rt, desk, path, order);
         self.busy = self.busy.saturating_add(millis(began.elapsed(rt)?));
         match &taken {
-            Ok(digest) => log.say(rt, &Serving::now(desk, digest.as_str())),
+            Ok(digest) => {
+                log.say(rt, &Serving::now(desk, digest.as_str()));
+                take_history(rt, desk, log);
+            }
             Err(why) => {
                 log.say(rt, &Stays { path, why });
                 if why.is_of_storage() {

@@ -14,7 +14,7 @@ use Rattle.desk_store.specs.Serves.{Serves}
 use Rattle.desk_store.specs.declared.keeper.Keeper.{Ghosts}
 use Rattle.desk_store.proofs.ServingLemmas.{served_as}
 use Rattle.relay_http.specs.Request.{Action, Request, deliver, all_messages, count, grants, parked, host_file, host_file_after, report, refused}
-use Rattle.relay_http.specs.Request.{requests, requests_after, named_request, host_at, open_requests}
+use Rattle.relay_http.specs.Request.{requests, requests_after, named_request, host_at, open_requests, site_history}
 use Rattle.relay_http.specs.Counting.{most_failures, one_failure}
 use Rattle.relay_http.specs.Exchange.{IsAcknowledged, IsExchange, IsPost, WritesServerFailure}
 use Rattle.relay_http.specs.Responses.{Leaves, Response}
@@ -63,6 +63,7 @@ dated_delivery (deliver r b) relay body e =
       | named_request asker number ↦ parked
       | grants at ↦ parked
       | parked ↦ parked
+      | site_history ↦ parked
       | host_file host ↦ parked
       | host_file_after host at ↦ parked
       | host_at host at ↦ parked
@@ -82,6 +83,7 @@ dated_delivery (named_request asker number) relay body (inr x) = absurd (let wro
 dated_delivery (grants at) relay body (inl x) = absurd (let wrong : ◌≡◌ {A = Action ℕ} (deliver relay body) (grants x.0) = x.2 in cc)
 dated_delivery (grants at) relay body (inr x) = absurd (let wrong = x.1 in cc)
 dated_delivery parked relay body e = absurd cc
+dated_delivery site_history relay body e = absurd cc
 dated_delivery (host_file host) relay body e = absurd cc
 dated_delivery (host_file_after host at) relay body (inl x) =
     absurd (let wrong : ◌≡◌ {A = Action ℕ} (deliver relay body) (host_file_after host x.0) = x.2 in cc)
@@ -139,6 +141,7 @@ only_done_leaves Same old new (requests_after at) response left = inl left
 only_done_leaves Same old new (named_request asker number) response left = inl left
 only_done_leaves Same old new (grants at) response left = inl left
 only_done_leaves Same old new parked response left = inl left
+only_done_leaves Same old new site_history response left = inl left
 only_done_leaves Same old new (host_file host) response left = inl left
 only_done_leaves Same old new (host_file_after host at) response left = inl left
 only_done_leaves Same old new (host_at host at) response left = inl left
@@ -146,10 +149,10 @@ only_done_leaves Same old new (report at) response left = inl left
 only_done_leaves Same old new (open_requests at) response left = inl left
 only_done_leaves Same old new (refused fault) response left = inl left
 
-module _ {K : Type 0} (g : Ghosts K) (roster : Reading) (base : List Entry) (before after : K) (Wrote : List ℕ → Type 0) where
+module _ {K : Type 0} (g : Ghosts K) (roster : Reading) (base : List Entry) (history : List ℕ) (before after : K) (Wrote : List ℕ → Type 0) where
   -- an exchange changes nothing, or it is acknowledged
   pub changes : (offered : Offered) (bytes : List ℕ) (request : Request ℕ) → IsHttpRequest offered bytes request
-      → IsExchange g roster base before after Wrote request → g.is_up after → g.is_same before after ⊎ IsAcknowledged offered bytes Wrote
+      → IsExchange g roster base history before after Wrote request → g.is_up after → g.is_same before after ⊎ IsAcknowledged offered bytes Wrote
   changes offered bytes request asks x up =
       elim (only_done_leaves (g.is_same before after) (g.holds before) (g.holds after) request.action x.response (x.answered.leaves up))
       as (λ _. g.is_same before after ⊎ IsAcknowledged offered bytes Wrote) [
@@ -168,7 +171,7 @@ module _ {K : Type 0} (g : Ghosts K) (roster : Reading) (base : List Entry) (bef
 
   -- a head with another method is not that of a POST
   pub queries : (offered : Offered) (bytes : List ℕ) (request : Request ℕ) → IsHttpRequest offered bytes request
-      → IsExchange g roster base before after Wrote request → g.is_up after
+      → IsExchange g roster base history before after Wrote request → g.is_up after
       → (head : RequestHead) → HasHead bytes head → head.method ≢ codes "POST" → g.is_same before after
   queries offered bytes request asks x up head has differs =
       elim (changes offered bytes request asks x up) as (λ _. g.is_same before after) [
@@ -179,20 +182,20 @@ module _ {K : Type 0} (g : Ghosts K) (roster : Reading) (base : List Entry) (bef
 
   -- the same, of all the bytes of a stream
   pub all_changes : (offered : Offered) (known : Option (List ℕ)) (read : Request ℕ) → IfSome known (λ all. IsHttpRequest offered all read)
-      → IsExchange g roster base before after Wrote read → g.is_up after
+      → IsExchange g roster base history before after Wrote read → g.is_up after
       → IfSome known (λ all. g.is_same before after ⊎ IsAcknowledged offered all Wrote)
   all_changes offered None read asks x up = tt
   all_changes offered (Some all) read asks x up = changes offered all read asks x up
 
   pub all_queries : (offered : Offered) (known : Option (List ℕ)) (read : Request ℕ) → IfSome known (λ all. IsHttpRequest offered all read)
-      → IsExchange g roster base before after Wrote read → g.is_up after
+      → IsExchange g roster base history before after Wrote read → g.is_up after
       → IfSome known (λ all. (head : RequestHead) → HasHead all head → head.method ≢ codes "POST" → g.is_same before after)
   all_queries offered None read asks x up = tt
   all_queries offered (Some all) read asks x up = queries offered all read asks x up
 
   -- ---- what storage did
 
-  pub exchange_served : (request : Request ℕ) → IsExchange g roster base before after Wrote request
+  pub exchange_served : (request : Request ℕ) → IsExchange g roster base history before after Wrote request
       → Serves g before after ⊥ (WritesServerFailure Wrote)
   exchange_served request x =
       served_as ⊥ (WritesServerFailure Wrote) (λ none. absurd none) (λ want. (x.response, request.with_body, want, x.wrote)) x.answered.served

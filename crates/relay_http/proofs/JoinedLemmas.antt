@@ -33,32 +33,33 @@ not_failed body P (inr is) = done_is body Storage P is
 
 -- ---- the response
 
-module _ (r : Reading) (base : List Entry) (set : List Message) where
+module _ (r : Reading) (base : List Entry) (history : List ℕ) (set : List Message) where
   pub count_right : (x : Result (String Global) Refusal) → IfOk x (λ s. IsCountText r base set (string_bytes s)) → IfErr x IsWant
-      → IsResponse r base set count (to_question x) ⊎ IsServerFailure (to_question x)
+      → IsResponse r base history set count (to_question x) ⊎ IsServerFailure (to_question x)
   count_right (Ok s) is err = inl (is.0, is.1, ap done is.2)
   count_right (Err e) is err = inr (server_failure e err)
 
   pub joined_right : (host : List ℕ) (at : ℕ) (line : String Global) (file x : Result (String Global) Refusal) → IsCountText r base set (string_bytes line)
-      → IsResponse r base set (host_file_after host at) (to_question file) ⊎ IsServerFailure (to_question file)
-      → IsJoined line file x → IsResponse r base set (host_at host at) (to_question x) ⊎ IsServerFailure (to_question x)
+      → IsResponse r base history set (host_file_after host at) (to_question file) ⊎ IsServerFailure (to_question file)
+      → IsJoined line file x → IsResponse r base history set (host_at host at) (to_question x) ⊎ IsServerFailure (to_question x)
   joined_right host at line (Ok file) (Ok text) is (inl right) joins =
       let behind = append_assoc (count_line is.0 r.text base) (newline ∷ []) (string_bytes file) in
       inl (inl (is.0, string_bytes file, is.1, right, ap done (joins ∙ ap (λ (l : List ℕ). l ++ string_bytes file) is.2 ∙ behind)))
   joined_right host at line (Ok file) (Ok text) is (inr failed) joins = not_failed (string_bytes file) _ failed
   joined_right host at line (Ok file) (Err e) is right joins = inr (server_failure e (inl joins))
   joined_right host at line (Err e) x is right joins =
-      subst (λ (y : Result (String Global) Refusal). IsResponse r base set (host_at host at) (to_question y) ⊎ IsServerFailure (to_question y)) (sym joins)
-      (elim right as (λ _. IsResponse r base set (host_at host at) (refusal e) ⊎ IsServerFailure (refusal e)) [
+      subst (λ (y : Result (String Global) Refusal).
+      IsResponse r base history set (host_at host at) (to_question y) ⊎ IsServerFailure (to_question y)) (sym joins)
+      (elim right as (λ _. IsResponse r base history set (host_at host at) (refusal e) ⊎ IsServerFailure (refusal e)) [
         | inl is_file ↦ inl (inr (e, is_file, refl))
         | inr failed ↦ inr failed
       ])
 
 -- the answers to the two questions over one set are the one answer
-pub both_in_one : (r : Reading) (base : List Entry) (set : List Message) (host : List ℕ) (at : ℕ) (line : Response) (file : List ℕ)
-    → IsResponse r base set count line → IsResponse r base set (host_file_after host at) (done file)
-    → IsResponse r base set (host_at host at) (done (line.body ++ file))
-both_in_one r base set host at line file x y =
+pub both_in_one : (r : Reading) (base : List Entry) (history : List ℕ) (set : List Message) (host : List ℕ) (at : ℕ) (line : Response) (file : List ℕ)
+    → IsResponse r base history set count line → IsResponse r base history set (host_file_after host at) (done file)
+    → IsResponse r base history set (host_at host at) (done (line.body ++ file))
+both_in_one r base history set host at line file x y =
     let behind = append_assoc (count_line x.0 r.text base) (newline ∷ []) file in
     inl (x.0, file, x.1, y, ap done (ap (λ (l : Response). l.body ++ file) x.2 ∙ behind))
 

@@ -7,7 +7,7 @@ use Rattle.std.proofs.lemmas.Slice.Eq.{bytes_eq-Decides}
 use Rattle.matchit.specs.Router.{RouteOf}
 use Rattle.matchit.specs.Seek.{first}
 use Rattle.relay_http.specs.Request.{Action, Request, deliver, all_messages, count, grants, parked, host_file, host_file_after, report, refused}
-use Rattle.relay_http.specs.Request.{requests, requests_after, named_request, host_at, open_requests}
+use Rattle.relay_http.specs.Request.{requests, requests_after, named_request, host_at, open_requests, site_history}
 use Rattle.relay_http.specs.Content.{by_lengths, content, content_by_fields, is_length, most_content, sized}
 use Rattle.relay_http.specs.Fields.{Fields, values, is_bad_host}
 use Rattle.relay_http.specs.Routes.{offers, part, route_at, routes}
@@ -19,7 +19,7 @@ use Rattle.relay_http.specs.declared.offered.Offered.{Offered}
 use Rattle.relay_http.specs.declared.offered.Offered.TheVariants as socket
 use Rattle.relay_http.specs.declared.route.Route.{Route}
 use Rattle.relay_http.specs.declared.route.Route.TheVariants.{Messages, AllMessages, Count, Grants, Parked, HostFile, HostFileAfter, Report}
-use Rattle.relay_http.specs.declared.route.Route.TheVariants.{Requests, RequestsAfter, NamedRequest, HostAt, OpenRequests}
+use Rattle.relay_http.specs.declared.route.Route.TheVariants.{Requests, RequestsAfter, NamedRequest, HostAt, OpenRequests, SiteHistory}
 use Rattle.relay_http.proofs.RouteLemmas.{all_if_messages, found_at}
 use Rattle.relay_http.proofs.SettleLemmas.{kept}
 
@@ -38,6 +38,7 @@ head_at RequestsAfter named fields rest = refl
 head_at NamedRequest named fields rest = refl
 head_at Grants named fields rest = refl
 head_at Parked named fields rest = refl
+head_at SiteHistory named fields rest = refl
 head_at HostFile named fields rest = refl
 head_at HostFileAfter named fields rest = refl
 head_at HostAt named fields rest = refl
@@ -65,6 +66,7 @@ IsPosted method rest (requests_after at) = Unit {0}
 IsPosted method rest (named_request asker number) = Unit {0}
 IsPosted method rest (grants at) = Unit {0}
 IsPosted method rest parked = Unit {0}
+IsPosted method rest site_history = Unit {0}
 IsPosted method rest (host_file host) = Unit {0}
 IsPosted method rest (host_file_after host at) = Unit {0}
 IsPosted method rest (host_at host at) = Unit {0}
@@ -123,6 +125,7 @@ module _ (rest : List ℕ) where
       by NamedRequest true e = tt
       by Grants true e = tt
       by Parked true e = tt
+      by SiteHistory true e = tt
       by HostFile true e = tt
       by HostFileAfter true e = tt
       by HostAt true e = tt
@@ -159,6 +162,7 @@ IsOfMessages found (requests_after at) = Unit {0}
 IsOfMessages found (named_request asker number) = Unit {0}
 IsOfMessages found (grants at) = Unit {0}
 IsOfMessages found parked = Unit {0}
+IsOfMessages found site_history = Unit {0}
 IsOfMessages found (host_file host) = Unit {0}
 IsOfMessages found (host_file_after host at) = Unit {0}
 IsOfMessages found (host_at host at) = Unit {0}
@@ -183,6 +187,7 @@ module _ (method target rest : List ℕ) (fields : Fields) where
   messages_at route named NamedRequest is true = tt
   messages_at route named Grants is true = tt
   messages_at route named Parked is true = tt
+  messages_at route named SiteHistory is true = tt
   messages_at route named HostFile is true = tt
   messages_at route named HostFileAfter is true = tt
   messages_at route named HostAt is true = tt

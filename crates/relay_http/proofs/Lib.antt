@@ -9,6 +9,7 @@ pub mod ReadingLemmas
 pub mod SentLemmas
 pub mod AnswerLemmas
 pub mod JoinedLemmas
+pub mod HistoryLemmas
 pub mod ResponseLemmas
 pub mod ExchangeLemmas
 pub mod OutgoingLemmas

@@ -20,7 +20,7 @@ use Rattle.httparse.proofs.GrammarLemmas.{request_unique}
 use Rattle.sudo_words.proofs.MomentLemmas.{stamp_is, stamp_only, stamp_spells}
 use Rattle.sudo_words.proofs.MomentTexts.{one_spelled}
 use Rattle.relay_http.specs.Request.{Action, Request, deliver, all_messages, count, grants, parked, host_file, host_file_after, report, refused}
-use Rattle.relay_http.specs.Request.{requests, requests_after, named_request, host_at, open_requests}
+use Rattle.relay_http.specs.Request.{requests, requests_after, named_request, host_at, open_requests, site_history}
 use Rattle.relay_http.specs.declared.fault.RequestFault.TheVariants.{BadMoment, NoRoute}
 use Rattle.relay_http.specs.RequestBytes.{IsHttpRequest, IsHttpRequestByHead, Dates, DatesAt, DatesRequest, IsNumber, Numbers, front, request_by, request_from}
 use Rattle.relay_http.specs.declared.offered.Offered.{Offered}
@@ -97,6 +97,7 @@ one_dated (requests_after at) a b x y = one_dated_at requests_after at a b x y
 one_dated (named_request asker number) a b x y = one_numbered asker number a b x y
 one_dated (grants at) a b x y = one_dated_at grants at a b x y
 one_dated parked a b x y = x ∙ sym y
+one_dated site_history a b x y = x ∙ sym y
 one_dated (host_file host) a b x y = x ∙ sym y
 one_dated (host_file_after host at) a b x y = one_dated_at (λ t. host_file_after host t) at a b x y
 one_dated (host_at host at) a b x y = one_dated_at (λ t. host_at host t) at a b x y
@@ -199,6 +200,7 @@ some_dated (requests_after at) = some_dated_at requests_after at
 some_dated (named_request asker number) = some_numbered asker number
 some_dated (grants at) = some_dated_at grants at
 some_dated parked = (parked, refl)
+some_dated site_history = (site_history, refl)
 some_dated (host_file host) = (host_file host, refl)
 some_dated (host_file_after host at) = some_dated_at (λ t. host_file_after host t) at
 some_dated (host_at host at) = some_dated_at (λ t. host_at host t) at

@@ -18,8 +18,9 @@ use Rattle.review.proofs.ReportOne.{one_report}
 use Rattle.findings.specs.Picks.{after, all}
 use Rattle.desk_audit.proofs.OneText.{one_audit_text, one_name_text, one_open_text}
 use Rattle.relay_http.specs.Request.{Action, deliver, all_messages, count, grants, parked, host_file, host_file_after, report, refused}
-use Rattle.relay_http.specs.Request.{requests, requests_after, named_request, host_at, open_requests}
-use Rattle.relay_http.specs.Responses.{IsCountedFileResponse, IsFileResponse, IsResponse, Response, count_line, delivery, done, is_known_host}
+use Rattle.relay_http.specs.Request.{requests, requests_after, named_request, host_at, open_requests, site_history}
+use Rattle.relay_http.specs.Responses.{IsCountedFileResponse, IsFileResponse, IsHistoryResponse, IsResponse, Response, count_line, delivery, done}
+use Rattle.relay_http.specs.Responses.{is_known_host}
 use Rattle.relay_http.specs.Responses.{each_on_a_line, live_grant_line, refusal, to_delivery}
 use Rattle.relay_http.proofs.AnswerLemmas.{not_done}
 
@@ -61,25 +62,31 @@ one_counted_file r base set host at a b (inr x) (inl y) =
 one_counted_file r base set host at a b (inr x) (inr y) =
     x.2 ∙ one_file_response (lines_after at) r.says base set host (refusal x.0) (refusal y.0) x.1 y.1 ∙ sym y.2
 
-pub one_response : (r : Reading) (base : List Entry) (set : List Message) (action : Action ℕ) (a b : Response)
-    → IsResponse r base set action a → IsResponse r base set action b → a ≡ b
-one_response r base set (deliver relay body) a b x y = x.2 ∙ ap to_delivery (one_answer r.says (delivery relay body) x.0 y.0 x.1 y.1) ∙ sym y.2
-one_response r base set all_messages a b x y =
+one_history : (roster : List ℕ) (base : List Entry) (history : List ℕ) (a b : Response)
+    → IsHistoryResponse roster base history a → IsHistoryResponse roster base history b → a ≡ b
+one_history roster base history a b x y = x.1 ∙ sym y.1
+
+pub one_response : (r : Reading) (base : List Entry) (history : List ℕ) (set : List Message) (action : Action ℕ) (a b : Response)
+    → IsResponse r base history set action a → IsResponse r base history set action b → a ≡ b
+one_response r base history set (deliver relay body) a b x y = x.2 ∙ ap to_delivery (one_answer r.says (delivery relay body) x.0 y.0 x.1 y.1) ∙ sym y.2
+one_response r base history set all_messages a b x y =
     x.2 ∙ ap (λ (texts : List (List ℕ)). done (each_on_a_line texts)) (one_texts set set x.0 y.0 (λ m. (λ held. held, λ held. held)) x.1 y.1) ∙ sym y.2
-one_response r base set count a b x y =
+one_response r base history set count a b x y =
     x.2
     ∙ ap (λ (n : ℕ). done (count_line n r.text base ++ newline ∷ [])) (one_count set set x.0 y.0 (λ m. (λ held. held, λ held. held)) x.1 y.1)
     ∙ sym y.2
-one_response r base set requests a b x y = x.2 ∙ ap done (one_audit_text r.says set all x.0 y.0 x.1 y.1) ∙ sym y.2
-one_response r base set (requests_after at) a b x y = x.2 ∙ ap done (one_audit_text r.says set (after at) x.0 y.0 x.1 y.1) ∙ sym y.2
-one_response r base set (named_request asker number) a b x y =
+one_response r base history set requests a b x y = x.2 ∙ ap done (one_audit_text r.says set all x.0 y.0 x.1 y.1) ∙ sym y.2
+one_response r base history set (requests_after at) a b x y = x.2 ∙ ap done (one_audit_text r.says set (after at) x.0 y.0 x.1 y.1) ∙ sym y.2
+one_response r base history set (named_request asker number) a b x y =
     x.2 ∙ ap done (one_name_text r.says set (record { by = asker; no = number }) x.0 y.0 x.1 y.1) ∙ sym y.2
-one_response r base set (grants at) a b x y =
+one_response r base history set (grants at) a b x y =
     x.2 ∙ ap (λ (list : List LiveGrant). done (each_on_a_line (map live_grant_line list))) (one_live r.says set at x.0 y.0 x.1 y.1) ∙ sym y.2
-one_response r base set parked a b x y = x.2 ∙ ap (λ (texts : List (List ℕ)). done (each_on_a_line texts)) (one_parked set x.0 y.0 x.1 y.1) ∙ sym y.2
-one_response r base set (host_file host) a b x y = one_file_response (λ lines. lines) r.says base set host a b x y
-one_response r base set (host_file_after host at) a b x y = one_file_response (lines_after at) r.says base set host a b x y
-one_response r base set (host_at host at) a b x y = one_counted_file r base set host at a b x y
-one_response r base set (report at) a b x y = x.2 ∙ ap done (one_report r.says base set set at x.0 y.0 (λ m. (λ held. held, λ held. held)) x.1 y.1) ∙ sym y.2
-one_response r base set (open_requests at) a b x y = x.2 ∙ ap done (one_open_text r.says set at x.0 y.0 x.1 y.1) ∙ sym y.2
-one_response r base set (refused fault) a b x y = x ∙ sym y
+one_response r base history set parked a b x y = x.2 ∙ ap (λ (texts : List (List ℕ)). done (each_on_a_line texts)) (one_parked set x.0 y.0 x.1 y.1) ∙ sym y.2
+one_response r base history set site_history a b x y = one_history r.text base history a b x y
+one_response r base history set (host_file host) a b x y = one_file_response (λ lines. lines) r.says base set host a b x y
+one_response r base history set (host_file_after host at) a b x y = one_file_response (lines_after at) r.says base set host a b x y
+one_response r base history set (host_at host at) a b x y = one_counted_file r base set host at a b x y
+one_response r base history set (report at) a b x y =
+    x.2 ∙ ap done (one_report r.says base set set at x.0 y.0 (λ m. (λ held. held, λ held. held)) x.1 y.1) ∙ sym y.2
+one_response r base history set (open_requests at) a b x y = x.2 ∙ ap done (one_open_text r.says set at x.0 y.0 x.1 y.1) ∙ sym y.2
+one_response r base history set (refused fault) a b x y = x ∙ sym y

@@ -12,7 +12,7 @@ use Rattle.relay_http.specs.declared.offered.Offered.{Offered}
 use Rattle.relay_http.specs.declared.offered.Offered.TheVariants as socket
 use Rattle.relay_http.specs.declared.route.Route.{Route}
 use Rattle.relay_http.specs.declared.route.Route.TheVariants.{Messages, AllMessages, Count, Grants, Parked, HostFile, HostFileAfter, Report}
-use Rattle.relay_http.specs.declared.route.Route.TheVariants.{Requests, RequestsAfter, NamedRequest, HostAt, OpenRequests}
+use Rattle.relay_http.specs.declared.route.Route.TheVariants.{Requests, RequestsAfter, NamedRequest, HostAt, OpenRequests, SiteHistory}
 use Rattle.relay_http.specs.Routes.{IsFreeRoute, RouteTakes, if_offered, is_question, offers, route_at, routes, added, with_route}
 use Rattle.relay_http.specs.Target.{is_plain, is_plain_byte}
 use Rattle.matchit.specs.Route.{parse_route}
@@ -146,6 +146,21 @@ pub free_open_requests : IsFreeRoute (parse_route (codes "/v1/open/{at}"))
 unfolding scan
 free_open_requests = refl
 
+pub free_site_history : IsFreeRoute (parse_route (codes "/v1/history"))
+    (with_route (codes "/v1/open/{at}") OpenRequests
+    (with_route (codes "/v1/hosts/{host}/at/{at}") HostAt
+    (with_route (codes "/v1/requests/{asker}/{no}") NamedRequest
+    (with_route (codes "/v1/requests/after/{at}") RequestsAfter
+    (with_route (codes "/v1/requests") Requests
+    (with_route (codes "/v1/count") Count
+    (with_route (codes "/v1/messages") AllMessages
+    (with_route (codes "/v1/hosts/{host}/sudoers/{at}") HostFileAfter
+    (with_route (codes "/v1/reviews/{at}") Report (with_route (codes "/v1/hosts/{host}/sudoers") HostFile
+    (with_route (codes "/v1/parked") Parked (with_route (codes "/v1/grants/{at}") Grants
+    (with_route (codes "/v1/relays/{relay}/messages") Messages [])))))))))))))
+unfolding scan
+free_site_history = refl
+
 and_true_left : (a b : Bool) → (a && b) ≡ true → a ≡ true
 and_true_left true b h = refl
 and_true_left false b h = h
@@ -176,6 +191,7 @@ text_for RequestsAfter = codes "/v1/requests/after/{at}"
 text_for NamedRequest = codes "/v1/requests/{asker}/{no}"
 text_for Grants = codes "/v1/grants/{at}"
 text_for Parked = codes "/v1/parked"
+text_for SiteHistory = codes "/v1/history"
 text_for HostFile = codes "/v1/hosts/{host}/sudoers"
 text_for HostFileAfter = codes "/v1/hosts/{host}/sudoers/{at}"
 text_for HostAt = codes "/v1/hosts/{host}/at/{at}"
@@ -225,6 +241,7 @@ text_ascii RequestsAfter = below_ascii (route_for RequestsAfter).text refl
 text_ascii NamedRequest = below_ascii (route_for NamedRequest).text refl
 text_ascii Grants = below_ascii (route_for Grants).text refl
 text_ascii Parked = below_ascii (route_for Parked).text refl
+text_ascii SiteHistory = below_ascii (route_for SiteHistory).text refl
 text_ascii HostFile = below_ascii (route_for HostFile).text refl
 text_ascii HostFileAfter = below_ascii (route_for HostFileAfter).text refl
 text_ascii HostAt = below_ascii (route_for HostAt).text refl
@@ -324,6 +341,7 @@ other_asks RequestsAfter other = refl
 other_asks NamedRequest other = refl
 other_asks Grants other = refl
 other_asks Parked other = refl
+other_asks SiteHistory other = refl
 other_asks HostFile other = refl
 other_asks HostFileAfter other = refl
 other_asks HostAt other = refl

@@ -21,7 +21,7 @@ use Rattle.relay_http.specs.declared.fault.RequestFault.TheVariants.{BadHead, Ba
 use Rattle.relay_http.specs.declared.offered.Offered.{Offered}
 use Rattle.relay_http.specs.declared.route.Route.{Route}
 use Rattle.relay_http.specs.declared.route.Route.TheVariants.{Messages, AllMessages, Count, Grants, Parked, HostFile, HostFileAfter, Report}
-use Rattle.relay_http.specs.declared.route.Route.TheVariants.{Requests, RequestsAfter, NamedRequest, HostAt, OpenRequests}
+use Rattle.relay_http.specs.declared.route.Route.TheVariants.{Requests, RequestsAfter, NamedRequest, HostAt, OpenRequests, SiteHistory}
 
 -- the content is there, or as many bytes as any content may have
 abbrev pub Enough : Result (List ℕ) RequestFault → List ℕ → Type 0
@@ -75,6 +75,7 @@ module _ (rest more : List ℕ) where
   sought_more NamedRequest named fields h = refl
   sought_more Grants named fields h = refl
   sought_more Parked named fields h = refl
+  sought_more SiteHistory named fields h = refl
   sought_more HostFile named fields h = refl
   sought_more HostFileAfter named fields h = refl
   sought_more HostAt named fields h = refl

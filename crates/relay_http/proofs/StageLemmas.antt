@@ -13,7 +13,7 @@ use Rattle.httparse.specs.declared.spans.Span.{Span}
 use Rattle.httparse.proofs.GrammarLemmas.{ReadsRequest-append, request_unique}
 use Rattle.matchit.specs.Router.{RouteOf}
 use Rattle.relay_http.specs.Request.{Action, Request, deliver, all_messages, count, grants, parked, host_file, host_file_after, report, refused}
-use Rattle.relay_http.specs.Request.{requests, requests_after, named_request, host_at, open_requests}
+use Rattle.relay_http.specs.Request.{requests, requests_after, named_request, host_at, open_requests, site_history}
 use Rattle.relay_http.specs.Content.{content, content_by_fields, by_lengths, is_length, most_content, sized}
 use Rattle.relay_http.specs.Fields.{Fields, values, is_bad_host}
 use Rattle.relay_http.specs.Needs.{HasNoHead, IsSettled, LacksContent}
@@ -34,7 +34,7 @@ use Rattle.relay_http.specs.declared.head_scan.HeadScan.TheVariants.{Blank, Ende
 use Rattle.relay_http.specs.declared.offered.Offered.{Offered}
 use Rattle.relay_http.specs.declared.route.Route.{Route}
 use Rattle.relay_http.specs.declared.route.Route.TheVariants.{Messages, AllMessages, Count, Grants, Parked, HostFile, HostFileAfter, Report}
-use Rattle.relay_http.specs.declared.route.Route.TheVariants.{Requests, RequestsAfter, NamedRequest, HostAt, OpenRequests}
+use Rattle.relay_http.specs.declared.route.Route.TheVariants.{Requests, RequestsAfter, NamedRequest, HostAt, OpenRequests, SiteHistory}
 use Rattle.relay_http.proofs.ScanLemmas.{ended_behind, ended_is_head, scanned-append}
 use Rattle.relay_http.proofs.SettleLemmas.{has_more, head_fits, headless_more, whole_more}
 use Rattle.relay_http.proofs.RequestLemmas.{one_request, some_request, take_rest}
@@ -168,6 +168,7 @@ sought_short RequestsAfter named fields rest e = absurd cc
 sought_short NamedRequest named fields rest e = absurd cc
 sought_short Grants named fields rest e = absurd cc
 sought_short Parked named fields rest e = absurd cc
+sought_short SiteHistory named fields rest e = absurd cc
 sought_short HostFile named fields rest e = absurd cc
 sought_short HostFileAfter named fields rest e = absurd cc
 sought_short HostAt named fields rest e = absurd cc
@@ -221,6 +222,7 @@ lacks_is (requests_after at) e = absurd cc
 lacks_is (named_request asker number) e = absurd cc
 lacks_is (grants at) e = absurd cc
 lacks_is parked e = absurd cc
+lacks_is site_history e = absurd cc
 lacks_is (host_file host) e = absurd cc
 lacks_is (host_file_after host at) e = absurd cc
 lacks_is (host_at host at) e = absurd cc
@@ -240,6 +242,7 @@ dated_short (named_request asker number) (inr x) = absurd (let wrong = x.1 in cc
 dated_short (grants at) (inl x) = absurd (let wrong : ◌≡◌ {A = Action ℕ} (refused ShortBody) (grants x.0) = x.2 in cc)
 dated_short (grants at) (inr x) = absurd (let wrong = x.1 in cc)
 dated_short parked e = absurd cc
+dated_short site_history e = absurd cc
 dated_short (host_file host) e = absurd cc
 dated_short (host_file_after host at) (inl x) = absurd (let wrong : ◌≡◌ {A = Action ℕ} (refused ShortBody) (host_file_after host x.0) = x.2 in cc)
 dated_short (host_file_after host at) (inr x) = absurd (let wrong = x.1 in cc)

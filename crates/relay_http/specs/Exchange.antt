@@ -28,34 +28,36 @@ use Rattle.relay_http.specs.declared.serving.ServeFault.TheVariants.{ReadFailed}
 use Rattle.relay_http.specs.declared.serving.ServeFault.TheVariants.{WriteFailed, NoMemory}
 use Rattle.relay_http.specs.declared.status.ResponseStatus.TheVariants.{Done}
 
--- The response of a desk of this roster and base to an action. `IsUp` says that the storage was
--- honest and no failure has shut it, `old` and `new` which messages it holds before and after,
--- `Same` that it keeps what it kept. `Served` says what storage did, as `desk_store` defines: by
--- whether the answer tells of a failed storage, and whether of a want of memory or of storage.
-pub record IsAnswered (roster : Reading) (base : List Entry)
+-- The response of a desk of this roster, base and history to an action. `IsUp` says that the
+-- storage was honest and no failure has shut it, `old` and `new` which messages it holds before and
+-- after, `Same` that it keeps what it kept. `Served` says what storage did, as `desk_store` says:
+-- by whether the answer tells of a failed storage, and whether of a want of memory or of storage.
+pub record IsAnswered (roster : Reading) (base : List Entry) (history : List ℕ)
     (IsUp : Type 0) (old new : Message → Type 0) (Same : Type 0)
     (Served : (Failure Want : Type 0) → Type 0)
     (action : Action ℕ) (response : Response) : Type 0 where
   pub right : (set : List Message) → IsUp → Lists old set
-      → IsResponse roster base set action response ⊎ IsServerFailure response
+      → IsResponse roster base history set action response ⊎ IsServerFailure response
   pub leaves : IsUp → Leaves Same old new action response
   pub served : Served (response ≡ refusal Storage) (IsServerFailure response)
 
 -- An exchange over such a desk, whose keeper `g` describes before and after: one response is the
 -- desk's answer, also by what a crash would leave, and `Wrote` holds of that response's bytes.
 pub record IsExchange {K : Type 0} (g : Ghosts K) (roster : Reading) (base : List Entry)
-    (before after : K) (Wrote : List ℕ → Type 0) (request : Request ℕ) : Type 0 where
+    (history : List ℕ) (before after : K) (Wrote : List ℕ → Type 0) (request : Request ℕ)
+    : Type 0 where
   pub response : Response
-  pub answered : IsAnswered roster base (g.is_up after) (g.holds before) (g.holds after)
+  pub answered : IsAnswered roster base history (g.is_up after) (g.holds before) (g.holds after)
       (g.is_same before after) (Serves g before after) request.action response
   pub lasts : Lasts g roster.says roster.text before after request.action response
   pub wrote : Wrote (written response.status response.body request.with_body)
 
 -- An exchange whose response is known by its status, the refusal that it tells, and its bytes.
 abbrev pub IsPrepared : {K : Type 0} → (g : Ghosts K) → (roster : Reading) → (base : List Entry)
-    → (before after : K) → Request ℕ → (code : ℕ) → Option Refusal → (bytes : List ℕ) → Type 0
-IsPrepared g roster base before after request code told bytes =
-    (x : IsExchange g roster base before after (λ all. bytes ≡ all) request)
+    → (history : List ℕ) → (before after : K) → Request ℕ → (code : ℕ) → Option Refusal
+    → (bytes : List ℕ) → Type 0
+IsPrepared g roster base history before after request code told bytes =
+    (x : IsExchange g roster base history before after (λ all. bytes ≡ all) request)
     × (code ≡ code_of x.response.status) × ResponseTells told x.response
 
 -- a response that tells of a want of memory or of storage was written

@@ -9,7 +9,7 @@ use Rattle.desk.specs.Crash.{IsAddedByDelivery}
 use Rattle.relay_http.specs.Request.{Action, deliver, all_messages, count, grants}
 use Rattle.relay_http.specs.Request.{parked, host_file, host_file_after, report, refused}
 use Rattle.relay_http.specs.Request.{requests, requests_after, named_request, host_at}
-use Rattle.relay_http.specs.Request.{open_requests}
+use Rattle.relay_http.specs.Request.{open_requests, site_history}
 use Rattle.relay_http.specs.Responses.{Response}
 use Rattle.relay_http.specs.declared.status.ResponseStatus.TheVariants.{Done}
 
@@ -26,6 +26,7 @@ IsAddedBy Up f roster old (requests_after at) left = ⊥
 IsAddedBy Up f roster old (named_request asker number) left = ⊥
 IsAddedBy Up f roster old (grants at) left = ⊥
 IsAddedBy Up f roster old parked left = ⊥
+IsAddedBy Up f roster old site_history left = ⊥
 IsAddedBy Up f roster old (host_file host) left = ⊥
 IsAddedBy Up f roster old (host_file_after host at) left = ⊥
 IsAddedBy Up f roster old (host_at host at) left = ⊥

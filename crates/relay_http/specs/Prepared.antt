@@ -9,7 +9,7 @@ use Rattle.desk.specs.Count.{IsCount}
 use Rattle.desk.specs.declared.refusal.Refusal.{Refusal}
 use Rattle.desk.specs.declared.refusal.Refusal.TheVariants.{NoMemory}
 use Rattle.relay_http.specs.Outgoing.{body_bytes}
-use Rattle.relay_http.specs.Responses.{Response, count_line, done, refusal}
+use Rattle.relay_http.specs.Responses.{Response, count_line, done, refusal, to_history}
 use Rattle.relay_http.specs.declared.prepared.PreparedResponse.{PreparedResponse}
 
 abbrev pub response_of : PreparedResponse → Response
@@ -19,6 +19,11 @@ response_of a = record { status = a.status; body = body_bytes a.body }
 abbrev pub to_question : Result (String Global) Refusal → Response
 to_question (Ok text) = done (string_bytes text)
 to_question (Err e) = refusal e
+
+-- the response to a question for the history
+abbrev pub to_told : Result (String Global) Refusal → Response
+to_told (Ok text) = to_history (string_bytes text)
+to_told (Err e) = refusal e
 
 -- the text is the line of the count, and a newline
 abbrev pub IsCountText : Reading → (base : List Entry) → List Message → (text : List ℕ) → Type 0

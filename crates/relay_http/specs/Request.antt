@@ -7,6 +7,7 @@ use Rattle.relay_http.specs.declared.action.Action.TheVariants.{Count, Parked, H
 use Rattle.relay_http.specs.declared.action.Action.TheVariants.{HostFileAfter, Report, Refused}
 use Rattle.relay_http.specs.declared.action.Action.TheVariants.{Requests, RequestsAfter}
 use Rattle.relay_http.specs.declared.action.Action.TheVariants.{NamedRequest, HostAt, OpenRequests}
+use Rattle.relay_http.specs.declared.action.Action.TheVariants.{SiteHistory}
 use Rattle.relay_http.specs.declared.action.HttpRequest.{HttpRequest}
 
 -- A delivery by a relay, a query, or the first fault that applies. `At` is the type of a moment and
@@ -20,6 +21,7 @@ pub data Action (At : Type 0) : Type 0 where
   named_request : (asker : List ℕ) → (number : At) → Action At
   grants : (at : At) → Action At
   parked : Action At
+  site_history : Action At
   host_file : (host : List ℕ) → Action At
   host_file_after : (host : List ℕ) → (at : At) → Action At
   host_at : (host : List ℕ) → (at : At) → Action At
@@ -43,6 +45,7 @@ action_of (RequestsAfter at) = requests_after at
 action_of (NamedRequest asker number) = named_request asker.now number
 action_of (Grants at) = grants at
 action_of Parked = parked
+action_of SiteHistory = site_history
 action_of (HostFile host) = host_file host.now
 action_of (HostFileAfter host at) = host_file_after host.now at
 action_of (HostAt host at) = host_at host.now at

@@ -11,7 +11,7 @@ use Rattle.messages.specs.Fields.{IsNumbered}
 use Rattle.relay_http.specs.Request.{Action, Request, deliver, all_messages, count, grants}
 use Rattle.relay_http.specs.Request.{parked, host_file, host_file_after, report, refused}
 use Rattle.relay_http.specs.Request.{requests, requests_after, named_request, host_at}
-use Rattle.relay_http.specs.Request.{open_requests}
+use Rattle.relay_http.specs.Request.{open_requests, site_history}
 use Rattle.relay_http.specs.Fields.{Fields, values, is_bad_host}
 use Rattle.relay_http.specs.Content.{content_by_fields}
 use Rattle.relay_http.specs.Target.{is_plain}
@@ -25,7 +25,7 @@ use Rattle.relay_http.specs.declared.route.Route.TheVariants.{Messages, AllMessa
 use Rattle.relay_http.specs.declared.route.Route.TheVariants.{Parked, HostFile, HostFileAfter}
 use Rattle.relay_http.specs.declared.route.Route.TheVariants.{Report, Requests}
 use Rattle.relay_http.specs.declared.route.Route.TheVariants.{RequestsAfter, NamedRequest}
-use Rattle.relay_http.specs.declared.route.Route.TheVariants.{HostAt, OpenRequests}
+use Rattle.relay_http.specs.declared.route.Route.TheVariants.{HostAt, OpenRequests, SiteHistory}
 use Rattle.relay_http.specs.declared.route.Methods.{Methods}
 use Rattle.relay_http.specs.declared.route.Methods.TheVariants.{Post, GetOrHead}
 
@@ -49,6 +49,7 @@ methods_of RequestsAfter = GetOrHead
 methods_of NamedRequest = GetOrHead
 methods_of Grants = GetOrHead
 methods_of Parked = GetOrHead
+methods_of SiteHistory = GetOrHead
 methods_of HostFile = GetOrHead
 methods_of HostFileAfter = GetOrHead
 methods_of HostAt = GetOrHead
@@ -77,6 +78,7 @@ sought NamedRequest part_named fields rest =
     named_request (part_named (codes "asker")) (part_named (codes "no"))
 sought Grants part_named fields rest = grants (part_named (codes "at"))
 sought Parked part_named fields rest = parked
+sought SiteHistory part_named fields rest = site_history
 sought HostFile part_named fields rest = host_file (part_named (codes "host"))
 sought HostFileAfter part_named fields rest =
     host_file_after (part_named (codes "host")) (part_named (codes "at"))
@@ -149,6 +151,7 @@ Dates (requests_after at) action = DatesAt requests_after at action
 Dates (named_request asker number) action = Numbers asker number action
 Dates (grants at) action = DatesAt grants at action
 Dates parked action = action ≡ parked
+Dates site_history action = action ≡ site_history
 Dates (host_file host) action = action ≡ host_file host
 Dates (host_file_after host at) action = DatesAt (λ t. host_file_after host t) at action
 Dates (host_at host at) action = DatesAt (λ t. host_at host t) at action

@@ -21,6 +21,7 @@ use Rattle.outcomes.specs.HostFile.{Line, AreLines, lines_after, with_lines}
 use Rattle.outcomes.specs.Outcomes.{AreLive, LiveGrant}
 use Rattle.outcomes.specs.Parked.{AreParked}
 use Rattle.desk.specs.Count.{IsCount}
+use Rattle.desk.specs.History.{IsHistory}
 use Rattle.desk.specs.Refusals.{refusal_text}
 use Rattle.desk.specs.Texts.{AreTexts}
 use Rattle.desk.specs.declared.ack.Ack.{Ack}
@@ -37,8 +38,10 @@ use Rattle.desk_audit.specs.Documents.{IsAuditText, IsNameText, IsOpenText}
 use Rattle.relay_http.specs.Request.{Action, deliver, all_messages, count, grants, parked}
 use Rattle.relay_http.specs.Request.{host_file, host_file_after, report, refused}
 use Rattle.relay_http.specs.Request.{requests, requests_after, named_request, host_at}
-use Rattle.relay_http.specs.Request.{open_requests}
+use Rattle.relay_http.specs.Request.{open_requests, site_history}
 use Rattle.relay_http.specs.Response.{fault_line, status_of}
+use Rattle.relay_http.specs.declared.fault.RequestFault.{RequestFault}
+use Rattle.relay_http.specs.declared.fault.RequestFault.TheVariants.{NoRoute}
 use Rattle.relay_http.specs.declared.status.ResponseStatus.{ResponseStatus}
 use Rattle.relay_http.specs.declared.status.ResponseStatus.TheVariants as status
 
@@ -99,6 +102,10 @@ abbrev pub to_delivery : Result Ack Refusal → Response
 to_delivery (Ok ack) = done (codes "ack" ++ newline ∷ [])
 to_delivery (Err e) = refusal e
 
+-- the response to a request that is refused by its bytes alone
+abbrev pub to_fault : RequestFault → Response
+to_fault fault = record { status = status_of fault; body = fault_line fault }
+
 -- ---- the response to an action
 
 abbrev pub delivery : (relay body : List ℕ) → Delivery
@@ -131,40 +138,51 @@ IsCountedFileResponse r base set host at response =
     ⊎ ((e : Refusal) × IsFileResponse (lines_after at) r.says base set host (refusal e)
     × (response ≡ refusal e))
 
--- The response to an action, by a roster, a base and the messages of a set, where memory lasts and
--- the storage holds: at most one, by a law.
-abbrev pub IsResponse : Reading → (base : List Entry)
+-- the response to a question for the history: where none is known, that of a path without a route
+abbrev pub to_history : (history : List ℕ) → Response
+to_history [] = to_fault NoRoute
+to_history (code ∷ more) = done (code ∷ more)
+
+-- The same, of a history whose last line, if there is one, ends with the digests of this roster and
+-- this base.
+abbrev pub IsHistoryResponse : (roster : List ℕ) → (base : List Entry) → (history : List ℕ)
+    → Response → Type 0
+IsHistoryResponse roster base history response =
+    IsHistory roster base history × (response ≡ to_history history)
+
+-- The response to an action, by a roster, a base, a history and the messages of a set, where memory
+-- lasts and the storage holds: at most one, by a law.
+abbrev pub IsResponse : Reading → (base : List Entry) → (history : List ℕ)
     → List Message → Action ℕ → Response → Type 0
-IsResponse r base set (deliver relay body) response = (answer : Result Ack Refusal)
+IsResponse r base history set (deliver relay body) response = (answer : Result Ack Refusal)
     × Answers r.says (delivery relay body) answer × (response ≡ to_delivery answer)
-IsResponse r base set all_messages response =
+IsResponse r base history set all_messages response =
     (texts : List (List ℕ)) × AreTexts set texts × (response ≡ done (each_on_a_line texts))
-IsResponse r base set count response = (messages : ℕ) × IsCount set messages
+IsResponse r base history set count response = (messages : ℕ) × IsCount set messages
     × (response ≡ done (count_line messages r.text base ++ newline ∷ []))
-IsResponse r base set requests response =
+IsResponse r base history set requests response =
     (text : List ℕ) × IsAuditText r.says set all text × (response ≡ done text)
-IsResponse r base set (requests_after at) response =
+IsResponse r base history set (requests_after at) response =
     (text : List ℕ) × IsAuditText r.says set (after at) text × (response ≡ done text)
-IsResponse r base set (named_request asker number) response = (text : List ℕ)
+IsResponse r base history set (named_request asker number) response = (text : List ℕ)
     × IsNameText r.says set (record { by = asker; no = number }) text × (response ≡ done text)
-IsResponse r base set (grants at) response = (list : List LiveGrant)
+IsResponse r base history set (grants at) response = (list : List LiveGrant)
     × AreLive r.says set at list × (response ≡ done (each_on_a_line (map live_grant_line list)))
-IsResponse r base set parked response =
+IsResponse r base history set parked response =
     (texts : List (List ℕ)) × AreParked set texts × (response ≡ done (each_on_a_line texts))
-IsResponse r base set (host_file host) response =
+IsResponse r base history set site_history response =
+    IsHistoryResponse r.text base history response
+IsResponse r base history set (host_file host) response =
     IsFileResponse (λ lines. lines) r.says base set host response
-IsResponse r base set (host_file_after host at) response =
+IsResponse r base history set (host_file_after host at) response =
     IsFileResponse (lines_after at) r.says base set host response
-IsResponse r base set (host_at host at) response =
+IsResponse r base history set (host_at host at) response =
     IsCountedFileResponse r base set host at response
-IsResponse r base set (report at) response =
+IsResponse r base history set (report at) response =
     (text : List ℕ) × IsReport r.says base set at text × (response ≡ done text)
-IsResponse r base set (open_requests at) response =
+IsResponse r base history set (open_requests at) response =
     (text : List ℕ) × IsOpenText r.says set at text × (response ≡ done text)
-IsResponse r base set (refused fault) response = response ≡ record {
-  status = status_of fault;
-  body = fault_line fault;
-}
+IsResponse r base history set (refused fault) response = response ≡ to_fault fault
 
 -- memory or the storage failed: never a right response
 abbrev pub IsServerFailure : Response → Type 0
@@ -194,6 +212,7 @@ Leaves Same old new (requests_after at) response = Same
 Leaves Same old new (named_request asker number) response = Same
 Leaves Same old new (grants at) response = Same
 Leaves Same old new parked response = Same
+Leaves Same old new site_history response = Same
 Leaves Same old new (host_file host) response = Same
 Leaves Same old new (host_file_after host at) response = Same
 Leaves Same old new (host_at host at) response = Same

@@ -15,7 +15,7 @@ use Rattle.relay_http.specs.declared.route.Route.TheVariants.{Messages, AllMessa
 use Rattle.relay_http.specs.declared.route.Route.TheVariants.{Parked, HostFile, HostFileAfter}
 use Rattle.relay_http.specs.declared.route.Route.TheVariants.{Report, Requests}
 use Rattle.relay_http.specs.declared.route.Route.TheVariants.{RequestsAfter, NamedRequest}
-use Rattle.relay_http.specs.declared.route.Route.TheVariants.{HostAt, OpenRequests}
+use Rattle.relay_http.specs.declared.route.Route.TheVariants.{HostAt, OpenRequests, SiteHistory}
 
 -- the routes with one more
 abbrev pub added : Result Scan InsertError → Route → RowsOf (RouteOf Route) → RowsOf (RouteOf Route)
@@ -35,7 +35,8 @@ IsFreeRoute (Err e) rows = ⊥
 -- where no such route has the rest of the target.
 unfoldable pub routes : RowsOf (RouteOf Route)
 routes =
-    with_route (codes "/v1/open/{at}") OpenRequests
+    with_route (codes "/v1/history") SiteHistory
+    (with_route (codes "/v1/open/{at}") OpenRequests
     (with_route (codes "/v1/hosts/{host}/at/{at}") HostAt
     (with_route (codes "/v1/requests/{asker}/{no}") NamedRequest
     (with_route (codes "/v1/requests/after/{at}") RequestsAfter
@@ -47,7 +48,7 @@ routes =
     (with_route (codes "/v1/hosts/{host}/sudoers") HostFile
     (with_route (codes "/v1/parked") Parked
     (with_route (codes "/v1/grants/{at}") Grants
-    (with_route (codes "/v1/relays/{relay}/messages") Messages []))))))))))))
+    (with_route (codes "/v1/relays/{relay}/messages") Messages [])))))))))))))
 
 -- a route by which something is asked, and no message is taken
 abbrev pub is_question : Route → Bool
@@ -59,6 +60,7 @@ is_question RequestsAfter = true
 is_question NamedRequest = true
 is_question Grants = true
 is_question Parked = true
+is_question SiteHistory = true
 is_question HostFile = true
 is_question HostFileAfter = true
 is_question HostAt = true
@@ -94,6 +96,7 @@ parameter RequestsAfter = codes "at"
 parameter NamedRequest = codes "asker"
 parameter Grants = codes "at"
 parameter Parked = []
+parameter SiteHistory = []
 parameter HostFile = codes "host"
 parameter HostFileAfter = codes "host"
 parameter HostAt = codes "host"
@@ -110,6 +113,7 @@ second_parameter RequestsAfter = []
 second_parameter NamedRequest = codes "no"
 second_parameter Grants = []
 second_parameter Parked = []
+second_parameter SiteHistory = []
 second_parameter HostFile = []
 second_parameter HostFileAfter = codes "at"
 second_parameter HostAt = codes "at"

@@ -3,7 +3,7 @@ use Rattle.std.specs.Prelude.{Bool, true, false}
 use Rattle.relay_http.specs.Request.{Action, Request, deliver, all_messages, count, grants}
 use Rattle.relay_http.specs.Request.{parked, host_file, host_file_after, report, refused}
 use Rattle.relay_http.specs.Request.{requests, requests_after, named_request, host_at}
-use Rattle.relay_http.specs.Request.{open_requests}
+use Rattle.relay_http.specs.Request.{open_requests, site_history}
 use Rattle.relay_http.specs.declared.fault.RequestFault.{RequestFault}
 use Rattle.relay_http.specs.declared.fault.RequestFault.TheVariants.{BadHead, BadTarget, NoRoute}
 use Rattle.relay_http.specs.declared.fault.RequestFault.TheVariants.{BadMethod, LengthRequired}
@@ -30,6 +30,7 @@ lacks_content (requests_after at) = false
 lacks_content (named_request asker number) = false
 lacks_content (grants at) = false
 lacks_content parked = false
+lacks_content site_history = false
 lacks_content (host_file host) = false
 lacks_content (host_file_after host at) = false
 lacks_content (host_at host at) = false

@@ -22,6 +22,8 @@ pub enum Action<'b> {
     Grants(Moment),
     /// The verdicts whose request has not come.
     Parked,
+    /// Which rosters and bases the site had.
+    SiteHistory,
     /// The sudoers file of a host, whose name may have any form.
     HostFile(&'b str),
     /// The sudoers file of a host without the lines that end before the moment.

@@ -1,23 +1,26 @@
 //! The desk's answers to the actions of requests.
 
-ghost use Rattle.std.specs.Prelude.{◌≡◌, ◌++◌, ◌∷◌, List, [], IfErr, IfOk, string_bytes};
+ghost use Rattle.std.specs.Prelude.{◌≡◌, ◌++◌, ◌∷◌, List, [], IfErr, IfOk, OnOk, string_bytes};
 ghost use Rattle.sudo_words.specs.Bytes.{newline};
 ghost use Rattle.messages.specs.declared.message.Message.{Message as AnyMessage};
 ghost use Rattle.desk_store.specs.Serves.{Serves};
 ghost use Rattle.desk_store.specs.Sets.{Lists};
+ghost use Rattle.desk.specs.History.{IsHistory};
 ghost use Rattle.desk.specs.Refusals.{IsWant};
 ghost use Rattle.desk.specs.Serving.{KeepsSettings, OnlyAsks};
 ghost use Rattle.relay_http.specs.Request.{all_messages, action_of, count, deliver, grants};
 ghost use Rattle.relay_http.specs.Request.{host_at, host_file, host_file_after, named_request};
-ghost use Rattle.relay_http.specs.Request.{parked, report, requests, requests_after, open_requests};
+ghost use Rattle.relay_http.specs.Request.{parked, report, requests, requests_after};
+ghost use Rattle.relay_http.specs.Request.{open_requests, site_history};
 ghost use Rattle.relay_http.specs.Exchange.{IsAnswered};
 ghost use Rattle.relay_http.specs.Lasting.{Lasts};
 ghost use Rattle.relay_http.specs.Prepared.{IsCountText, IsJoined, response_of, to_question};
+ghost use Rattle.relay_http.specs.Prepared.{to_told};
 ghost use Rattle.relay_http.specs.Responses.{ResponseTells, count_line};
 
 use crate::action::Action;
 use crate::bodies::{count_text, lines_text, live_text};
-use crate::prepared::{PreparedResponse, to_delivery, to_fault, to_question};
+use crate::prepared::{PreparedResponse, to_delivery, to_fault, to_question, to_told};
 use desk::{Desk, Keeper, Refusal};
 use findings::Pick;
 use std::alloc::Global;
@@ -25,7 +28,7 @@ use sudo_words::{HostName, Moment, NoMemory, WordFault};
 
 /// The answer to a delivery. Once the message is acknowledged no memory is taken.
 fn delivered<K: Keeper>(desk: &mut Desk<K>, relay: &str, body: &[u8]) -> PreparedResponse
-    ensures answered { IsAnswered desk.old.roster desk.old.base
+    ensures answered { IsAnswered desk.old.roster desk.old.base desk.old.history
         (K.is_up desk.new.keeper) (K.holds desk.old.keeper) (K.holds desk.new.keeper)
         (K.is_same desk.old.keeper desk.new.keeper) (Serves K.Keeper desk.old.keeper
         desk.new.keeper) (deliver relay.now body.now) (response_of result) }
@@ -39,7 +42,7 @@ fn delivered<K: Keeper>(desk: &mut Desk<K>, relay: &str, body: &[u8]) -> Prepare
 
 /// The lines of all messages.
 fn all_messages<K: Keeper>(alloc: Global, desk: &mut Desk<K>) -> Result<String, Refusal>
-    ensures answered { IsAnswered desk.old.roster desk.old.base
+    ensures answered { IsAnswered desk.old.roster desk.old.base desk.old.history
         (K.is_up desk.new.keeper) (K.holds desk.old.keeper) (K.holds desk.new.keeper)
         (K.is_same desk.old.keeper desk.new.keeper)
         (Serves K.Keeper desk.old.keeper desk.new.keeper) all_messages (to_question result) }
@@ -85,7 +88,7 @@ fn counted<K: Keeper>(alloc: Global, desk: &mut Desk<K>) -> Result<String, Refus
 
 /// The line of the count.
 fn count<K: Keeper>(alloc: Global, desk: &mut Desk<K>) -> Result<String, Refusal>
-    ensures answered { IsAnswered desk.old.roster desk.old.base
+    ensures answered { IsAnswered desk.old.roster desk.old.base desk.old.history
         (K.is_up desk.new.keeper) (K.holds desk.old.keeper) (K.holds desk.new.keeper)
         (K.is_same desk.old.keeper desk.new.keeper)
         (Serves K.Keeper desk.old.keeper desk.new.keeper) count (to_question result) }
@@ -98,7 +101,7 @@ fn count<K: Keeper>(alloc: Global, desk: &mut Desk<K>) -> Result<String, Refusal
 
 /// What became of every request.
 fn requests<K: Keeper>(desk: &mut Desk<K>) -> Result<String, Refusal>
-    ensures answered { IsAnswered desk.old.roster desk.old.base
+    ensures answered { IsAnswered desk.old.roster desk.old.base desk.old.history
         (K.is_up desk.new.keeper) (K.holds desk.old.keeper) (K.holds desk.new.keeper)
         (K.is_same desk.old.keeper desk.new.keeper)
         (Serves K.Keeper desk.old.keeper desk.new.keeper) requests (to_question result) }
@@ -111,7 +114,7 @@ fn requests<K: Keeper>(desk: &mut Desk<K>) -> Result<String, Refusal>
 
 /// What became of the requests after the moment.
 fn requests_after<K: Keeper>(desk: &mut Desk<K>, at: Moment) -> Result<String, Refusal>
-    ensures answered { IsAnswered desk.old.roster desk.old.base
+    ensures answered { IsAnswered desk.old.roster desk.old.base desk.old.history
         (K.is_up desk.new.keeper) (K.holds desk.old.keeper) (K.holds desk.new.keeper)
         (K.is_same desk.old.keeper desk.new.keeper)
         (Serves K.Keeper desk.old.keeper desk.new.keeper) (requests_after at) (to_question result) }
@@ -124,7 +127,7 @@ fn requests_after<K: Keeper>(desk: &mut Desk<K>, at: Moment) -> Result<String, R
 
 /// What became of the request that the asker made under the number.
 fn named_request<K: Keeper>(desk: &mut Desk<K>, asker: &str, no: u32) -> Result<String, Refusal>
-    ensures answered { IsAnswered desk.old.roster desk.old.base
+    ensures answered { IsAnswered desk.old.roster desk.old.base desk.old.history
         (K.is_up desk.new.keeper) (K.holds desk.old.keeper) (K.holds desk.new.keeper)
         (K.is_same desk.old.keeper desk.new.keeper) (Serves K.Keeper desk.old.keeper
         desk.new.keeper) (named_request asker.now no) (to_question result) }
@@ -137,7 +140,7 @@ fn named_request<K: Keeper>(desk: &mut Desk<K>, asker: &str, no: u32) -> Result<
 
 /// The lines of the grants in force.
 fn live<K: Keeper>(alloc: Global, desk: &mut Desk<K>, at: Moment) -> Result<String, Refusal>
-    ensures answered { IsAnswered desk.old.roster desk.old.base
+    ensures answered { IsAnswered desk.old.roster desk.old.base desk.old.history
         (K.is_up desk.new.keeper) (K.holds desk.old.keeper) (K.holds desk.new.keeper)
         (K.is_same desk.old.keeper desk.new.keeper)
         (Serves K.Keeper desk.old.keeper desk.new.keeper) (grants at) (to_question result) }
@@ -156,7 +159,7 @@ fn live<K: Keeper>(alloc: Global, desk: &mut Desk<K>, at: Moment) -> Result<Stri
 
 /// The lines of the parked verdicts.
 fn parked<K: Keeper>(alloc: Global, desk: &mut Desk<K>) -> Result<String, Refusal>
-    ensures answered { IsAnswered desk.old.roster desk.old.base
+    ensures answered { IsAnswered desk.old.roster desk.old.base desk.old.history
         (K.is_up desk.new.keeper) (K.holds desk.old.keeper) (K.holds desk.new.keeper)
         (K.is_same desk.old.keeper desk.new.keeper)
         (Serves K.Keeper desk.old.keeper desk.new.keeper) parked (to_question result) }
@@ -173,9 +176,33 @@ fn parked<K: Keeper>(alloc: Global, desk: &mut Desk<K>) -> Result<String, Refusa
     }
 }
 
+/// The history of the site, from a desk that still answers.
+fn known_history<K: Keeper>(alloc: Global, desk: &mut Desk<K>) -> Result<String, Refusal>
+    ensures told { IfOk result (λ s. string_bytes s ≡ desk.old.history) }
+    ensures ends { OnOk result (IsHistory desk.old.roster.text desk.old.base desk.old.history) }
+    ensures err { IfErr result IsWant }
+    ensures asks { OnlyAsks K.Keeper desk.old desk.new result }
+{
+    desk.count()?;
+    Ok(String::from_str(alloc, desk.history())?)
+}
+
+/// The history of the site; empty where none is known.
+fn site_history<K: Keeper>(alloc: Global, desk: &mut Desk<K>) -> Result<String, Refusal>
+    ensures answered { IsAnswered desk.old.roster desk.old.base desk.old.history
+        (K.is_up desk.new.keeper) (K.holds desk.old.keeper) (K.holds desk.new.keeper)
+        (K.is_same desk.old.keeper desk.new.keeper)
+        (Serves K.Keeper desk.old.keeper desk.new.keeper) site_history (to_told result) }
+    ensures lasts { Lasts K.Keeper desk.old.roster.says desk.old.roster.text
+        desk.old.keeper desk.new.keeper site_history (to_told result) }
+    ensures settings { KeepsSettings desk.old desk.new }
+{
+    known_history(alloc, desk)
+}
+
 /// The host's file. A text that is not a host's name counts as a host that the roster lacks.
 fn host_file<K: Keeper>(alloc: Global, desk: &mut Desk<K>, host: &str) -> Result<String, Refusal>
-    ensures answered { IsAnswered desk.old.roster desk.old.base
+    ensures answered { IsAnswered desk.old.roster desk.old.base desk.old.history
         (K.is_up desk.new.keeper) (K.holds desk.old.keeper) (K.holds desk.new.keeper)
         (K.is_same desk.old.keeper desk.new.keeper) (Serves K.Keeper
         desk.old.keeper desk.new.keeper) (host_file host.now) (to_question result) }
@@ -197,7 +224,7 @@ fn host_file_after<K: Keeper>(
     host: &str,
     at: Moment,
 ) -> Result<String, Refusal>
-    ensures answered { IsAnswered desk.old.roster desk.old.base
+    ensures answered { IsAnswered desk.old.roster desk.old.base desk.old.history
         (K.is_up desk.new.keeper) (K.holds desk.old.keeper) (K.holds desk.new.keeper)
         (K.is_same desk.old.keeper desk.new.keeper) (Serves K.Keeper desk.old.keeper
         desk.new.keeper) (host_file_after host.now at) (to_question result) }
@@ -212,13 +239,15 @@ fn host_file_after<K: Keeper>(
     }
 }
 
-/// The file behind the line.
-fn followed(line: String, file: &str) -> Result<String, Refusal>
-    ensures text { IfOk result (λ s. string_bytes s ≡ string_bytes line ++ file.now) }
+/// The line, with the file behind it. The line is put before the file, where room for the file is
+/// already: a file may have a MiB.
+fn followed(line: String, file: String) -> Result<String, Refusal>
+    ensures text { IfOk result
+        (λ s. string_bytes s ≡ string_bytes line ++ string_bytes file) }
     ensures err { IfErr result (λ e. e ≡ Refusal.NoMemory) }
 {
-    let mut out = line;
-    out.push_str(file)?;
+    let mut out = file;
+    out.insert_str(0, line.as_str())?;
     Ok(out)
 }
 
@@ -227,7 +256,7 @@ fn joined(line: String, file: Result<String, Refusal>) -> Result<String, Refusal
     ensures { IsJoined line file result }
 {
     match file {
-        Ok(file) => followed(line, file.as_str()),
+        Ok(file) => followed(line, file),
         Err(refusal) => Err(refusal),
     }
 }
@@ -240,7 +269,7 @@ fn host_at<K: Keeper>(
     host: &str,
     at: Moment,
 ) -> Result<String, Refusal>
-    ensures answered { IsAnswered desk.old.roster desk.old.base
+    ensures answered { IsAnswered desk.old.roster desk.old.base desk.old.history
         (K.is_up desk.new.keeper) (K.holds desk.old.keeper) (K.holds desk.new.keeper)
         (K.is_same desk.old.keeper desk.new.keeper) (Serves K.Keeper desk.old.keeper
         desk.new.keeper) (host_at host.now at) (to_question result) }
@@ -256,7 +285,7 @@ fn host_at<K: Keeper>(
 
 /// The report of what the desk holds.
 fn report<K: Keeper>(desk: &mut Desk<K>, at: Moment) -> Result<String, Refusal>
-    ensures answered { IsAnswered desk.old.roster desk.old.base
+    ensures answered { IsAnswered desk.old.roster desk.old.base desk.old.history
         (K.is_up desk.new.keeper) (K.holds desk.old.keeper) (K.holds desk.new.keeper)
         (K.is_same desk.old.keeper desk.new.keeper)
         (Serves K.Keeper desk.old.keeper desk.new.keeper) (report at) (to_question result) }
@@ -269,7 +298,7 @@ fn report<K: Keeper>(desk: &mut Desk<K>, at: Moment) -> Result<String, Refusal>
 
 /// What became of the requests that are open at the moment, and who may approve then.
 fn open_requests<K: Keeper>(desk: &mut Desk<K>, at: Moment) -> Result<String, Refusal>
-    ensures answered { IsAnswered desk.old.roster desk.old.base
+    ensures answered { IsAnswered desk.old.roster desk.old.base desk.old.history
         (K.is_up desk.new.keeper) (K.holds desk.old.keeper) (K.holds desk.new.keeper)
         (K.is_same desk.old.keeper desk.new.keeper)
         (Serves K.Keeper desk.old.keeper desk.new.keeper) (open_requests at) (to_question result) }
@@ -286,7 +315,7 @@ pub fn answered<K: Keeper>(
     desk: &mut Desk<K>,
     action: Action<'_>,
 ) -> PreparedResponse
-    ensures answered { IsAnswered desk.old.roster desk.old.base
+    ensures answered { IsAnswered desk.old.roster desk.old.base desk.old.history
         (K.is_up desk.new.keeper) (K.holds desk.old.keeper) (K.holds desk.new.keeper)
         (K.is_same desk.old.keeper desk.new.keeper)
         (Serves K.Keeper desk.old.keeper desk.new.keeper)
@@ -305,6 +334,7 @@ pub fn answered<K: Keeper>(
         Action::NamedRequest { asker, no } => to_question(named_request(desk, asker, no)),
         Action::Grants(at) => to_question(live(alloc, desk, at)),
         Action::Parked => to_question(parked(alloc, desk)),
+        Action::SiteHistory => to_told(site_history(alloc, desk)),
         Action::HostFile(host) => to_question(host_file(alloc, desk, host)),
         Action::HostFileAfter(host, at) => to_question(host_file_after(alloc, desk, host, at)),
         Action::HostAt(host, at) => to_question(host_at(alloc, desk, host, at)),

@@ -101,9 +101,9 @@ pub fn first_bytes_decide()
 /// An action has at most one right response by a roster, a base and a set of messages: so requests
 /// that ask for the same get the same response.
 pub fn one_response()
-    ensures { (roster : Reading) (base : List Entry) (set : List Message) (action : Action ℕ)
-        (a b : Response) → IsResponse roster base set action a
-        → IsResponse roster base set action b → a ≡ b }
+    ensures { (roster : Reading) (base : List Entry) (history : List ℕ) (set : List Message)
+        (action : Action ℕ) (a b : Response) → IsResponse roster base history set action a
+        → IsResponse roster base history set action b → a ≡ b }
 {}
 
 /// Two steps of receiving, one after the other, are like one step: the bytes that come are those
@@ -123,13 +123,13 @@ pub fn steps_are_one()
 /// after a moment, are the answer to the one question for both: the line with the file behind it,
 /// or the file's refusal.
 pub fn both_in_one()
-    ensures file { (roster : Reading) (base : List Entry) (set : List Message)
-        (host : List ℕ) (at : ℕ) (line : Response) (file : List ℕ)
-        → IsResponse roster base set count line
-        → IsResponse roster base set (host_file_after host at) (done file)
-        → IsResponse roster base set (host_at host at) (done (line.body ++ file)) }
-    ensures refused { (roster : Reading) (base : List Entry) (set : List Message)
-        (host : List ℕ) (at : ℕ) (e : Refusal)
-        → IsResponse roster base set (host_file_after host at) (refusal e)
-        → IsResponse roster base set (host_at host at) (refusal e) }
+    ensures file { (roster : Reading) (base : List Entry) (history : List ℕ)
+        (set : List Message) (host : List ℕ) (at : ℕ) (line : Response) (file : List ℕ)
+        → IsResponse roster base history set count line
+        → IsResponse roster base history set (host_file_after host at) (done file)
+        → IsResponse roster base history set (host_at host at) (done (line.body ++ file)) }
+    ensures refused { (roster : Reading) (base : List Entry) (history : List ℕ)
+        (set : List Message) (host : List ℕ) (at : ℕ) (e : Refusal)
+        → IsResponse roster base history set (host_file_after host at) (refusal e)
+        → IsResponse roster base history set (host_at host at) (refusal e) }
 {}

@@ -1,8 +1,8 @@
 //! Responses, before they are written.
 
-ghost use Rattle.std.specs.Prelude.{◌≡◌};
-ghost use Rattle.relay_http.specs.Prepared.{response_of, to_question};
-ghost use Rattle.relay_http.specs.Responses.{ResponseTells, refusal, to_delivery};
+ghost use Rattle.std.specs.Prelude.{◌≡◌, string_bytes};
+ghost use Rattle.relay_http.specs.Prepared.{response_of, to_question, to_told};
+ghost use Rattle.relay_http.specs.Responses.{ResponseTells, refusal, to_delivery, to_history};
 ghost use Rattle.relay_http.specs.Response.{fault_line, status_of};
 
 use crate::body::Body;
@@ -28,6 +28,22 @@ pub fn to_fault(fault: RequestFault) -> PreparedResponse
     PreparedResponse {
         status: fault.status(),
         body: Body::Fixed(fault.line()),
+        refusal: None,
+    }
+}
+
+/// The response that tells a history, and none where it is empty.
+fn to_history(history: String) -> PreparedResponse
+    ensures response { response_of result ≡ to_history (string_bytes history) }
+    ensures told { ResponseTells result.refusal (response_of result) }
+{
+    if history.is_empty() {
+        drop(history);
+        return to_fault(RequestFault::NoRoute);
+    }
+    PreparedResponse {
+        status: ResponseStatus::Done,
+        body: Body::Made(history),
         refusal: None,
     }
 }
@@ -70,6 +86,17 @@ pub fn to_question(answer: Result<String, Refusal>) -> PreparedResponse
             body: Body::Made(text),
             refusal: None,
         },
+        Err(reason) => to_refusal(reason),
+    }
+}
+
+/// The response to a question for the history: an empty one is told as a path without a route.
+pub fn to_told(answer: Result<String, Refusal>) -> PreparedResponse
+    ensures response { response_of result ≡ to_told answer }
+    ensures told { ResponseTells result.refusal (response_of result) }
+{
+    match answer {
+        Ok(text) => to_history(text),
         Err(reason) => to_refusal(reason),
     }
 }

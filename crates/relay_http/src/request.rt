@@ -172,6 +172,7 @@ fn by_method<'b>(
         Route::NamedRequest => named_request(taken, second),
         Route::Grants => grants_at(taken),
         Route::Parked => Action::Parked,
+        Route::SiteHistory => Action::SiteHistory,
         Route::HostFile => Action::HostFile(taken),
         Route::HostFileAfter => host_file_after(taken, second),
         Route::HostAt => host_at(taken, second),

@@ -62,8 +62,8 @@ impl Received {
     ) -> HttpResponse
         ensures exchange { (request : Request ℕ)
             × IsHttpRequest self.come.offered self.come.bytes request
-            × IsPrepared K.Keeper desk.old.roster desk.old.base desk.old.keeper desk.new.keeper
-            request result.status result.refusal result.rest }
+            × IsPrepared K.Keeper desk.old.roster desk.old.base desk.old.history
+            desk.old.keeper desk.new.keeper request result.status result.refusal result.rest }
         ensures settings { KeepsSettings desk.old desk.new }
     {
         let request = self.come.request(routes);

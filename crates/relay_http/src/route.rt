@@ -19,6 +19,8 @@ pub enum Route {
     Grants,
     /// The verdicts whose request has not come.
     Parked,
+    /// Which rosters and bases the site had.
+    SiteHistory,
     /// The sudoers file of a host.
     HostFile,
     /// The sudoers file of a host after a moment.
@@ -49,6 +51,7 @@ impl Route {
             | Route::NamedRequest
             | Route::Grants
             | Route::Parked
+            | Route::SiteHistory
             | Route::HostFile
             | Route::HostFileAfter
             | Route::HostAt
@@ -70,6 +73,7 @@ impl Route {
             | Route::NamedRequest
             | Route::Grants
             | Route::Parked
+            | Route::SiteHistory
             | Route::HostFile
             | Route::HostFileAfter
             | Route::HostAt

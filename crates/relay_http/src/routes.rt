@@ -118,6 +118,7 @@ fn router(alloc: Global) -> Result<Router<Route>, NoMemory>
     )?;
     add(&mut router, "/v1/hosts/{host}/at/{at}", Route::HostAt)?;
     add(&mut router, "/v1/open/{at}", Route::OpenRequests)?;
+    add(&mut router, "/v1/history", Route::SiteHistory)?;
     Ok(router)
 }
 
@@ -128,7 +129,8 @@ fn parameter(route: Route) -> &'static str
     match route {
         Route::Messages => "relay",
         Route::Grants | Route::Report | Route::RequestsAfter | Route::OpenRequests => "at",
-        Route::AllMessages | Route::Count | Route::Requests | Route::Parked => "",
+        Route::AllMessages | Route::Count | Route::Requests | Route::Parked | Route::SiteHistory =>
+            "",
         Route::NamedRequest => "asker",
         Route::HostFile | Route::HostFileAfter | Route::HostAt => "host",
     }
@@ -148,6 +150,7 @@ fn second_parameter(route: Route) -> &'static str
         | Route::RequestsAfter
         | Route::Grants
         | Route::Parked
+        | Route::SiteHistory
         | Route::HostFile
         | Route::Report
         | Route::OpenRequests => "",

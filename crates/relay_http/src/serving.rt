@@ -94,9 +94,9 @@ fn respond_to<K: Keeper, W: Write>(
 ) -> Result<(), ServeFault>
     ensures exchange { (request : Request ℕ)
         × IsHttpRequest received.come.offered received.come.bytes request
-        × IsExchange K.Keeper desk.old.roster desk.old.base desk.old.keeper desk.new.keeper
-        (λ bytes. Sends (W.contents writer.old.inner) (W.contents writer.new.inner) result bytes)
-        request }
+        × IsExchange K.Keeper desk.old.roster desk.old.base desk.old.history
+        desk.old.keeper desk.new.keeper (λ bytes. Sends
+        (W.contents writer.old.inner) (W.contents writer.new.inner) result bytes) request }
     ensures counted { MatchResult result (λ _. writer.new.failures ≡ writer.old.failures)
         (λ _. writer.new.failures ≡ one_failure writer.old.failures) }
     ensures settings { KeepsSettings desk.old desk.new }
@@ -127,9 +127,9 @@ pub fn serve_one<K: Keeper, R: Read, W: Write>(
     ensures exchange { HasResponded result
         → IfSome (R.remaining reader.old.inner) (λ all. (request : Request ℕ)
         → IsHttpRequest offered all request
-        → IsExchange K.Keeper desk.old.roster desk.old.base desk.old.keeper desk.new.keeper
-        (λ bytes. Sends (W.contents writer.old.inner) (W.contents writer.new.inner) result bytes)
-        request) }
+        → IsExchange K.Keeper desk.old.roster desk.old.base desk.old.history
+        desk.old.keeper desk.new.keeper (λ bytes. Sends
+        (W.contents writer.old.inner) (W.contents writer.new.inner) result bytes) request) }
     // A request that is not a POST changes nothing, and only the exchange of a POST to a relay's
     // messages with the status 200 changes anything, at a socket that has all routes.
     ensures queries { HasResponded result → K.is_up desk.new.keeper

@@ -22,7 +22,7 @@ loop-name-init g c =
       same = λ up. g.met.K.Keeper.same_itself old.keeper;
       live = λ live. live;
       leaves = λ clean left may. inl may;
-      settings = record { roster = refl; base = refl };
+      settings = record { roster = refl; base = refl; history = refl };
       served = served_by_none old.keeper ⊥ ⊥ (λ none. none);
     }
 

@@ -8,7 +8,7 @@ returns-clause-answered g c =
     let d = c.args.desk.now in
     let done = c.counted.ensures in
     record {
-      right = λ set up lists. count_right d.roster d.base set c.counted.result (done.line set up lists) done.err;
+      right = λ set up lists. count_right d.roster d.base d.history set c.counted.result (done.line set up lists) done.err;
       leaves = done.asks.unchanged;
       served = text_served c.counted.result done.asks.served;
     }

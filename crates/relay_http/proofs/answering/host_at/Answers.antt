@@ -33,11 +33,11 @@ returns-in-Ok-clause-answered g c =
           let same = asks.unchanged was_up in
           let desk = law.stays_desk mid.keeper old.keeper (law.same_back old.keeper mid.keeper same) (counted.desk was_up) in
           let still = lists_same (K.holds old.keeper) (K.holds mid.keeper) set (law.stays_set old.keeper mid.keeper same desk) lists in
-          let P : Reading → List Entry → Type 0 = λ r base. IsResponse r base set (host_file_after host at) (to_question file)
+          let P : Reading → List Entry → Type 0 = λ r base. IsResponse r base old.history set (host_file_after host at) (to_question file)
           ⊎ IsServerFailure (to_question file) in
           let right = subst (λ (base : List Entry). P old.roster base) asks.settings.base
           (subst (λ (r : Reading). P r mid.base) asks.settings.roster (told.right set up still)) in
-          joined_right old.roster old.base set host at line file c.joined.result (counted.line set was_up lists) right c.joined.ensures;
+          joined_right old.roster old.base old.history set host at line file c.joined.result (counted.line set was_up lists) right c.joined.ensures;
       leaves = λ up. law.same_on old.keeper mid.keeper new.keeper (asks.unchanged (told.served.was_up up)) (told.leaves up);
       served = joined_served line file c.joined.result c.joined.ensures (served_then (λ none. absurd none) asks.served told.served);
     }

@@ -11,13 +11,14 @@ returns-in-Ok-clause-answered g c =
     let roster = c.args.desk.now.roster in
     let f = roster.says in
     let base = c.args.desk.now.base in
+    let history = c.args.desk.now.history in
     let done = c.host_file.ensures in
     let found = c.in-Ok.ensures.found in
     let name : is_host_name c.in-Ok.host ≡ true = subst (λ (h : List ℕ). is_host_name h ≡ true) (sym found.0) found.1 in
     record {
       right =
           λ set up lists. subst
-          (λ (h : List ℕ). IsResponse roster base set (host_file h) (to_question c.host_file.result) ⊎ IsServerFailure (to_question c.host_file.result))
+          (λ (h : List ℕ). IsResponse roster base history set (host_file h) (to_question c.host_file.result) ⊎ IsServerFailure (to_question c.host_file.result))
           found.0 (file_right (λ lines. lines) f base set c.in-Ok.host c.host_file.result name (left_whole f base set c.in-Ok.host c.host_file.result
           (done.file set up lists)) (λ ls. done.few set ls up lists) (λ ls. done.many set ls up lists) done.unknown done.err);
       leaves = done.asks.unchanged;

@@ -12,12 +12,13 @@ returns-in-Ok-clause-answered g c =
     let roster = c.args.desk.now.roster in
     let f = roster.says in
     let base = c.args.desk.now.base in
+    let history = c.args.desk.now.history in
     let at = c.args.at in
     let done = c.host_file_after.ensures in
     let found = c.in-Ok.ensures.found in
     let name : is_host_name c.in-Ok.host ≡ true = subst (λ (h : List ℕ). is_host_name h ≡ true) (sym found.0) found.1 in
     record {
-      right = λ set up lists. subst (λ (h : List ℕ). IsResponse roster base set (host_file_after h at) (to_question c.host_file_after.result)
+      right = λ set up lists. subst (λ (h : List ℕ). IsResponse roster base history set (host_file_after h at) (to_question c.host_file_after.result)
           ⊎ IsServerFailure (to_question c.host_file_after.result)) found.0 (file_right (lines_after at) f base set c.in-Ok.host c.host_file_after.result name
           (left_after f base set c.in-Ok.host at c.host_file_after.result (done.file set up lists))
           (λ ls. done.few set ls up lists) (λ ls. done.many set ls up lists) done.unknown done.err);

@@ -58,4 +58,5 @@ invariant_of-self g c =
       known_of_up_with (K.is_clean k) (K.is_up k) c.take.result c.with_count.result
           (subst (IsKnownOfUp (K.is_clean k) (K.is_up k)) (sym c.take.ensures.value) c.self-2.invariant.5) c.with_count.ensures.nothing,
       c.self-2.invariant.6,
+      c.self-2.invariant.7,
     )

@@ -68,6 +68,7 @@ invariant_of-self-2 g c =
           (λ set. c.known_after-known.ensures.more f set c.in_ok-added.field-0 c.in_ok-added.was) c.known_after-known.ensures.nothing,
       known_of_up (K.is_clean new) (K.is_up new) c.known_after-known.result (λ clean. at_ok c.in_ok-added.was (c.add-added.ensures.live clean)),
       c.self.invariant.6,
+      c.self.invariant.7,
     )
 
 pub returns-in_err-added-clause-leaves : goal.returns-in_err-added-clause-leaves

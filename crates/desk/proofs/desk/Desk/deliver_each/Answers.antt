@@ -33,7 +33,7 @@ loop-relay-init g c =
     record {
       answered = subst P (sym none) tt;
       held = λ up. subst Q (sym none) (held_by_none (K.holds keeper));
-      settings = record { roster = refl; base = refl };
+      settings = record { roster = refl; base = refl; history = refl };
       served = served_by_none keeper (R c.args.answers.now.items) (WasWantingAmong c.args.answers.now.items) (λ failed. let there = subst R none failed in
           omega (arith, there.1));
       causes = subst F (sym none) (inl (omega arith));

@@ -46,11 +46,11 @@ invariant_of-self-in_err-held g c =
     let k = c.known_of.new.keeper in
     let is = c.in_ok-known.ensures in
     desk_looked_at (g.K.Keeper.holds k) (g.met.K.Keeper.holds_messages k) c.holdings_at-held.ensures.known c.self.invariant.0
-    is.desk is.roster c.self.invariant.2 is.served.was_up is.durable is.still_known is.live c.self.invariant.6
+    is.desk is.roster c.self.invariant.2 is.served.was_up is.durable is.still_known is.live c.self.invariant.6 c.self.invariant.7
 
 pub invariant_of-self-2 : goal.invariant_of-self-2
 invariant_of-self-2 g c =
     let k = c.known_of.new.keeper in
     let is = c.in_ok-known.ensures in
     desk_looked_at (g.K.Keeper.holds k) (g.met.K.Keeper.holds_messages k) c.holdings_at-held.ensures.known c.self.invariant.0
-    is.desk is.roster c.self.invariant.2 is.served.was_up is.durable is.still_known is.live c.self.invariant.6
+    is.desk is.roster c.self.invariant.2 is.served.was_up is.durable is.still_known is.live c.self.invariant.6 c.self.invariant.7

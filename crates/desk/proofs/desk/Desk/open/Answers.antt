@@ -1,4 +1,4 @@
-use Rattle.std.proofs.Common.{rules, ◌≡◌, ◌∙◌, Err, ap, subst, sym}
+use Rattle.std.proofs.Common.{rules, ◌≡◌, ◌∙◌, Err, ap, inl, subst, sym}
 use Rattle.grants.specs.Bases.{FitsBase}
 use Rattle.desk_store.proofs.ServingLemmas.{no_want, served_as}
 use Rattle.desk_store.specs.Left.{AddsOnly}
@@ -30,6 +30,7 @@ invariant_of-result g c =
       known,
       known_of_up (K.is_clean new) (K.is_up new) c.known_at_first.result c.in-Ok.ensures.live,
       tt,
+      inl c.new-in-Ok.ensures.bytes,
     )
 
 pub returns-in-Ok-clause-opens : goal.returns-in-Ok-clause-opens

@@ -1,4 +1,4 @@
-use Rattle.std.proofs.Common.{rules, ◌≡◌, ◌∙◌, Err, ap, subst, sym}
+use Rattle.std.proofs.Common.{rules, ◌≡◌, ◌∙◌, Err, ap, inl, subst, sym}
 use Rattle.grants.specs.Bases.{FitsBase}
 use Rattle.desk_store.proofs.ServingLemmas.{no_want, served_as}
 use Rattle.desk_store.specs.Left.{AddsOnly}
@@ -14,8 +14,16 @@ use Rattle.desk.proofs.desk.Desk.rebuild.Goals as goal
 pub invariant_of-result : goal.invariant_of-result
 invariant_of-result g c =
     let fits : FitsBase c.args.base = search rules in
-    let text : c.text.result.now ≡ c.args.roster.text = search rules in
-    (subst FitsBase (sym c.new.ensures) fits, c.in-Ok.ensures.desk, λ up. c.in-Ok.ensures.roster up ∙ text, c.in-Ok.ensures.durable, tt, tt, tt)
+    let text : c.text.result.now ≡ c.args.roster.text = search rules in (
+      subst FitsBase (sym c.new.ensures) fits,
+      c.in-Ok.ensures.desk,
+      λ up. c.in-Ok.ensures.roster up ∙ text,
+      c.in-Ok.ensures.durable,
+      tt,
+      tt,
+      tt,
+      inl c.new-in-Ok.ensures.bytes,
+    )
 
 pub returns-in-Ok-clause-lasting : goal.returns-in-Ok-clause-lasting
 returns-in-Ok-clause-lasting g c up clean =

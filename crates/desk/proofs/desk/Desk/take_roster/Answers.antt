@@ -32,6 +32,7 @@ invariant_of-self g c =
           c.under_another.ensures.nothing,
       known_of_up (K.is_clean new) (K.is_up new) c.under_another.result (λ clean. c.in-Ok.ensures.live clean),
       tt,
+      inl c.new.ensures.bytes,
     )
 
 pub returns-in-Ok-clause-served : goal.returns-in-Ok-clause-served
@@ -73,6 +74,7 @@ invariant_of-self-in-Err g c =
       subst (IsKnown f (K.is_up new) (K.holds new)) none tt,
       subst (IsKnownOfUp (K.is_clean new) (K.is_up new)) none tt,
       c.self.invariant.6,
+      c.self.invariant.7,
     )
 
 pub returns-in-Err-clause-err : goal.returns-in-Err-clause-err
