@@ -1,14 +1,14 @@
 # The commands of the repository. `rt` is the toolchain's command.
 
-.PHONY: all desk demo test quick try cases gate-times edits docs picture contracts peers bench faults soak types relays-test door-test tools-test several hosts lost moving install deb release pages package-test machines clean
+.PHONY: all desk demo test quick try cases gate-times edits docs picture contracts peers bench faults soak types relays-test year door-test tools-test several hosts lost cuts moving install deb release pages package-test machines clean
 
 all: desk
 
-# The proved programs, at build/desk and build/desk-audit.
+# The proved programs, at build/desk, build/desk-audit and build/desk-cut.
 desk:
 	bash scripts/build.sh
 
-# The programs without any proof, at build/desk-unproved and build/desk-audit-unproved, in some three minutes: for trying a change out.
+# The programs without any proof, at build/desk-unproved, build/desk-audit-unproved and build/desk-cut-unproved, in some five minutes: for trying a change out.
 try:
 	bash scripts/try.sh
 
@@ -73,7 +73,8 @@ faults: desk
 	$(GATE) faults
 
 # Reads and writes of the program that fail, disks that fill and files that change under it, each place; the program killed 600 times over 20,000 messages; 1,000 rosters taken under load; and
-# a million inputs changed at random, each answer beside a second reading. The last line has the counts. `make test` runs a short form of each.
+# a million inputs changed at random, each answer beside a second reading; 10,000 random histories cut, and desk-cut killed and failing at each of its calls. The last line of
+# each has the counts. `make test` runs a short form of each.
 soak: desk
 	bash scripts/tools.sh
 	python3 -m tests.soak.reads_and_writes --whole
@@ -81,6 +82,8 @@ soak: desk
 	python3 -m tests.peers.crowd --whole
 	python3 -m tests.soak.kills
 	env CHANGES=1000 python3 -m tests.soak.rosters
+	env COUNT=10000 CORES=$$(nproc) python3 -m tests.cases.random_cuts
+	python3 -m tests.soak.cuts
 	/usr/bin/python3 -m tests.soak.soak
 
 # A machine that is lost, in the long form: backup and restore killed at each of their system calls, and ten losses over 300 messages and 30 faked days, on
@@ -88,6 +91,10 @@ soak: desk
 lost: desk
 	python3 -m tests.backup.kills
 	WHOLE=1 bash tests/backup/machines.sh
+
+# A history that is cut, in the long form: killed at 60 places, and by three desks while twenty hosts fetch (as root).
+cuts: desk
+	PLACES=60 HOSTS_THAT_FETCH=20 bash tools/test.sh -k cut
 
 # The types and style of relays/, broker/ and tools/, by mypy and flake8 (it installs them where this is root).
 types:
@@ -97,6 +104,10 @@ types:
 # it needs of Debian is installed where this is root.
 relays-test:
 	bash relays/test.sh
+
+# A relay that has kept for a year: each question over 331,249 messages, the page, what people read by ssh, and their memory.
+year:
+	YEAR=1 bash relays/test.sh -k test_year
 
 # The door (docs/SIGNING.md): forgeries, a real sshd and agent, a journal that is killed, cut and full. This is the long form, with 60 places, 100,000
 # rows and the door's rate; the gate has the short one.

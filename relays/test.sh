@@ -3,8 +3,9 @@
 # installs what it needs of Debian, where this is root. The program is build/desk, or what DESK
 # names. The last line is 'N checks, M wrong'. `crowd` names the timed test alone, `rest` the others;
 # other words are passed on to pytest.
-# CROWD=60 is the long form of test_crowd.py, and FUZZ=20000 that of test_fuzz.py; the browser's
-# screenshots are left in build/relays-screenshots.
+# CROWD=60 is the long form of test_crowd.py, FUZZ=20000 that of test_fuzz.py, SITES=200 that of
+# test_two_relays.py, and YEAR=1 that of test_year.py; the browser's screenshots are left in
+# build/relays-screenshots.
 set -euo pipefail
 cd "$(dirname "$0")/.."
 export PATH="$PATH:/usr/sbin:/sbin"

@@ -110,6 +110,21 @@ def reap() -> None:
             pass
 
 
+def waited(child: subprocess.Popen[bytes], seconds: float | None) -> int:
+    """The status of the words, once they have ended. What is left to this process meanwhile is
+    reaped when it ends, as a machine's first process does, or it would look as if it still ran."""
+    begun = time.monotonic()
+    while (status := child.poll()) is None:
+        while (ended := os.waitid(os.P_ALL, 0, os.WEXITED | os.WNOHANG | os.WNOWAIT)) is not None:
+            if ended.si_pid == child.pid:
+                break
+            os.waitpid(ended.si_pid, 0)
+        if seconds is not None and time.monotonic() - begun > seconds:
+            raise subprocess.TimeoutExpired(child.args, seconds)
+        time.sleep(0.02)
+    return status
+
+
 def end_all(grace: float) -> list[str]:
     """Ends all that was started and still runs, and kills what does not end in these seconds: the
     names of what there was."""
@@ -145,7 +160,7 @@ def finished(given: argparse.Namespace) -> int:
             start_new_session=True,
             preexec_fn=defaults,
         )
-        status = child.wait(seconds)
+        status = waited(child, seconds)
         left = end_all(given.grace)
         if left:
             # (the last line of the gate's output is its count)

@@ -1,5 +1,6 @@
 #!/usr/bin/env bash
-# Proves and builds the programs, and leaves them at build/desk and build/desk-audit.
+# Proves and builds the programs, and leaves them at build/desk, build/desk-audit and
+# build/desk-cut.
 set -euo pipefail
 cd "$(dirname "$0")/.."
 command -v rt > /dev/null || {
@@ -21,7 +22,7 @@ fi
 mkdir -p build
 # `rt run` proves a program and every crate below it that is not proved yet, builds it and runs it
 # once.
-for crate in desk_cli desk_audit_cli; do
+for crate in desk_cli desk_audit_cli desk_cut_cli; do
     if ! (cd "crates/$crate" && rt run -- --help) > "$log" 2>&1; then
         cat "$log" >&2
         exit 1
@@ -29,4 +30,5 @@ for crate in desk_cli desk_audit_cli; do
 done
 cp crates/desk_cli/out/desk_cli build/desk
 cp crates/desk_audit_cli/out/desk_audit_cli build/desk-audit
-echo "built build/desk and build/desk-audit"
+cp crates/desk_cut_cli/out/desk_cut_cli build/desk-cut
+echo "built build/desk, build/desk-audit and build/desk-cut"

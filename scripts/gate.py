@@ -26,7 +26,8 @@ MINUTES = os.path.join(LOGS, "minutes.json")
 COUNT = re.compile(r"^(\d+) passed, (\d+) failed$", re.MULTILINE)
 
 TAKE = "install -D crates/{0}/out/{0} build/{1}"
-PROVED = f"{TAKE.format('desk_cli', 'desk')} && {TAKE.format('desk_audit_cli', 'desk-audit')}"
+PROGRAMS = (("desk_cli", "desk"), ("desk_audit_cli", "desk-audit"), ("desk_cut_cli", "desk-cut"))
+PROVED = " && ".join(TAKE.format(*it) for it in PROGRAMS)
 PROOF = Part("proof", f"bash -c 'python3 scripts/gate_times.py && {PROVED}'", minutes=75)
 
 # What the others stand on, one after another: a part of these that fails ends the gate.
@@ -52,7 +53,6 @@ APT = "root apt-get"
 # A part is a line here: its name, its command, what it needs, the minutes that it takes. Write
 # `cores` where it works on more than one, and `alone` where it measures time.
 PARTS = (
-    Part("edits", "python3 scripts/edits.py --sample 10", "rt", 8),
     Part("gate/lanes", "python3 -m tests.gate.check_lanes", "", 0.3),
     Part("gate/inherited", "python3 -m tests.gate.check_inherited", "setsid", 1),
     Part("gate/refused", "python3 -m tests.gate.check_refused", "", 0.2),
@@ -63,6 +63,8 @@ PARTS = (
     Part("cases/audit", "python3 -m tests.cases.audit", CASES),
     Part("cases/serve", "python3 -m tests.cases.serve", CASES),
     Part("cases/random_audits", "/usr/bin/python3 -m tests.cases.random_audits", CASES, 1),
+    Part("cases/random_cuts", "python3 -m tests.cases.random_cuts", CASES, 0.5),
+    Part("cases/cuts", "python3 -m tests.cases.cuts", CASES, 0.5),
     Part("peers/sudo", "python3 -m tests.peers.sudo", PEERS),
     Part("peers/policies", "python3 -m tests.peers.policies", PEERS),
     Part("peers/requests", "python3 -m tests.peers.peers_requests", PEERS),
@@ -83,10 +85,11 @@ PARTS = (
     Part("soak/reads_and_writes", "python3 -m tests.soak.reads_and_writes", SOAK),
     Part("soak/healing", "python3 -m tests.soak.healing", SOAK, 3),
     Part("soak/kills", "env RUNS=20 HELD=600 SENT=100 python3 -m tests.soak.kills", SOAK, 1.5),
+    Part("soak/cuts", "env MOST=60 python3 -m tests.soak.cuts", f"{SOAK} strace", 1),
     Part("soak/rosters", "python3 -m tests.soak.rosters", SOAK, 2),
     Part("soak/inputs", "/usr/bin/python3 -m tests.soak.soak --short", SOAK, cores=2),
     Part("types", "bash scripts/types.sh", APT),
-    Part("relays/tests", "bash relays/test.sh rest", APT, 6, cores=2),
+    Part("relays/tests", "bash relays/test.sh rest", APT, 8, cores=2),
     Part("door", "bash door/test.sh", APT, 3, cores=2),
     Part("relays/crowd", "bash relays/test.sh crowd", APT, alone=True),
     Part("tools", "bash tools/test.sh", APT, 6, cores=2),

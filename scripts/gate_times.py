@@ -2,19 +2,29 @@
 """Runs `rt ci`, passes on what it prints, and then prints what it cost: a table of
 docs/change/GATE.md.
 
+It runs over a copy of the crates in which ten further edits, which the tree's checksum chooses,
+stand in must-fail/ (refused.py): so the prover has to refuse these as well, in the lanes of the
+same run. The programs that it built then stand in crates/NAME/out. First it names the crates whose
+further edits were not seen refused as the tree is now.
+
 The processor time of a crate's proof, of its tests' proof and of its edits, and the memory that one
 check of it holds at most, are read twice a second from /proc, of each run of the prover that this
 script started: so a figure lacks at most half a second a run. The status is that of `rt ci`.
 """
 
 import collections
+import contextlib
 import os
 import re
+import shutil
 import subprocess
 import sys
+import tempfile
 import threading
 import time
+from collections.abc import Iterator
 
+import refused
 import repository
 
 # a crate, and the kind of work
@@ -26,6 +36,8 @@ MEMORY = 11 << 29
 TICKS = os.sysconf("SC_CLK_TCK")
 PAGE = os.sysconf("SC_PAGE_SIZE")
 KINDS = ("proof", "tests", "edits")
+# how many further edits are tried
+SAMPLE = 10
 
 
 def read(path: str) -> bytes:
@@ -130,14 +142,36 @@ def lanes() -> int:
     return max(1, min(len(os.sched_getaffinity(0)), (int(memory) << 10) // MEMORY))
 
 
+@contextlib.contextmanager
+def copy_with_sample() -> Iterator[str]:
+    """A copy of what `rt ci` reads, with the chosen further edits among those of must-fail/. At the
+    end the programs that it built stand in each crate's out/ here."""
+    with tempfile.TemporaryDirectory(prefix="gate-") as room:
+        refused.copy_crates(repository.ROOT, room)
+        for crate, edits in refused.sample(repository.ROOT, SAMPLE).items():
+            names = [os.path.basename(it).removesuffix(".edit") for it in edits]
+            print(f"further edits chosen of {crate}: {', '.join(names)}", flush=True)
+            refused.add_edits(room, crate, edits)
+        yield room
+        for crate in refused.crates(repository.ROOT):
+            made = os.path.join(room, "crates", crate, "out")
+            kept = os.path.join(repository.ROOT, "crates", crate, "out")
+            if os.path.isdir(made):
+                shutil.rmtree(kept, ignore_errors=True)
+                shutil.move(made, kept)
+
+
 def main() -> None:
     os.chdir(repository.ROOT)
+    if old := " ".join(refused.old()):
+        print("further edits that were not tried since something changed:", flush=True)
+        print(f'make edits CRATES="{old}"', flush=True)
     meter = Meter()
     meter.start()
     os.environ.setdefault("RT_JOBS", str(lanes()))
-    status = subprocess.run(
-        ["rt", "ci"], env=dict(os.environ, **{MARK: str(os.getpid())}), check=False
-    ).returncode
+    environment = dict(os.environ, **{MARK: str(os.getpid())})
+    with copy_with_sample() as room:
+        status = subprocess.run(["rt", "ci"], cwd=room, env=environment, check=False).returncode
     wall = time.monotonic() - meter.begins
     meter.done.set()
     meter.join()
@@ -145,4 +179,5 @@ def main() -> None:
     sys.exit(status)
 
 
-main()
+if __name__ == "__main__":
+    main()

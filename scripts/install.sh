@@ -1,6 +1,6 @@
 #!/usr/bin/env bash
-# Installs the programs build/desk and build/desk-audit and what belongs to them below
-# $DESTDIR$PREFIX (/usr/local where PREFIX is not given): the programs, the tools beside them,
+# Installs the programs build/desk, build/desk-audit and build/desk-cut and what belongs to them
+# below $DESTDIR$PREFIX (/usr/local where PREFIX is not given): the programs, the tools beside them,
 # manual pages, completions, the units, the configuration, the documents and the examples. A
 # configuration file that is there already stays as it is.
 set -euo pipefail
@@ -35,6 +35,7 @@ trap 'rm -rf "$room"' EXIT
 python3 scripts/make_pages.py "$room/pages"
 put 0755 build/desk "$PREFIX/bin/desk"
 put 0755 build/desk-audit "$PREFIX/bin/desk-audit"
+put 0755 build/desk-cut "$PREFIX/bin/desk-cut"
 put 0755 packaging/desk-serve "$libexec/desk-serve"
 put 0755 packaging/mydesk "$PREFIX/bin/mydesk"
 put 0755 packaging/desk-memory "$libexec/desk-memory"
@@ -54,9 +55,10 @@ for page in "$room"/pages/*.[1-8]; do
     put 0644 "$page" "$PREFIX/share/man/man${page##*.}/$(basename "$page")"
 done
 broker=(consume publish fill refused snapshot compare check-queues broker-definitions)
-for name in desk desk-audit desk-lint desk-import desk-used desk-evidence desk-change-roster \
-    desk-change-base desk-roster desk-standing desk-demo desk-relay desk-relay-person desk-door \
-    desk-signer desk-verify mydesk desk-backup desk-restore "${broker[@]/#/desk-}"; do
+for name in desk desk-audit desk-cut desk-lint desk-import desk-used desk-evidence \
+    desk-change-roster desk-change-base desk-roster desk-standing desk-demo desk-relay \
+    desk-relay-person desk-door desk-signer desk-verify desk-auditor mydesk desk-backup \
+    desk-restore "${broker[@]/#/desk-}"; do
     put 0644 "$room/pages/$name.bash" "$PREFIX/share/bash-completion/completions/$name"
     put 0644 "$room/pages/_$name" "$PREFIX/share/zsh/$zsh/_$name"
 done
@@ -80,7 +82,7 @@ DEB_PYTHON_INSTALL_LAYOUT=$layout /usr/bin/python3 -m pip --disable-pip-version-
 packages=("$root$PREFIX"/lib/python3*/dist-packages)
 rm -f "${packages[0]}"/steelnewt-*.dist-info/{INSTALLER,RECORD,REQUESTED,direct_url.json}
 for name in desk-{lint,import,used,evidence,change-roster,change-base,roster,standing,demo,relay} \
-    desk-{relay-person,door,signer,verify,backup,restore} "${broker[@]/#/desk-}"; do
+    desk-{relay-person,door,signer,verify,auditor,backup,restore} "${broker[@]/#/desk-}"; do
     # (nothing of the caller's environment, or of the folder that it is in, is imported)
     sed -i '1s,.*,#!/usr/bin/python3 -I,' "$root$PREFIX/bin/$name"
 done
@@ -95,7 +97,9 @@ ln -sfn ../../../bin/desk-relay "$root$PREFIX/share/steelnewt-relay/relays/desk-
 ln -sfn ../man1/desk-relay.1 "$root$PREFIX/share/man/man8/desk-relay-person.8"
 ln -sfn desk-change-roster.1 "$root$PREFIX/share/man/man1/desk-change-base.1"
 ln -sfn desk-door.8 "$root$PREFIX/share/man/man8/desk-signer.8"
-ln -sfn ../man8/desk-door.8 "$root$PREFIX/share/man/man1/desk-verify.1"
+for name in desk-verify desk-auditor; do
+    ln -sfn ../man8/desk-door.8 "$root$PREFIX/share/man/man1/$name.1"
+done
 for name in notify-mail notify-webhook; do
     put 0755 "relays/$name" "$libexec/$name"
 done
@@ -107,6 +111,7 @@ for kind in gssapi openidc; do
 done
 put 0755 examples/front-ca.sh "$PREFIX/share/doc/steelnewt-relay/examples/front-ca.sh"
 put 0644 examples/door/desk.conf "$PREFIX/share/doc/steelnewt-door/examples/desk.conf"
+put 0644 door/auditor.example.toml "$PREFIX/share/doc/steelnewt-door/examples/auditor.toml"
 [ -e "$root/etc/desk/door.toml" ] || put 0644 door/door.example.toml /etc/desk/door.toml
 [ -e "$root/etc/desk/backup.toml" ] || put 0644 packaging/backup.toml /etc/desk/backup.toml
 [ -e "$root/etc/desk/relay.toml" ] || put 0644 relays/relay.example.toml /etc/desk/relay.toml
@@ -132,9 +137,8 @@ for text in README.md CHANGELOG.md \
 done
 put 0644 docs/concepts.svg "$doc/concepts.svg"
 # What the desk answers to messages, for the tests of a relay.
-for file in deliver deliver-admission print-messages; do
-    put 0644 "cases/$file.toml" "$doc/cases/$file.toml"
-done
+python3 scripts/vectors.py > "$room/vectors.jsonl"
+put 0644 "$room/vectors.jsonl" "$doc/examples/vectors.jsonl"
 files=$(cd examples && find . -type f ! -path './peers/*' ! -name 'demo.expected' ! -name '*.pyc')
 printf '%s\n' "$files" | while read -r file; do
     mode=0644

@@ -1,7 +1,7 @@
 #!/usr/bin/env python3
 """Prints a document as an installed desk has it, where all documents are in one folder, with the
-examples and some cases: a link leads to where its page is installed, and of a page that only the
-repository has its name is left. `installed.py PAGE`
+examples: a link leads to where its page is installed, and of a page that only the repository has
+its name is left. `installed.py PAGE`
 """
 
 import os
@@ -26,7 +26,7 @@ def place(path: str) -> str | None:
     if path.endswith(".md"):
         is_there = name in PAGES or name in INSTALLED
         return name if is_there and path not in OTHERS else None
-    return path if path.startswith(("examples/", "cases/")) else None
+    return path if path.startswith("examples/") else None
 
 
 def text_of(page: str) -> str:

@@ -142,6 +142,7 @@ In a folder with the files of
 {examples}
 .Sh SEE ALSO
 .Xr desk-audit 1 ,
+.Xr desk-cut 1 ,
 .Xr desk-evidence 1 ,
 .Xr desk-import 1 ,
 .Xr desk-lint 1 ,

@@ -67,7 +67,7 @@ def renamed(text: str, doc: str) -> str:
     )
     text = re.sub(r"\[[^\]]*\]\(\.\./(cases/[\w.-]+)\)", r"\1", text)
     text = re.sub(r"`?docs/(?:proof/|change/)?(\w+\.md)`?", lambda it: document(it[1], doc), text)
-    text = re.sub(r"(?<![\w/])build/(desk|desk-audit)(?= )", "\\1", text)
+    text = re.sub(r"(?<![\w/])build/(desk|desk-audit|desk-cut)(?= )", "\\1", text)
     share = os.path.dirname(os.path.dirname(doc))
     text = re.sub(r"(?<![\w/])tools/schemas/", f"{share}/steelnewt/schemas/", text)
     text = re.sub(r"(?<![\w/])tools/desk_tools/", f"{modules(os.path.dirname(share))}/", text)

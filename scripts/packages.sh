@@ -8,11 +8,11 @@ relays_packages=(
     libapache2-mod-auth-openidc glewlwyd dbconfig-sqlite3 python3-authlib
     python3-flask python3-requests python3-waitress
     python3-pip python3-setuptools python3-wheel
-    python3-pytest python3-pytest-xdist python3-selenium
+    python3-pytest python3-pytest-xdist python3-selenium jq nodejs perl
 )
 door_packages=(
     openssh-server openssh-client openssh-tests python3-cryptography python3-pytest
-    python3-pytest-xdist
+    python3-pytest-xdist strace
 )
 tools_packages=(
     python3-jsonschema python3-pytest python3-pytest-xdist sudo rsyslog faketime util-linux

@@ -15,8 +15,9 @@ import glob
 import hashlib
 import os
 import re
+import shutil
 import time
-from collections.abc import Iterator
+from collections.abc import Iterator, Sequence
 from typing import NamedTuple
 
 import contracts
@@ -59,6 +60,22 @@ def crates(tree: str) -> dict[str, list[str]]:
 def edits_of(tree: str, crate: str) -> list[str]:
     """The paths of a crate's further edits."""
     return sorted(glob.glob(os.path.join(tree, "crates", crate, "more-edits", "*.edit")))
+
+
+def copy_crates(tree: str, room: str, without: Sequence[str] = ("out",)) -> None:
+    """Copies what the prover reads of a tree into a folder, but folders of these names."""
+    ignored = shutil.ignore_patterns(*without)
+    shutil.copytree(os.path.join(tree, "crates"), os.path.join(room, "crates"), ignore=ignored)
+    for file in ("crates.txt", "HANDLES"):
+        shutil.copy(os.path.join(tree, file), room)
+
+
+def add_edits(room: str, crate: str, edits: Sequence[str]) -> None:
+    """Has the prover try these edits of a crate in a copy, beside those that stand there."""
+    folder = os.path.join(room, "crates", crate, "must-fail")
+    os.makedirs(folder, exist_ok=True)
+    for edit in edits:
+        shutil.copy(edit, folder)
 
 
 # ---- what a refusal rests on

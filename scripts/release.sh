@@ -38,7 +38,7 @@ trap 'rm -rf "$room"' EXIT
 make_in() {
     mkdir -p "$1/build"
     git archive HEAD | tar -x -C "$1"
-    cp build/desk build/desk-audit "$1/build/"
+    cp build/desk build/desk-audit build/desk-cut "$1/build/"
     bash "$1/scripts/deb.sh" > /dev/null
 }
 

@@ -1,9 +1,9 @@
 #!/usr/bin/env bash
-# Builds the programs without proving them, side by side where memory allows: desk and desk-audit,
-# or those whose crates are named (desk_cli, desk_audit_cli), and leaves them at
-# build/desk-unproved and build/desk-audit-unproved. `rt try` runs what it builds in a folder that
-# it removes: the run here reads a pipe, and while it waits for that, the program is taken out of
-# the folder.
+# Builds the programs without proving them, side by side where memory allows: desk, desk-audit and
+# desk-cut, or those whose crates are named (desk_cli, desk_audit_cli, desk_cut_cli), and leaves
+# them at build/desk-unproved, build/desk-audit-unproved and build/desk-cut-unproved. `rt try` runs
+# what it builds in a folder that it removes: the run here reads a pipe, and while it waits for
+# that, the program is taken out of the folder.
 set -euo pipefail
 cd "$(dirname "$0")/.."
 command -v rt > /dev/null || {
@@ -30,14 +30,18 @@ build() {
     shift 2
     mkdir "$room"
     mkfifo "$room/policy"
+    # (desk-cut reads no pipe in a store's place: there the store's log is one)
+    : > "$room/store"
+    ln -s policy "$room/store-wal"
     words=("${@/#PIPE/$room/policy}")
+    words=("${words[@]/#STORE/$room/store}")
     echo "building $name WITHOUT A PROOF (some three minutes) .."
     (cd "crates/$crate" && TMPDIR=$room exec rt try -- "${words[@]}") > "$room/log" 2>&1 &
     try=$!
     take "$room" &
     taker=$!
     wait "$try" || status=$?
-    # desk-audit ends with 2 over a roster without a text
+    # desk-audit ends with 2 over a roster without a text, and desk-cut over a log that is a pipe
     if { [ "$status" != 0 ] && [ "$crate" = desk_cli ]; } || [ ! -s "$room/taken" ]; then
         kill "$taker" 2> /dev/null || true
         cat "$room/log" >&2
@@ -59,21 +63,22 @@ start() {
     case $1 in
         desk_cli) build desk_cli desk check PIPE & ;;
         desk_audit_cli) build desk_audit_cli desk-audit PIPE PIPE - & ;;
+        desk_cut_cli) build desk_cut_cli desk-cut STORE STORE.new 20000101000000Z & ;;
         *) echo "no program's crate: $1" >&2 && exit 1 ;;
     esac
 }
 
-# Two at once take 9.5 GB of memory: with less than 16 GiB that is free, which leaves room for what
+# Three at once take 14 GB of memory: with less than 20 GiB that is free, which leaves room for what
 # else the machine does, they are built one after the other.
-enough_for_two=$((16 * 1024 * 1024))
+enough_for_three=$((20 * 1024 * 1024))
 available=$(awk '$1 == "MemAvailable:" { print $2 }' /proc/meminfo)
 
-[ $# -gt 0 ] || set -- desk_cli desk_audit_cli
+[ $# -gt 0 ] || set -- desk_cli desk_audit_cli desk_cut_cli
 builders=()
 failed=0
 for crate in "$@"; do
     start "$crate"
-    if [ "${available:-0}" -lt "$enough_for_two" ]; then
+    if [ "${available:-0}" -lt "$enough_for_three" ]; then
         wait "$!" || failed=1
     else
         builders+=("$!")

@@ -134,8 +134,9 @@ def order(message: str) -> tuple[bool, str]:
 
 
 def fill(site: Site, found: list[Source], told: Told) -> None:
-    """Gives the desk each message that a source has and the desk lacks."""
-    held = set(site.messages())
+    """Gives the desk each message that a source has and the desk lacks. (What was cut out of its
+    store it does not lack: it would fill it up again, and be counted twice.)"""
+    held = {*site.messages(), *site.archived()}
     for source in found:
         lacking = sorted({it for it in source.messages if it not in held}, key=order)
         for answer in site.deliver(source.relay or site.relay(), lacking):
@@ -159,7 +160,7 @@ def heard_of(folder: str, rosters: set[str], host: str) -> Heard:
     try:
         with open(os.path.join(folder, f"{host}.json"), encoding="ascii") as file:
             rows = json.load(file)["installed"]
-        same = [int(count) for count, its, _ in rows if its in rosters]
+        same = [int(row[0]) for row in rows if row[1] in rosters]
         last = str(rows[-1][1])
         with open(os.path.join(folder, f"{host}.sudoers"), encoding="utf-8") as file:
             lines = file.read().splitlines()

@@ -234,7 +234,7 @@ def recover(site: Site, wanted: Wanted, told: Told, folder: str) -> dict[str, in
         if wanted.heard:
             now = stamp_of(int(time.time()))
             heard = lost.all_heard(wanted.heard, site.rosters())
-            count = len(site.messages())
+            count = len(site.messages()) + sum(it.archived for it in site.cuts())
             if wanted.revoke_as:
                 lost.revoke(site, heard, count, wanted.revoke_as, now, told)
             lost.compare(site, heard, count, now, told)

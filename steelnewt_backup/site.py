@@ -10,7 +10,7 @@ import shutil
 import sqlite3
 import tempfile
 import tomllib
-from collections.abc import Iterable
+from collections.abc import Iterable, Iterator
 from contextlib import closing
 from dataclasses import dataclass
 from typing import Any, NamedTuple
@@ -36,6 +36,14 @@ class Answer(NamedTuple):
 
     message: str
     said: str
+
+
+class Cut(NamedTuple):
+    """When messages were cut out of a store, how many, and the digest of the archive with them."""
+
+    moment: str
+    archived: int
+    sha256: str
 
 
 def settings_in(path: str) -> dict[str, str]:
@@ -117,7 +125,30 @@ class Site:
                 rows = [line.split(b" ") for line in file.read().splitlines()]
         except OSError:
             return found
-        return found | {row[1].decode("ascii", "replace") for row in rows if len(row) == 3}
+        # (where the store was cut, three words of that stand before the digests)
+        return found | {row[-2].decode("ascii", "replace") for row in rows if len(row) in (3, 6)}
+
+    def cuts(self) -> list[Cut]:
+        """What was cut out of the store, as the store says (desk-change-roster --cut)."""
+        if not self.rows("SELECT name FROM sqlite_schema WHERE type = 'table' AND name = 'cuts'"):
+            return []
+        rows = self.rows("SELECT moment || ' ' || archived || ' ' || sha256 FROM cuts")
+        parts = [it.decode("ascii", "replace").split(" ") for it in rows]
+        return [Cut(moment, int(count), sha256) for moment, count, sha256 in parts]
+
+    def archived(self) -> Iterator[str]:
+        """The messages that were cut out of the store."""
+        folder = os.path.join(os.path.dirname(self.path("STORE")), "archives")
+        for it in self.cuts():
+            path = os.path.join(folder, f"{it.moment}.messages")
+            try:
+                with open(os.open(path, os.O_RDONLY | os.O_NOFOLLOW | os.O_NONBLOCK), "rb") as file:
+                    text = file.read()
+            except FileNotFoundError:
+                raise Failed(f"{path} is not there: bring it back, and run it again") from None
+            if digest(text) != it.sha256:
+                raise Failed(f"{path} is not the archive that the store names")
+            yield from text.decode().splitlines()
 
     def messages(self) -> list[str]:
         """What the store holds, in byte order."""

@@ -1,8 +1,8 @@
-"""What an answer to a message means, by its code (docs/HTTP.md, 'Post a message'), and the words of
-docs/CODES.md for people.
+"""What an answer to a message means, by its code (docs/HTTP.md, 'What a relay owes'), and the words
+of docs/CODES.md for people.
 
-Every program that posts messages goes by `judge`: no other place says which of a desk's refusals are
-final.
+Every program that posts messages goes by `judge`: no other place says which of a desk's refusals
+are final.
 """
 
 import enum
@@ -42,12 +42,13 @@ class Answer:
     """What came when a message was posted.
 
     `said` is `ack`, the refusal as `A7 WindowTooLong`, or what came in place of either; `why` says
-    in a sentence why the message is not settled, and is empty where it is."""
+    in a sentence why the message is not settled, and is empty where it is. Where no connection was
+    made (`is_away`) no other message would get an answer now either."""
 
     fate: Fate
     said: str
     why: str = ""
-    is_reached: bool = True
+    is_away: bool = False
 
 
 def judge(status: int, text: str) -> Answer:

@@ -8,6 +8,7 @@ import ssl
 import time
 import urllib.parse
 from collections import deque
+from collections.abc import Mapping
 from contextlib import suppress
 from dataclasses import dataclass
 from datetime import datetime
@@ -15,6 +16,7 @@ from functools import lru_cache
 from http.client import HTTPConnection, HTTPException, IncompleteRead, RemoteDisconnected
 
 from steelnewt_client.codes import NO_ROUTE, TOO_LONG, Answer, Fate, judge, unusable
+from steelnewt_client.messages import Verdict, read
 from steelnewt_client.moments import of_stamp, stamp
 from steelnewt_client.signed import is_too_long
 from steelnewt_client.told import Grant, Name, Told, read_names
@@ -101,6 +103,12 @@ class Place:
         except ValueError:
             return False
 
+    @property
+    def named(self) -> str:
+        """The host, and the port where that is not the usual one."""
+        usual = 443 if self.is_encrypted else 80
+        return self.host if self.port == usual else f"{self.host}:{self.port}"
+
     def connected(self, patience: float) -> socket.socket:
         if not self.path:
             return socket.create_connection((self.host, self.port), patience)
@@ -136,6 +144,10 @@ class BadCertificate(OSError):
     """A file of certificates or its key cannot be read."""
 
 
+class Away(OSError):
+    """No connection was made; its cause says why."""
+
+
 class Connection(HTTPConnection):
     """A connection to a desk or its front."""
 
@@ -145,10 +157,13 @@ class Connection(HTTPConnection):
         self.place, self.trust, self.patience = place, trust, patience
 
     def connect(self) -> None:
-        self.sock = self.place.connected(CONNECTS_IN)
-        if self.place.is_encrypted:
-            context = self.trust.context()
-            self.sock = context.wrap_socket(self.sock, server_hostname=self.place.host)
+        try:
+            self.sock = self.place.connected(min(CONNECTS_IN, self.patience))
+            if self.place.is_encrypted:
+                context = self.trust.context()
+                self.sock = context.wrap_socket(self.sock, server_hostname=self.place.host)
+        except OSError as fault:
+            raise Away(str(fault)) from fault
         self.sock.settimeout(self.patience)
 
     def is_over(self) -> bool:
@@ -275,71 +290,16 @@ class Review:
     parts: dict[str, list[list[str]]]
 
 
-class Desk:
-    """A desk at its address: `unix:/run/desk/desk.sock`, `http://127.0.0.1:8080`, or that of a
-    front, `https://desk.example`. A front is posted to with the certificate of the relay that this
-    is, and asked with the reader's, where there is one. (Each has connections of its own: a
-    connection is the certificate's.)"""
+class AnyDesk:
+    """What can be asked of a desk, or of several that are asked as one (`each` of them)."""
 
-    def __init__(
-        self,
-        address: str,
-        relay: str = "",
-        certificate: Pair = None,
-        ca: str | None = None,
-        reader: Pair = None,
-        patience: float = ANSWERS_IN,
-    ) -> None:
-        self.place, self.relay, self.patience = Place.of(address), relay, patience
-        self.posting = Client(self.place, Trust(certificate, ca), patience)
-        self.reading = Client(self.place, Trust(reader or certificate, ca), patience)
+    each: tuple["Desk", ...]
 
     def exchange(self, method: str, path: str, body: bytes | None = None) -> Reply:
-        by = self.posting if method == "POST" else self.reading
-        try:
-            return by.exchange(method, path, body)
-        except (OSError, HTTPException) as fault:
-            raise Silent(unreached(fault)) from None
+        raise NotImplementedError
 
-    def begin(self, relay: str, body: bytes) -> Post | Answer:
-        """Sends a message, or a line with its signature, as the relay's; the post, or the answer
-        where there is one already. It knows no TLS.
-
-        (A desk on this machine is connected to at once, or not at all, and there is room for the
-        longest message on the way to it: nothing waits here.)
-        """
-        if is_too_long(body):
-            # the desk says so by the length alone, and need not be sent the bytes
-            return Answer(Fate.FINAL, TOO_LONG)
-        head = f"POST {self.place.prefix}{route(relay)} HTTP/1.1\r\nHost: {self.host()}\r\n"
-        head += f"Content-Length: {len(body)}\r\nConnection: close\r\n\r\n"
-        try:
-            peer = self.place.connected(self.patience)
-            try:
-                peer.sendall(head.encode("ascii") + body)
-            except OSError:
-                peer.close()
-                raise
-        except OSError as error:
-            return no_reply(error)
-        return Post(peer, self.patience)
-
-    def host(self) -> str:
-        place = self.place
-        return place.host if place.path or place.port == 80 else f"{place.host}:{place.port}"
-
-    def post(self, relay: str, body: bytes) -> Answer:
-        """Posts a message as a relay's, and waits for the answer."""
-        if not self.place.is_encrypted:
-            begun = self.begin(relay, body)
-            return begun if isinstance(begun, Answer) else begun.wait()
-        if is_too_long(body):
-            return Answer(Fate.FINAL, TOO_LONG)
-        try:
-            reply = self.posting.exchange("POST", route(relay), body)
-        except (OSError, HTTPException) as fault:
-            return no_reply(fault)
-        return judge(reply.status, reply.text)
+    def prefer(self, lacking: Mapping[str, int]) -> None:
+        """Hears how many messages each lacks, by its name: who knows most is asked."""
 
     def get(self, path: str) -> str:
         """The body of a reply 200."""
@@ -356,6 +316,13 @@ class Desk:
             return int(count), roster, base
         except ValueError:
             raise unread(path) from None
+
+    def cut_at(self) -> str:
+        """Up to which moment its history was cut, as the last line of `/v1/history` says; empty
+        where it was not, or the desk tells none."""
+        reply = self.exchange("GET", "/v1/history")
+        found = re.search(r"^[0-9]{14}Z cut ([0-9]{14}Z) [^\n]*\n\Z", reply.text, re.MULTILINE)
+        return found[1] if reply.status == 200 and found else ""
 
     def grants(self, at: datetime) -> list[Grant]:
         """The grants in force at a moment."""
@@ -377,14 +344,28 @@ class Desk:
         """One name, where the desk holds a message about it."""
         return self.told(f"/v1/requests/{who}/{no}").get((who, no))
 
-    def told(self, path: str) -> dict[Name, Told]:
+    def open(self, at: datetime) -> dict[Name, Told]:
+        """All names whose window does not end before a moment, and who may approve then what
+        waits."""
+        return self.told(f"/v1/open/{stamp(at)}", stamp(at))
+
+    def parked(self) -> list[Verdict]:
+        """The verdicts whose request has not come."""
+        path = "/v1/parked"
+        try:
+            found = [read(line) for line in self.get(path).splitlines()]
+        except (ValueError, KeyError, TypeError):
+            raise unread(path) from None
+        return [it for it in found if isinstance(it, Verdict)]
+
+    def told(self, path: str, at: str = "") -> dict[Name, Told]:
         reply = self.exchange("GET", path)
         if reply.status == 404 and reply.text == f"{NO_ROUTE}\n":
             raise Silent(TOO_OLD, True)
         if reply.status != 200:
             raise Silent(unusable(reply.status, reply.text), True)
         try:
-            return read_names(reply.text)
+            return read_names(reply.text, at)
         except ValueError:
             raise unread(path) from None
 
@@ -403,6 +384,80 @@ class Desk:
         return Review(at, parts)
 
 
+class Desk(AnyDesk):
+    """A desk at its address: `unix:/run/desk/desk.sock`, `http://127.0.0.1:8080`, or that of a
+    front, `https://desk.example`. A front is posted to with the certificate of the relay that this
+    is, and asked with the reader's, where there is one. (Each has connections of its own: a
+    connection is the certificate's.)"""
+
+    def __init__(
+        self,
+        address: str,
+        relay: str = "",
+        certificate: Pair = None,
+        ca: str | None = None,
+        reader: Pair = None,
+        patience: float = ANSWERS_IN,
+        asks_for: float | None = None,
+    ) -> None:
+        """(`asks_for` is how many seconds a question may take, where that is less)"""
+        self.place, self.relay, self.patience = Place.of(address), relay, patience
+        self.each = (self,)
+        self.posting = Client(self.place, Trust(certificate, ca), patience)
+        asks_for = patience if asks_for is None else asks_for
+        self.reading = Client(self.place, Trust(reader or certificate, ca), asks_for)
+
+    @property
+    def label(self) -> str:
+        """What it is called among several: by its host, or by the path of its socket."""
+        return self.place.path or self.place.named
+
+    def exchange(self, method: str, path: str, body: bytes | None = None) -> Reply:
+        by = self.posting if method == "POST" else self.reading
+        try:
+            return by.exchange(method, path, body)
+        except (OSError, HTTPException) as fault:
+            raise Silent(unreached(fault)) from None
+
+    def begin(self, relay: str, body: bytes) -> Post | Answer:
+        """Sends a message, or a line with its signature, as the relay's; the post, or the answer
+        where there is one already. It knows no TLS.
+
+        (A desk on this machine is connected to at once, or not at all, and there is room for the
+        longest message on the way to it: nothing waits here.)
+        """
+        if is_too_long(body):
+            # the desk says so by the length alone, and need not be sent the bytes
+            return Answer(Fate.FINAL, TOO_LONG)
+        head = f"POST {self.place.prefix}{route(relay)} HTTP/1.1\r\nHost: {self.place.named}\r\n"
+        head += f"Content-Length: {len(body)}\r\nConnection: close\r\n\r\n"
+        try:
+            peer = self.place.connected(self.patience)
+        except OSError as error:
+            return no_reply(error, True)
+        try:
+            peer.sendall(head.encode("ascii") + body)
+        except OSError as error:
+            peer.close()
+            return no_reply(error)
+        return Post(peer, self.patience)
+
+    def post(self, relay: str, body: bytes) -> Answer:
+        """Posts a message as a relay's, and waits for the answer."""
+        if not self.place.is_encrypted:
+            begun = self.begin(relay, body)
+            return begun if isinstance(begun, Answer) else begun.wait()
+        if is_too_long(body):
+            return Answer(Fate.FINAL, TOO_LONG)
+        try:
+            reply = self.posting.exchange("POST", route(relay), body)
+        except Away as fault:
+            return no_reply(fault, True)
+        except (OSError, HTTPException) as fault:
+            return no_reply(fault)
+        return judge(reply.status, reply.text)
+
+
 def route(relay: str) -> str:
     return f"/v1/relays/{relay}/messages"
 
@@ -417,10 +472,16 @@ def plain_desk(address: str, patience: float = ANSWERS_IN) -> Desk:
     raise BadAddress(f"{address!r} is neither unix:/PATH nor http://127.0.0.1:PORT")
 
 
-def no_reply(error: Exception) -> Answer:
+def no_reply(error: Exception, is_away: bool = False) -> Answer:
     """What is known of a message without any reply: nothing."""
-    said = "timed out" if isinstance(error, TimeoutError) else type(error).__name__
-    return Answer(Fate.AGAIN, f"no reply: {said}", unreached(error), False)
+    cause = cause_of(error)
+    said = "timed out" if isinstance(cause, TimeoutError) else type(cause).__name__
+    return Answer(Fate.AGAIN, f"no reply: {said}", unreached(error), is_away)
+
+
+def cause_of(error: BaseException) -> BaseException:
+    """Why no connection was made, where that is what it says."""
+    return error.__cause__ or error if isinstance(error, Away) else error
 
 
 def unread(path: str) -> Silent:
@@ -438,4 +499,4 @@ def in_short(fault: Exception) -> str:
     for word, said in SHORT.items():
         if word in text:
             return said
-    return type(fault).__name__
+    return type(cause_of(fault)).__name__

@@ -6,6 +6,8 @@ from collections.abc import Collection, Sequence
 from dataclasses import dataclass, replace
 from datetime import datetime, timedelta
 from functools import lru_cache
+from json.encoder import encode_basestring as quoted  # type: ignore[attr-defined]
+from typing import Any
 
 from steelnewt_client.moments import of_stamp, stamp
 from steelnewt_client.names import KEPT_BY_SUDO, LABEL, PERSON
@@ -24,7 +26,11 @@ MOST_HOSTS, MOST_COMMANDS, MOST_ARGUMENTS = 16, 16, 16
 # How long somebody may look at a request before they say yes, and it is still taken for the same.
 LOOKED = timedelta(minutes=2)
 VERDICTS = ("approve", "refuse", "revoke")
+# What takes a right away, or keeps one from being given. (No text within a message has a quote that
+# is not escaped.)
+TAKES_AWAY = re.compile(rb'"kind":"(refuse|revoke)"')
 CANONICAL = json.JSONEncoder(sort_keys=True, separators=(",", ":"), ensure_ascii=False)
+PLAIN = {str, int}  # (no bool)
 
 
 class BadWord(ValueError):
@@ -33,7 +39,18 @@ class BadWord(ValueError):
 
 def canonical(message: object) -> str:
     """The one text of a message: members in order, no blanks, and no escape that is not needed."""
+    if isinstance(message, dict) and {type(it) for it in message.values()} <= PLAIN:
+        return plain(message)
     return CANONICAL.encode(message)
+
+
+def plain(message: dict[str, object]) -> str:
+    """The same of a message whose members are texts and whole numbers, in a third of the time."""
+    members = [
+        f"{quoted(name)}:{quoted(it) if isinstance(it, str) else it}"
+        for name, it in sorted(message.items())
+    ]
+    return f"{{{','.join(members)}}}"
 
 
 def checked(kind: str, word: str) -> str:
@@ -187,8 +204,16 @@ def measured(text: str) -> str:
 def read(text: str) -> Request | Verdict:
     """A message from its text, as it is written here."""
     found = json.loads(text)
-    if found["kind"] != "request":
-        return Verdict(**found)
+    return request_of(found) if found["kind"] == "request" else verdict_of(found)
+
+
+def verdict_of(found: dict[str, Any]) -> Verdict:
+    """A verdict from its members. (Whatever a later version adds is not looked at.)"""
+    return Verdict(found["by"], found["kind"], found["of"], found["no"], found["at"])
+
+
+def request_of(found: dict[str, Any]) -> Request:
+    """A request from its members."""
     wish = Wish(
         found["ceiling"],
         tuple(found["hosts"]),

@@ -1,6 +1,7 @@
 """Moments: the desk's `yyyymmddhhmmssZ`, from 1970 to 2099, in UTC."""
 
 import calendar
+import math
 import re
 import time
 from datetime import UTC, datetime
@@ -49,4 +50,9 @@ def seconds(text: str) -> int:
 
 def stamp_of(at: float) -> str:
     """A moment as the desk writes it, from seconds since 1970."""
+    return stamp_of_second(math.floor(at))
+
+
+@lru_cache(maxsize=64)
+def stamp_of_second(at: int) -> str:
     return time.strftime(STAMP, time.gmtime(at))

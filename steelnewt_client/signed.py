@@ -24,7 +24,9 @@ from steelnewt_client.names import LABEL, PERSON
 # What a signature of ssh-keygen's is made for: one of another purpose is none here.
 NAMESPACE, LIST = "steelnewt-message@v1", "steelnewt-list@v1"
 ENROLS, CHANGES = "steelnewt-enrol@v1", "steelnewt-change@v1"
-NAMESPACES = (NAMESPACE, LIST, ENROLS, CHANGES)
+# What a door signs of its own: what it answers to a host.
+FILES = "steelnewt-file@v1"
+NAMESPACES = (NAMESPACE, LIST, ENROLS, CHANGES, FILES)
 # A site's own name, which is signed too: what was said to a desk for trials says nothing elsewhere.
 SITE = re.compile(r"[a-z0-9][a-z0-9.-]{0,63}")
 # How many messages one signature may be over.
@@ -35,6 +37,7 @@ MOST_LINE = MOST_BYTES + MOST_SIGNATURE + 2 * 64 + 3
 BASE64 = r"[A-Za-z0-9+/]+={0,2}"
 SIGNATURE = re.compile(rf"ssh:({BASE64})|list:({BASE64}):({BASE64})")
 DIGEST = re.compile(r"[0-9a-f]{64}")
+NAME = re.compile(PERSON)
 MOST_NO = 999_999_999
 REQUEST_TEXTS = ("at", "by", "ceiling", "from", "runas", "until")
 REQUEST_LISTS = ("cmnds", "hosts")
@@ -109,6 +112,12 @@ def list_payload(site: str, listed: list[str]) -> bytes:
     return "\n".join([site, *listed]).encode("ascii")
 
 
+def answer_payload(site: str, route: str, answer: bytes) -> bytes:
+    """What a door signs of an answer: the site's name, the question, in which the host and its own
+    random number are, and the answer. (Neither of the first two has a newline.)"""
+    return f"{site}\n{route}\n".encode("ascii") + answer
+
+
 def listed_in(raw: bytes) -> list[str]:
     """The digests of a list, which has each once."""
     found = [raw[at : at + 32].hex() for at in range(0, len(raw), 32)]
@@ -146,11 +155,20 @@ def is_too_long(line: bytes) -> bool:
     return len(line) > MOST_LINE or len(line.partition(b"\t")[0]) > MOST_BYTES
 
 
+def no_number(text: str) -> object:
+    """In the place of a number that is not a whole one."""
+    raise ValueError(text)
+
+
+# (json.loads makes one for each text)
+DECODER = json.JSONDecoder(parse_float=no_number, parse_constant=no_number)
+
+
 def said_in(text: str) -> Request | Verdict:
     """What a text says, if it is a message's only text: so nobody reads another name in it. Whether
     its commands and hosts are lawful, the desk says."""
     try:
-        found = json.loads(text, parse_float=no_number, parse_constant=no_number)
+        found = DECODER.decode(text)
         is_canonical = canonical(found) == text and len(text.encode("utf-8")) <= MOST_BYTES
     except (ValueError, RecursionError):
         is_canonical, found = False, None
@@ -165,13 +183,8 @@ def said_in(text: str) -> Request | Verdict:
     return Verdict(**found)
 
 
-def no_number(text: str) -> object:
-    """In the place of a number that is not a whole one."""
-    raise ValueError(text)
-
-
 def is_name(text: object) -> bool:
-    return isinstance(text, str) and bool(re.fullmatch(PERSON, text))
+    return isinstance(text, str) and NAME.fullmatch(text) is not None
 
 
 def is_moment(text: object) -> bool:

@@ -1,17 +1,21 @@
-"""What the desk tells of a request's name: its status, its grant, and which verdicts count."""
+"""What the desk tells of a request's name, in the desk's own words (docs/AUDITING.md)."""
 
 import json
 from collections.abc import Mapping
 from dataclasses import dataclass
 from datetime import datetime
 from functools import lru_cache
+from typing import Any
 
-from steelnewt_client.messages import Verdict
+from steelnewt_client.messages import Request, Verdict, request_of, verdict_of
 from steelnewt_client.moments import of_stamp
 
 # What the desk's document of names begins with, and what stands between two names and behind the
 # last one.
 FIRST, BETWEEN, BEHIND = '{"names":[{"by":', '},{"by":', '],"windows":['
+# What stands before the moment for which it is told who may approve. (No message has it: a quote
+# inside of one is escaped.)
+MAY_AT = '"may_approve":{"at":"'
 # Who asked, and the request's number.
 Name = tuple[str, int]
 
@@ -30,15 +34,22 @@ class Grant:
 @dataclass(frozen=True)
 class Told:
     """A name. `weights` has each verdict that the desk holds, and why it does not count: empty
-    where it does."""
+    where it does. `may_approve` is told where it was asked for a moment."""
 
     status: str
     grant: Grant | None
     weights: Mapping[Verdict, str]
+    requests: tuple[Request, ...] = ()
+    denial: str = ""
+    lacks: int = 0
+    may_approve: tuple[str, ...] | None = None
 
 
-def read_names(text: str) -> dict[Name, Told]:
-    """The names of the desk's document (docs/AUDITING.md). `ValueError` where it is none."""
+def read_names(text: str, at: str = "") -> dict[Name, Told]:
+    """The names of the desk's document, which tells who may approve at a moment (`at`).
+    `ValueError` where it is none."""
+    # (without the moment a name that did not change has the same text each time)
+    text = text.replace(f'{MAY_AT}{at}"', f'{MAY_AT}"') if at else text
     try:
         return dict(entries(text))
     except (KeyError, TypeError, AttributeError, RecursionError) as fault:
@@ -66,27 +77,40 @@ def read_entry(text: str) -> tuple[Name, Told]:
     return entry_of(json.loads(text))
 
 
-def entry_of(entry: dict[str, object]) -> tuple[Name, Told]:
-    return (entry["by"], entry["no"]), told_of(entry)  # type: ignore[return-value]
+def entry_of(entry: dict[str, Any]) -> tuple[Name, Told]:
+    return (entry["by"], entry["no"]), told_of(entry)
 
 
-def told_of(entry: dict[str, object]) -> Told:
-    verdicts, status = entry["verdicts"], entry["status"]
-    if not isinstance(verdicts, list) or not isinstance(status, str):
-        raise TypeError("an entry has a status and verdicts")
-    weights = {Verdict(**it["verdict"]): "" if it["counts"] else str(it["why"]) for it in verdicts}
-    return Told(status, grant_of(entry), weights)
+def told_of(entry: dict[str, Any]) -> Told:
+    verdicts, status, requests = entry["verdicts"], entry["status"], entry["requests"]
+    lists = isinstance(verdicts, list) and isinstance(requests, list)
+    if not lists or not isinstance(status, str):
+        raise TypeError("an entry has a status, requests and verdicts")
+    asked = tuple(request_of(it) for it in requests)
+    weights = {
+        verdict_of(it["verdict"]): "" if it["counts"] else str(it["why"]) for it in verdicts
+    }
+    may = entry.get("may_approve", {"at": "another"})
+    return Told(
+        status,
+        grant_of(entry, asked),
+        weights,
+        asked,
+        str(entry.get("denial", "")),
+        int(entry.get("lacks", 0)),
+        None if may["at"] else tuple(may["people"]),
+    )
 
 
-def grant_of(entry: dict[str, object]) -> Grant | None:
+def grant_of(entry: dict[str, Any], requests: tuple[Request, ...]) -> Grant | None:
     """The grant of a name, where it has a window."""
-    window, requests = entry.get("window"), entry["requests"]
+    window = entry.get("window")
     if window is None:
         return None
     who, no = entry["by"], entry["no"]
-    if not isinstance(window, dict) or not isinstance(requests, list) or len(requests) != 1:
+    if not isinstance(window, dict) or len(requests) != 1:
         raise TypeError("a grant has a window and a request")
     if not isinstance(who, str) or not isinstance(no, int):
         raise TypeError("a name is a person's and has a number")
     first, last = of_stamp(window["from"]), of_stamp(window["until"])
-    return Grant(who, no, str(requests[0]["ceiling"]), first, last)
+    return Grant(who, no, requests[0].wish.ceiling, first, last)

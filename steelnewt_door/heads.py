@@ -3,10 +3,12 @@
 import asyncio
 import re
 from dataclasses import dataclass
+from functools import cached_property, lru_cache
 
 from steelnewt_client.signed import MOST_LINE
 
 MOST_HEAD, MOST_FIELDS = 8_192, 32
+MOST_KNOWN = 512  # bytes of a head that is kept
 END = re.compile(rb"\r?\n\r?\n")
 LINE = re.compile(rb"([!#$%&'*+.^_`|~0-9A-Za-z-]+) ([!-~]+) HTTP/1\.([01])")
 FIELD = re.compile(rb"([!#$%&'*+.^_`|~0-9A-Za-z-]+):[ \t]*([^\x00-\x08\x0a-\x1f\x7f]*?)[ \t]*")
@@ -25,7 +27,7 @@ class Head:
     lengths: list[bytes]
     is_coded: bool
 
-    @property
+    @cached_property
     def length(self) -> int:
         if self.is_coded or len(self.lengths) > 1:
             raise Bad(400, "T6 BadLength")
@@ -72,13 +74,21 @@ def head_of(given: bytes) -> Head:
     return Head(found[1].decode("ascii"), found[2].decode("ascii"), lengths, is_coded)
 
 
+@lru_cache(maxsize=256)
+def known_head(given: bytes) -> Head:
+    """A head that others have to the byte. (A relay's posts differ in their lengths alone.)"""
+    return head_of(given)
+
+
 def head_in(given: bytes) -> tuple[Head, bytes] | None:
     """A head, and what came behind it; None where more of it may come."""
     given = given.lstrip(b"\r\n")
     if ended := END.search(given):
         if ended.end() > MOST_HEAD:
             raise Bad(400, "T1 BadHead")
-        return head_of(given[: ended.start()]), given[ended.end() :]
+        text = given[: ended.start()]
+        head = known_head(text) if len(text) <= MOST_KNOWN else head_of(text)
+        return head, given[ended.end() :]
     return None
 
 

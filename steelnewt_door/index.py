@@ -6,16 +6,16 @@ import logging
 import os
 import sqlite3
 import threading
-from collections.abc import Iterable
+from collections.abc import Iterable, Iterator
 from dataclasses import dataclass
 
 from steelnewt_client.signed import Signed, digest
-from steelnewt_door.rows import FIRST, Last, Row, line_digest
+from steelnewt_door.rows import FIRST, Last, Noted, line_digest
 
 SCHEMA = """
 CREATE TABLE IF NOT EXISTS lines (
-    line TEXT PRIMARY KEY,
-    no INTEGER NOT NULL UNIQUE,
+    line TEXT NOT NULL UNIQUE,
+    no INTEGER PRIMARY KEY,
     at TEXT NOT NULL,
     how TEXT NOT NULL,
     message TEXT NOT NULL,
@@ -28,8 +28,15 @@ CREATE INDEX IF NOT EXISTS by_message ON lines (message);
 CREATE INDEX IF NOT EXISTS unanswered ON lines (no) WHERE code = '';
 CREATE TABLE IF NOT EXISTS last (one INTEGER PRIMARY KEY, no INTEGER, chain TEXT) STRICT;
 """
-ACK = "ack"
-KNOWN = "SELECT no, at, how, code FROM lines WHERE"
+# (a line that was refused and is judged anew has a new row)
+CAME = "INSERT OR REPLACE INTO lines (no, line, at, how, message, about, why, key, code)"
+BEFORE = """
+SELECT line, key, no, at, how, code FROM lines WHERE line = ?1
+UNION
+SELECT line, key, no, at, how, code FROM lines
+WHERE message = ?2 AND about = ?3 AND why = ?4 AND how = 'signed'
+ORDER BY no
+"""
 log = logging.getLogger("desk-door")
 
 
@@ -41,6 +48,16 @@ class Known:
     at: str
     how: str
     code: str
+
+
+@dataclass(frozen=True)
+class Before:
+    """A line that came before, and the first one with the same of each key that signed it, however
+    the signature was written: one signature can be written in many ways (zeros before a number, a
+    curve's other number, base64)."""
+
+    known: Known | None
+    by_key: dict[str, Known]
 
 
 def opened(path: str) -> sqlite3.Connection:
@@ -85,51 +102,51 @@ class Index:
             found = self.base.execute("SELECT no, chain FROM last").fetchone()
         return Last(*(found or (0, FIRST)))
 
-    def add(self, rows: Iterable[Row]) -> None:
+    def add(self, rows: Iterable[tuple[Last, Noted]]) -> None:
         """Notes rows that are on the disk."""
         with self.lock:
             self.base.execute("BEGIN IMMEDIATE")
             try:
                 last = None
-                for row in rows:
-                    self.note(row)
-                    last = row
+                for last, noted in rows:
+                    self.note(last.no, noted)
                 if last:
-                    values = (last["no"], last["chain"])
+                    values = (last.no, last.chain)
                     self.base.execute("INSERT OR REPLACE INTO last VALUES (1, ?, ?)", values)
             except BaseException:
                 self.base.execute("ROLLBACK")
                 raise
             self.base.execute("COMMIT")
 
-    def note(self, row: Row) -> None:
-        if row["row"] == "answered":
-            values = (row["code"], row["of"])
-            self.base.execute("UPDATE lines SET code = ? WHERE no = ?", values)
-        elif row["row"] == "came":
-            signed = Signed(row["message"], row["signature"], row["about"], row["why"])
-            parts = (line_digest(signed), row["no"], row["at"], row["how"], signed.digest)
-            code = ACK if row["how"] == "before" else ""
-            line = (*parts, signed.about, signed.why, row["key"], code)
-            marks = ", ".join("?" * len(line))
-            # (a line that was refused and is judged anew has a new row)
-            self.base.execute(f"INSERT OR REPLACE INTO lines VALUES ({marks})", line)
+    def note(self, no: int, noted: Noted) -> None:
+        if len(noted) == 2:
+            self.base.execute("UPDATE lines SET code = ?2 WHERE no = ?1", noted)
+        elif noted:
+            self.base.execute(f"{CAME} VALUES (?, ?, ?, ?, ?, ?, ?, ?, ?)", (no, *noted))
+
+    def beginnings(self) -> Iterator[str]:
+        """How the digests of all messages begin."""
+        with self.lock:
+            for (begins,) in self.base.execute("SELECT substr(message, 1, 6) FROM lines"):
+                yield begins
 
     def known(self, signed: Signed) -> Known | None:
         """What was noted of a line."""
-        where = f"{KNOWN} line = ?"
-        with self.lock:
-            found = self.base.execute(where, (line_digest(signed),)).fetchone()
-        return Known(*found) if found else None
+        return self.before(signed).known
 
-    def signed_before(self, signed: Signed, key: str) -> Known | None:
-        """The first line with what a key signed, however its signature was written: one signature
-        can be written in many ways (zeros before a number, a curve's other number, base64)."""
-        where = f"{KNOWN} message = ? AND about = ? AND why = ? AND key = ? AND how = 'signed'"
-        values = (signed.digest, signed.about, signed.why, key)
+    def before(self, signed: Signed) -> Before:
+        """What was noted of a line, and of what was signed of its message."""
+        values = (line_digest(signed), signed.digest, signed.about, signed.why)
         with self.lock:
-            found = self.base.execute(f"{where} ORDER BY no LIMIT 1", values).fetchone()
-        return Known(*found) if found else None
+            rows = self.base.execute(BEFORE, values).fetchall()
+        known, by_key = None, dict[str, Known]()
+        for line, key, *parts in rows:
+            found = Known(*parts)
+            if line == values[0]:
+                known = found
+            if found.how == "signed":
+                by_key.setdefault(key, found)
+        return Before(known, by_key)
 
     def is_about(self, message: str, about: str) -> bool:
         """Whether a verdict came with a good signature that is about this request."""

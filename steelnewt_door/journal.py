@@ -19,12 +19,16 @@ from collections.abc import Iterator
 from dataclasses import dataclass, field
 
 from steelnewt_client.moments import stamp_of
-from steelnewt_door.index import Index
-from steelnewt_door.rows import BadRow, Last, Row, following, line_of, read_row
+from steelnewt_client.signed import Signed
+from steelnewt_door.index import Before, Index
+from steelnewt_door.rows import (
+    BadRow, Draft, Last, Noted, Row, draft_of, following, noted_of, read_row,
+)  # fmt: skip
 
 NAME = re.compile(r"journal-([0-9]{12})\.jsonl")
 RESERVE, RESERVED = "reserve", 1 << 20  # bytes that are kept for what takes rights away
 MOST_BATCH = 256
+MOST_UNINDEXED = 256  # rows that the index gets with one transaction
 
 
 class BadJournal(Exception):
@@ -47,7 +51,7 @@ class Room:
 class Batch:
     """Rows that somebody waits for."""
 
-    rows: list[Row]
+    drafts: list[Draft]
     takes_away: bool
     is_done: bool = False
     numbers: list[int] = field(default_factory=list)
@@ -76,6 +80,16 @@ def rows_in(folder: str) -> Iterator[Row]:
         yield from rows_of(path)
 
 
+def rows_behind(folder: str, no: int) -> Iterator[Row]:
+    """The rows behind one, up to where a door may be writing now."""
+    files = files_of(folder)
+    firsts = [first for first, _ in files]
+    for (_, path), following_first in zip(files, [*firsts[1:], no + 2]):
+        if following_first > no + 1:
+            with contextlib.suppress(BadJournal):
+                yield from (it for it in rows_of(path) if it["no"] > no)
+
+
 def is_row(line: bytes) -> bool:
     try:
         return line.endswith(b"\n") and bool(read_row(line))
@@ -96,7 +110,7 @@ class Journal:
         self.kept = Index(os.path.join(folder, "index.db"))
         self.last, self.file, self.size = Last(), -1, 0
         self.broken, self.torn = "", b""
-        self.unindexed, self.indexing = list[Row](), threading.Lock()
+        self.unindexed, self.indexing = list[tuple[Last, Noted]](), threading.Lock()
         self.total = self.counted()
         try:
             self.open_last()
@@ -112,6 +126,7 @@ class Journal:
             self.let_go()
 
     def let_go(self) -> None:
+        self.catch_up([])
         if self.file >= 0:
             os.close(self.file)
         self.kept.close()
@@ -123,14 +138,18 @@ class Journal:
         self.catch_up([])
         return self.kept
 
-    def catch_up(self, rows: list[Row]) -> None:
-        """Puts rows into the index, and the ones before that it had no room for. (It may get them
-        at the next start.)"""
+    def catch_up(self, rows: list[tuple[Last, Noted]], most: int = 0) -> None:
+        """Puts rows into the index, and the ones before that it has not got yet, where there are
+        more of them than so many. (It may get them at the next start.)"""
         with self.indexing, contextlib.suppress(sqlite3.Error):
             self.unindexed += rows
-            if self.unindexed:
+            if len(self.unindexed) > most:
                 self.kept.add(self.unindexed)
                 self.unindexed = []
+
+    def before(self, signed: Signed) -> Before:
+        """What came before of a line's message."""
+        return self.index.before(signed)
 
     def counted(self) -> int:
         """How many bytes all files have now."""
@@ -161,7 +180,7 @@ class Journal:
     def follow(self, entry: tuple[int, str], is_first: bool, indexed: Last) -> None:
         """One file: each row behind the one before it, and into the index what is not there."""
         begins, path = entry
-        found: list[Row] = []
+        found = list[tuple[Last, Noted]]()
         for row in rows_of(path):
             if is_first and not found and self.last.no == 0:
                 self.last = Last(row["no"] - 1, row["before"])
@@ -172,8 +191,8 @@ class Journal:
             self.last = Last(row["no"], row["chain"])
             if row["no"] == indexed.no and row["chain"] != indexed.chain:
                 raise BadJournal(f"{path}: row {row['no']} is another one than it was")
-            found.append(row)
-        self.kept.add(it for it in found if it["no"] > indexed.no)
+            found.append((self.last, noted_of(row)))
+        self.kept.add(it for it in found if it[0].no > indexed.no)
 
     def heal(self, path: str) -> None:
         """Takes away the part of a row that a power cut left: nobody was answered by it. What it
@@ -203,7 +222,7 @@ class Journal:
         before, size = self.file, self.size
         self.open_file(path)
         try:
-            self.put([following(self.last, row)])
+            self.put([draft_of(row)])
             os.fsync(self.guard)
         except OSError:
             os.close(self.file)
@@ -234,7 +253,7 @@ class Journal:
     def append(self, rows: list[Row], takes_away: bool = False) -> list[int]:
         """Writes rows, and is back with their numbers when they are on the disk. Who comes first
         writes what all wait for, with one sync, and the others find it done."""
-        batch = Batch(rows, takes_away)
+        batch = Batch([draft_of(it) for it in rows], takes_away)
         self.waiting.put(batch)
         with self.writing:
             while not batch.is_done:
@@ -286,20 +305,18 @@ class Journal:
     def try_writing(self, batches: list[Batch]) -> None:
         if self.broken:
             raise BadJournal(self.broken)
-        last, rows = self.last, list[Row]()
+        drafts, no = list[Draft](), self.last.no
         for batch in batches:
-            batch.numbers = []
-            for row in batch.rows:
-                rows.append(following(last, row))
-                last = Last(rows[-1]["no"], rows[-1]["chain"])
-                batch.numbers.append(last.no)
+            drafts += batch.drafts
+            batch.numbers = [*range(no + 1, no + 1 + len(batch.drafts))]
+            no += len(batch.drafts)
         is_giving = not all(it.takes_away for it in batches)
         most = self.room.most * (9 if is_giving else 10) // 10
         # (files may have been carried away since)
         if self.total >= most and self.counted() >= most:
             raise Full(f"the journal has {self.total} bytes: carry files of it away")
         try:
-            self.put(rows)
+            self.put(drafts)
         except OSError as fault:
             if fault.errno in (errno.ENOSPC, errno.EDQUOT, errno.EFBIG):
                 raise Full(f"the disk of {self.folder} is full") from None
@@ -308,9 +325,14 @@ class Journal:
             with contextlib.suppress(OSError):  # (then this one goes on)
                 self.next_file()
 
-    def put(self, rows: list[Row]) -> None:
+    def put(self, drafts: list[Draft]) -> None:
         """Writes rows and waits until the disk has them; undone where it has no room."""
-        text = b"".join(line_of(it) for it in rows)
+        last, lines, rows = self.last, list[bytes](), list[tuple[Last, Noted]]()
+        for draft, noted in drafts:
+            last, line = following(last, draft)
+            lines.append(line)
+            rows.append((last, noted))
+        text = b"".join(lines)
         try:
             written = 0
             while written < len(text):
@@ -320,8 +342,8 @@ class Journal:
             self.undo(fault)
             raise
         self.size, self.total = self.size + len(text), self.total + len(text)
-        self.last = Last(rows[-1]["no"], rows[-1]["chain"])
-        self.catch_up(rows)
+        self.last = last
+        self.catch_up(rows, MOST_UNINDEXED)
 
     def undo(self, fault: OSError) -> None:
         """Takes back what may be written in part. (What a disk says after a failed sync is not to

@@ -7,6 +7,7 @@ import hashlib
 import os
 import subprocess
 from dataclasses import dataclass, field
+from functools import lru_cache
 
 from steelnewt_client.signed import BadLine, Signed
 from steelnewt_door.signers import ALLOWED, KRL, REVOKED, Signer, Version
@@ -65,6 +66,7 @@ def signer_in(version: Version, who: str, parts: Parts) -> Signer | None:
     return found[0] if len(found) == 1 else None
 
 
+@lru_cache(maxsize=1_024)
 def print_of_blob(blob: bytes) -> str:
     """A key's fingerprint, as ssh-keygen prints it."""
     text = base64.b64encode(hashlib.sha256(blob).digest()).decode("ascii")

@@ -4,7 +4,6 @@ import argparse
 import asyncio
 import contextlib
 import logging
-import mmap
 import os
 import signal
 import socket
@@ -13,14 +12,16 @@ import stat
 import sys
 from collections.abc import Iterator
 from dataclasses import replace
-from multiprocessing.connection import Connection
 from typing import Any
 
 from steelnewt_client.codes import NO_ROUTE
 from steelnewt_client.desk import Silent
-from steelnewt_door.crew import Asked, Crew, Keeper, Locks
+from steelnewt_door.answering import Answering, Kept
+from steelnewt_door.crew import Asked, Crew, Keeper, Line, Locks, Shared
+from steelnewt_door.file_key import BadKey, FileKey, make_key, next_of, read_key, turn
+from steelnewt_door.file_key import told as told_of_keys
 from steelnewt_door.index import Index
-from steelnewt_door.journal import BadJournal, files_of
+from steelnewt_door.journal import BadJournal, files_of, rows_behind
 from steelnewt_door.refusals import Refused
 from steelnewt_door.serving import BACKLOG, Serving, bound
 from steelnewt_door.settings import CONFIG, BadSettings, Settings, read_settings
@@ -42,6 +43,11 @@ def parser() -> argparse.ArgumentParser:
     jobs.add_parser("serve", help="serve until SIGTERM")
     jobs.add_parser("begin", help="note what the desk holds that never came through the door")
     jobs.add_parser("check", help="say all that would stop it, or let a message past it")
+    jobs.add_parser("answer", help="answer hosts with the door's own signature, until SIGTERM")
+    said = "make the key of these signatures, and print what hosts have of it"
+    key = jobs.add_parser("file-key", help=said).add_mutually_exclusive_group()
+    key.add_argument("--next", action="store_true", help="make another one, for all hosts to have")
+    key.add_argument("--turn", action="store_true", help="sign with that one from now on")
     return found
 
 
@@ -54,7 +60,7 @@ def told_ready() -> None:
             peer.sendall(b"READY=1")
 
 
-async def until_ended(serving: Serving, places: Places, line: Connection) -> None:
+async def until_ended(serving: Serving, places: Places, line: Line) -> None:
     """Serves until SIGTERM, or until the process that has the journal is gone."""
     loop, job = asyncio.get_running_loop(), asyncio.current_task()
     assert job
@@ -75,22 +81,24 @@ def serve(settings: Settings) -> int:
                 (settings.listen, 0o660, False), (settings.root, 0o600, True)
             )
         ]  # fmt: skip
-        locks, lag = Locks(LOCKS), mmap.mmap(-1, 1)
+        locks, shared = Locks(LOCKS), Shared()
 
-        def work(ends: list[Connection], line: Connection) -> None:
+        def work(ends: list[Line], line: Line) -> None:
             locks.own()
             # (it has of a journal, and of a share, what a door uses as it takes messages)
-            asked: Any = Asked(settings.journal, ends, lag)
+            asked: Any = Asked(settings.journal, ends, shared)
             door = replace(settings.door(asked), locks=locks, share=asked)
             asyncio.run(until_ended(Serving(door, settings.questions), places, line))
 
+        for place, is_root in places:
+            place.setblocking(not is_root)
         crew = Crew(work)
         held.callback(crew.end)
         journal = settings.kept()
         held.callback(journal.close)
         journal.note_torn()
         told(settings.door(journal), settings)
-        run(crew, Keeper(journal, lag), settings, [it for it, _ in places])
+        run(crew, Keeper(journal, shared), settings, [it for it, _ in places])
     return 1 if crew.has_failed else 0
 
 
@@ -153,6 +161,43 @@ def begin(settings: Settings) -> int:
     return 0
 
 
+def answer(settings: Settings) -> int:
+    """Answers hosts until SIGTERM."""
+    key = FileKey(settings.file_key, settings.site)
+    check_place(settings.answers)
+    with bound(settings.answers, 0o660) as place:
+        place.listen(BACKLOG)
+        print(f"listening unix:{settings.answers}", flush=True)
+        told_ready()
+        kept = Kept(settings.journal, settings.signers)
+        asyncio.run(Answering(key, kept, settings.questions).serve(place))
+    log.info("ended, as it was asked to")
+    return 0
+
+
+def file_key(settings: Settings, said: argparse.Namespace) -> int:
+    """Makes a key, or puts the next one in its place, and prints what hosts have."""
+    path = settings.file_key
+    if said.turn:
+        turn(path)
+    else:
+        make_key(next_of(path) if said.next else path)
+    print(told_of_keys(path, settings.site), end="")
+    return 0
+
+
+def answers_faults(settings: Settings) -> Iterator[str]:
+    """Whether hosts get no signed answer, where there is a key for them."""
+    if not os.path.lexists(settings.file_key):
+        return
+    try:
+        read_key(settings.file_key)
+        with socket.socket(socket.AF_UNIX) as peer:
+            peer.connect(settings.answers)
+    except (BadKey, OSError) as fault:
+        yield f"hosts with SIGNED=yes get no file: {fault}"
+
+
 def signer_faults(settings: Settings) -> Iterator[str]:
     """What is wrong with the signers, the roster and the base."""
     two = settings.two()
@@ -191,7 +236,11 @@ def desk_faults(settings: Settings) -> Iterator[str]:
             yield f"{settings.desk} is open to every account of this machine: past the door"
         held = settings.asked().get("/v1/messages").splitlines()
         index = Index(os.path.join(settings.journal, "index.db"))
-        yield from (f"this came past the door: {it}" for it in held if not index.is_here(it))
+        # (of a door at work the index is a second behind)
+        behind = [it for it in rows_behind(settings.journal, index.last().no) if "message" in it]
+        new = {it["message"] for it in behind if it["how"] != "refused"}
+        past = [it for it in held if it not in new and not index.is_here(it)]
+        yield from (f"this came past the door: {it}" for it in past)
         index.close()
         yield from questions_faults(settings)
     except OSError as fault:
@@ -212,7 +261,7 @@ def room_faults(settings: Settings) -> Iterator[str]:
 
 
 def check(settings: Settings) -> int:
-    found = [*desk_faults(settings), *room_faults(settings)]
+    found = [*desk_faults(settings), *room_faults(settings), *answers_faults(settings)]
     if settings.rules.is_signing:
         found += signer_faults(settings)
     else:
@@ -224,10 +273,13 @@ def check(settings: Settings) -> int:
 def main(words: list[str] | None = None) -> int:
     said = parser().parse_args(words)
     logging.basicConfig(level=logging.INFO, format="%(name)s: %(message)s")
-    jobs = {"serve": serve, "begin": begin, "check": check}
+    jobs = {"serve": serve, "begin": begin, "check": check, "answer": answer}
     try:
-        return jobs[said.job](read_settings(said.config))
-    except (BadSettings, BadSigners, BadJournal, Silent, OSError, sqlite3.Error) as fault:
+        settings = read_settings(said.config)
+        if said.job == "file-key":
+            return file_key(settings, said)
+        return jobs[said.job](settings)
+    except (BadSettings, BadSigners, BadJournal, BadKey, Silent, OSError, sqlite3.Error) as fault:
         print(f"desk-door: {fault}", file=sys.stderr)
         return 2
     except Refused as fault:

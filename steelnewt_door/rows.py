@@ -34,7 +34,13 @@ HOWS = ("signed", "root", "unsigned", "before", "refused")
 # What is written of a row that cannot be a message: no more than this of its text.
 SHORT = 200
 
+ACK = "ack"
+
 Row = dict[str, Any]
+# What a row gets as it is written.
+BLANKS = {"no": 0, "before": "", "chain": ""}
+Noted = tuple[Any, ...]
+Draft = tuple[bytes, Noted]
 
 
 class BadRow(ValueError):
@@ -43,26 +49,48 @@ class BadRow(ValueError):
 
 @dataclass(frozen=True)
 class Last:
-    """The last row: its number and its chain."""
+    """The last row: its number, and its chain, which is the digest of its text without that, and
+    has the row before it in itself."""
 
     no: int = 0
     chain: str = FIRST
 
 
-def chained(row: Row) -> str:
-    """The digest of a row, which has the one before it in itself."""
-    told = {name: value for name, value in row.items() if name != "chain"}
-    return hashlib.sha256(canonical(told).encode("utf-8")).hexdigest()
-
-
-def following(last: Last, row: Row) -> Row:
-    """A row as the next one behind another."""
-    numbered = row | {"no": last.no + 1, "before": last.chain}
-    return numbered | {"chain": chained(numbered)}
-
-
 def line_of(row: Row) -> bytes:
     return canonical(row).encode("utf-8") + b"\n"
+
+
+def draft_of(row: Row) -> Draft:
+    """A row as it is handed to who writes it."""
+    return line_of(row | BLANKS), noted_of(row)
+
+
+def noted_of(row: Row) -> Noted:
+    """What the index notes of a row: of a message that came the values of its line there but the
+    number, of an answer the message's number and the code, and of others nothing."""
+    if row["row"] == "answered":
+        return row["of"], row["code"]
+    if row["row"] != "came":
+        return ()
+    signed = Signed(row["message"], row["signature"], row["about"], row["why"])
+    code = ACK if row["how"] == "before" else ""
+    parts = line_digest(signed), row["at"], row["how"], signed.digest
+    return *parts, signed.about, signed.why, row["key"], code
+
+
+def digest_in(noted: Noted) -> str:
+    """The digest of the message in what is noted of one that came; empty for other rows."""
+    return str(noted[3]) if len(noted) > 3 else ""
+
+
+def following(last: Last, draft: bytes) -> tuple[Last, bytes]:
+    """A draft as the next row behind another: its number and chain, and its line. (The quotes in a
+    string are escaped, so none has the text of a blank; and `chain` is never the first name.)"""
+    line = draft.replace(b'"no":0', b'"no":%d' % (last.no + 1), 1)
+    line = line.replace(b'"before":""', b'"before":"%s"' % last.chain.encode("ascii"), 1)
+    chain = hashlib.sha256(line.replace(b',"chain":""', b"", 1)[:-1]).hexdigest()
+    line = line.replace(b'"chain":""', b'"chain":"%s"' % chain.encode("ascii"), 1)
+    return Last(last.no + 1, chain), line
 
 
 def read_row(line: bytes) -> Row:
@@ -76,7 +104,7 @@ def read_row(line: bytes) -> Row:
         raise BadRow("is no row") from None
     if not is_row or {name: type(value) for name, value in found.items()} != wanted:
         raise BadRow("is no row")
-    # (the text is cut as chained() made it: no string in it has the name unescaped)
+    # (the text is cut as following() made it: no string in it has the name unescaped)
     told = text.replace(f',"chain":"{found["chain"]}"', "", 1)
     if found["chain"] != hashlib.sha256(told.encode("utf-8")).hexdigest():
         raise BadRow("was changed")

@@ -16,8 +16,9 @@ from collections.abc import Callable
 from concurrent.futures import ThreadPoolExecutor
 from contextlib import suppress
 from dataclasses import replace
+from functools import lru_cache
 
-from steelnewt_client.desk import answer_in, route
+from steelnewt_client.desk import HEAD, LENGTH, answer_in, route
 from steelnewt_client.names import LABEL
 from steelnewt_door.crew import PROCESSES, WORKERS
 from steelnewt_door.heads import MOST_HEAD, Bad, Head, head_in, read_body, read_head, reply
@@ -29,6 +30,7 @@ MOST_REPLY = 65_536
 COMES_IN, ANSWERS_IN, GOES_IN = 10.0, 60.0, 30.0  # seconds
 MOST_OPEN = 1_024 // PROCESSES  # connections of each process
 BACKLOG = 512  # that wait to be taken
+UCRED = struct.Struct("3i")
 POSTS = re.compile(rf"/v1/relays/({LABEL})/messages")
 
 
@@ -47,7 +49,8 @@ def post_to(path: str, patience: float = ANSWERS_IN) -> Callable[[str, str], Rep
                 peer.connect(path)
                 peer.sendall(head.encode("ascii") + body)
                 raw = b""
-                while len(raw) < MOST_REPLY and (piece := peer.recv(MOST_REPLY)):
+                # (the desk closes the connection, which need not be waited for)
+                while not is_whole(raw) and (piece := peer.recv(MOST_REPLY)):
                     raw += piece
             answer = answer_in(raw, True)
             assert answer is not None
@@ -58,9 +61,18 @@ def post_to(path: str, patience: float = ANSWERS_IN) -> Callable[[str, str], Rep
     return post
 
 
+@lru_cache(maxsize=64)
+def is_whole(raw: bytes) -> bool:
+    """Whether a reply has as many bytes as its head says, or more than any."""
+    head = HEAD.match(raw)
+    length = LENGTH.search(head[2]) if head else None
+    size = head.end() + int(length[1]) if head and length else MOST_REPLY
+    return len(raw) >= min(size, MOST_REPLY)
+
+
 def post_in(given: bytes) -> tuple[str, int, int] | None:
-    """The relay of a post whose head is there, how long its line is, and how much of that is still to
-    come; None where more of the head is. Raises where it is something else, or more."""
+    """The relay of a post whose head is there, how long its line is, and how much of that is still
+    to come; None where more of the head is. Raises where it is something else, or more."""
     if (found := head_in(given)) is None:
         if len(given) > MOST_HEAD:
             raise Bad(400, "T1 BadHead")
@@ -81,39 +93,62 @@ class Coming:
     is whole, and the loop has no more to do with it: of all that comes it is what many wait for.
     Whatever else it is, or becomes, goes to `Serving.hear`, with what was read."""
 
-    def __init__(self, serving: "Serving", peer: socket.socket, way: Way) -> None:
-        self.serving, self.peer, self.way, self.given = serving, peer, way, b""
+    def __init__(
+        self, serving: "Serving", peer: socket.socket, account: str, is_root: bool
+    ) -> None:
+        self.serving, self.peer, self.given = serving, peer, b""
+        self.account, self.is_root, self.relay = account, is_root, ""
         self.length, self.missing = 0, -1  # (-1 while its head is to come)
+        self.is_other = False
         self.timer: asyncio.TimerHandle | None = None
 
+    @property
+    def way(self) -> Way:
+        return Way(self.relay, self.account, self.is_root)
+
+    @property
+    def is_whole(self) -> bool:
+        return self.missing == 0 and not self.is_other
+
+    @property
+    def line(self) -> bytes:
+        return self.given[len(self.given) - self.length :]
+
     def read(self) -> None:
+        """Reads what is there."""
         try:
-            self.take(self.peer.recv(MOST_REPLY))
+            self.take(self.peer.recv(MOST_REPLY, socket.MSG_DONTWAIT))
         except BlockingIOError:
             pass
         except (OSError, Bad, Other):
-            self.leave_loop()
-            self.serving.hear_on(self.peer, self.way, self.given)
-            return
-        if self.missing == 0:
-            self.leave_loop()
-            line = self.given[len(self.given) - self.length :]
-            self.serving.give(self.peer, self.way, line)
-        elif not self.timer:
-            loop = asyncio.get_running_loop()
-            loop.add_reader(self.peer, self.read)
-            self.timer = loop.call_later(COMES_IN, self.end)
+            self.is_other = True
 
     def take(self, piece: bytes) -> None:
-        """The next bytes. (A head is looked at until it is whole, and bytes of a line are counted.)"""
+        """The next bytes. (A head is looked at until it is whole; bytes of a line are counted.)"""
         self.given += piece
         if self.missing > 0:
             self.missing -= len(piece)
         elif found := post_in(self.given):
-            relay, self.length, self.missing = found
-            self.way = replace(self.way, relay=relay)
+            self.relay, self.length, self.missing = found
         if not piece or (self.missing < 0 and self.length):
             raise Other
+
+    def go_on(self) -> None:
+        """In the loop: what becomes of it, by what was read."""
+        if self.is_other:
+            self.leave_loop()
+            self.serving.hear_on(self.peer, self.way, self.given)
+        elif self.missing == 0:
+            self.leave_loop()
+            self.serving.give(self)
+        elif not self.timer:
+            loop = asyncio.get_running_loop()
+            loop.add_reader(self.peer, self.read_on)
+            self.timer = loop.call_later(COMES_IN, self.end)
+
+    def read_on(self) -> None:
+        self.read()
+        self.go_on()
 
     def leave_loop(self) -> None:
         if self.timer:
@@ -127,63 +162,115 @@ class Coming:
 
 class Serving:
     """One door at its sockets. What comes at root's is root's word; `questions` is where the desk
-    answers them."""
+    answers them.
+
+    Threads take connections by themselves, and one whose post has come whole is answered where it
+    was taken: nothing is handed from one to another. The loop has what comes in pieces, and all
+    that is no post."""
 
     def __init__(self, door: Door, questions: str) -> None:
         self.door, self.questions = door, questions
         self.workers = ThreadPoolExecutor(WORKERS, "take")
-        self.open, self.counting = 0, threading.Lock()
+        self.open, self.idle, self.is_ending = 0, WORKERS, False
+        self.counting = threading.Lock()
+        self.quiet = threading.Condition(self.counting)
         self.tasks = set[asyncio.Task[None]]()
 
     async def serve(self, places: list[tuple[socket.socket, bool]]) -> None:
         """Serves at these sockets, of which some are root's, until it is cancelled."""
         loop = asyncio.get_running_loop()
         for place, is_root in places:
-            loop.add_reader(place, self.accept, place, is_root)
+            if is_root:
+                loop.add_reader(place, self.accept, place)
+                continue
+            for _ in range(WORKERS):
+                words = (place, loop)
+                threading.Thread(target=self.accept_all, args=words, daemon=True).start()
         try:
             await loop.create_future()
         finally:
-            self.workers.shutdown()
+            self.end()
 
-    def accept(self, place: socket.socket, is_root: bool) -> None:
-        """Takes a connection that waits at a socket. (Others may be taken by other processes.)"""
+    def end(self) -> None:
+        """Waits until what was taken is answered."""
+        with self.counting:
+            self.is_ending = True
+            self.quiet.wait_for(lambda: self.idle == WORKERS)
+        self.workers.shutdown()
+
+    def accept(self, place: socket.socket) -> None:
+        """Takes a connection that waits at root's socket. (Others may be taken by other
+        processes.)"""
+        with suppress(BlockingIOError):
+            if coming := self.begun(place, True):
+                coming.go_on()
+
+    def accept_all(self, place: socket.socket, loop: asyncio.AbstractEventLoop) -> None:
+        """Takes connections, one after the other."""
+        while True:
+            try:
+                coming = self.begun(place, False)
+                if coming and coming.is_whole and self.gets_busy():
+                    self.answer_here(coming)
+                elif coming:
+                    loop.call_soon_threadsafe(coming.go_on)
+            except Exception:
+                log.exception("K23 DoorFails: a connection")
+
+    def answer_here(self, coming: Coming) -> None:
         try:
-            self.begin(place.accept()[0], is_root)
+            self.answer_post(coming)
+        finally:
+            with self.counting:
+                self.idle += 1
+                self.quiet.notify()
+
+    def gets_busy(self) -> bool:
+        """Whether a thread may answer what it took. (The last that is idle does not: so there is
+        always one that takes the next.)"""
+        with self.counting:
+            is_free = self.idle > 1 and not self.is_ending
+            self.idle -= is_free
+            return is_free
+
+    def begun(self, place: socket.socket, is_root: bool) -> Coming | None:
+        """A connection that waits at a socket, and what it has said so far."""
+        try:
+            peer, _ = place.accept()
         except BlockingIOError:
-            pass
+            raise
         except OSError as fault:  # (no descriptor is left)
             log.warning("no connection is taken for a moment: %s", fault)
             time.sleep(0.1)
-
-    def begin(self, peer: socket.socket, is_root: bool) -> None:
+            return None
         with self.counting:
             self.open += 1
-        peer.setblocking(False)
+            is_room = self.open <= MOST_OPEN and not self.is_ending
         account = account_of(peer)
-        if self.open <= MOST_OPEN and (account in (0, os.geteuid()) or not is_root):
-            Coming(self, peer, Way("", f"uid {account}", is_root)).read()
-        else:
+        if not is_room or (is_root and account not in (0, os.geteuid())):
             self.let_go(peer)
+            return None
+        coming = Coming(self, peer, f"uid {account}", is_root)
+        coming.read()
+        return coming
 
     def let_go(self, peer: socket.socket) -> None:
         with self.counting:
             self.open -= 1
         peer.close()
 
-    def give(self, peer: socket.socket, way: Way, line: bytes) -> None:
+    def give(self, coming: Coming) -> None:
         """Has a worker take a message and answer it."""
+        self.workers.submit(self.answer_post, coming)
 
-        def work() -> None:
-            try:
-                said = self.take(way, line)
-                peer.settimeout(GOES_IN)
-                peer.sendall(said)
-            except OSError:
-                pass  # (nobody is there to be answered)
-            finally:
-                self.let_go(peer)
-
-        self.workers.submit(work)
+    def answer_post(self, coming: Coming) -> None:
+        """Takes a message and answers it."""
+        try:
+            send(coming.peer, self.take(coming.way, coming.line))
+        except OSError:
+            pass  # (nobody is there to be answered)
+        finally:
+            self.let_go(coming.peer)
 
     def hear_on(self, peer: socket.socket, way: Way, given: bytes) -> None:
         """Answers whatever else a connection is, of which so much was read."""
@@ -267,6 +354,16 @@ def said_why(fault: Refused) -> str:
     return f": {plain[:300]}" if plain else ""
 
 
+def send(peer: socket.socket, said: bytes) -> None:
+    """Sends an answer. (It goes at once, but to who reads nothing: Python's own timeout asks the
+    kernel twice more.)"""
+    with suppress(BlockingIOError):
+        said = said[peer.send(said, socket.MSG_DONTWAIT) :]
+    if said:
+        peer.settimeout(GOES_IN)
+        peer.sendall(said)
+
+
 def bound(path: str, mode: int) -> socket.socket:
     """A socket at this path, with this mode from its first moment on. Nobody listens there yet."""
     with suppress(FileNotFoundError):
@@ -274,7 +371,6 @@ def bound(path: str, mode: int) -> socket.socket:
     found, before = socket.socket(socket.AF_UNIX), os.umask(0o777 - mode)
     try:
         found.bind(path)
-        found.setblocking(False)
     except BaseException:
         found.close()
         raise
@@ -285,6 +381,5 @@ def bound(path: str, mode: int) -> socket.socket:
 
 def account_of(peer: socket.socket) -> int:
     """Which account is at the other end of a socket."""
-    size = struct.calcsize("3i")
-    _, uid, _ = struct.unpack("3i", peer.getsockopt(socket.SOL_SOCKET, socket.SO_PEERCRED, size))
-    return int(uid)
+    told = peer.getsockopt(socket.SOL_SOCKET, socket.SO_PEERCRED, UCRED.size)
+    return int(UCRED.unpack(told)[1])

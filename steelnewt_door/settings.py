@@ -23,6 +23,8 @@ TEXTS = {
     "root": "unix:/run/desk-door/root/desk.sock",
     "signers": SIGNERS,
     "journal": "/var/lib/desk-door",
+    "answers": "unix:/run/desk-answers/desk.sock",
+    "file_key": "/var/lib/desk-answers/key",
 }
 NUMBERS = {"late": 86_400, "changes_by": 1, "journal_bytes": 4 << 30, "file_bytes": 16 << 20}
 LEAST = {"late": 60, "changes_by": 1, "journal_bytes": 1 << 20, "file_bytes": 1 << 16}
@@ -43,6 +45,8 @@ class Settings:
     journal: str
     rules: Rules
     room: Room
+    answers: str
+    file_key: str
 
     def judge(self) -> Judge:
         return Judge(self.site)
@@ -113,6 +117,8 @@ def read_settings(path: str) -> Settings:
             journal=texts["journal"],
             rules=Rules(texts["signing"] == "yes", numbers["late"], numbers["changes_by"]),
             room=Room(numbers["journal_bytes"], numbers["file_bytes"]),
+            answers=socket_of("answers", texts["answers"]),
+            file_key=texts["file_key"],
         )
     except (OSError, ValueError) as fault:
         raise BadSettings(f"{path}: {fault}") from None

@@ -98,15 +98,16 @@ class Version:
     def state(self) -> tuple[object, ...]:
         """Marks of the version's files, which differ if somebody changed one, against the rules."""
         found: list[object] = [self.folder]
-        for name in (ALLOWED, REVOKED, KRL):
+        for name in (ALLOWED, REVOKED, *([KRL] if self.has(KRL) else [])):
             try:
                 it = os.stat(f"{self.folder}/{name}")
             except OSError as fault:
-                if name == KRL and not self.has(name):
-                    continue
                 raise BadSigners(f"{self.path(name)} cannot be read: {fault.strerror}") from None
             found += [it.st_ino, it.st_mtime_ns, it.st_size]
         return tuple(found)
+
+    def seen(self) -> "Seen":
+        return Seen(self.at, self.folder, self.state())
 
     def signers(self) -> list[Signer]:
         """Each line, by the file's order: a line of another form is refused, for ssh-keygen might
@@ -125,6 +126,16 @@ class Version:
     def krl(self) -> str:
         """The site's own list, in base64; empty where it has none."""
         return base64.b64encode(self.bytes(KRL)).decode("ascii") if self.has(KRL) else ""
+
+
+@dataclass(frozen=True)
+class Seen(Version):
+    """A version whose files were looked at just now."""
+
+    marks: tuple[object, ...] = ()
+
+    def state(self) -> tuple[object, ...]:
+        return self.marks
 
 
 class Copied(Version):

@@ -13,11 +13,11 @@ from steelnewt_client.moments import seconds, stamp_of
 from steelnewt_client.signed import BadLine, Signed, digest, read_line, said_in
 from steelnewt_door.changes import Two
 from steelnewt_door.crew import Locks
-from steelnewt_door.index import ACK, Known
+from steelnewt_door.index import Before, Known
 from steelnewt_door.journal import BadJournal, Full, Journal, rows_in
 from steelnewt_door.judge import Judge, JudgeAway
 from steelnewt_door.refusals import Refused, Share
-from steelnewt_door.rows import Row, answered, came, came_broken
+from steelnewt_door.rows import ACK, Row, answered, came, came_broken
 from steelnewt_door.signers import BadSigners, Signers, Version
 from steelnewt_door.wire import BadSignature
 
@@ -102,12 +102,13 @@ class Door:
             return self.take_one(way, signed, message)
 
     def take_one(self, way: Way, signed: Signed, message: Message) -> bytes:
-        known = self.journal.index.known(signed)
+        before = self.journal.before(signed)
+        known = before.known
         try:
             if known and known.how != "refused" and self.is_held(known, signed, message):
                 no = known.no
             else:
-                no, known = self.keep(way, signed, message, known)
+                no, known = self.keep(way, signed, message, before)
             reply = self.post(way.relay, signed.message)
         except Refused as refused:
             self.note_refused(way, signed, message, refused)
@@ -141,7 +142,7 @@ class Door:
     def note_refused(self, way: Way, signed: Signed, message: Message, refused: Refused) -> None:
         """Notes a refusal of the door's own once, and so many of a relay's a day. (What nobody
         signed gets none of the room that is for what takes rights away.)"""
-        known = self.journal.index.known(signed)
+        known = self.journal.before(signed).known
         if known and known.code == refused.code:
             return
         at = self.now()
@@ -182,11 +183,11 @@ class Door:
         return signed.message in (*requests, *verdicts)
 
     def keep(
-        self, way: Way, signed: Signed, message: Message, known: Known | None
+        self, way: Way, signed: Signed, message: Message, before: Before
     ) -> tuple[int, Known | None]:
         """The number of a row with the message, which may be posted then, and what the index had
         of that row before. Raises where the message may not be posted."""
-        how, at = self.how(way, signed, message), self.now()
+        how, at, known = self.how(way, signed, message), self.now(), before.known
         key, version = self.key_of(signed, message, at)
         # (also of what came before and was not taken: nobody puts an approval by for later)
         self.check_moment(message, at)
@@ -200,8 +201,8 @@ class Door:
                 raise Refused("A23 NoRequest" if is_over else "K22 NoRequestYet")
         if known and known.how == how:
             return known.no, known
-        if key and (before := self.journal.index.signed_before(signed, key)):
-            return before.no, before
+        if key and (first := before.by_key.get(key)):
+            return first.no, first
         [no] = self.append([came(signed, at, way.names, how, key, version)], message)
         return no, None
 
@@ -220,7 +221,7 @@ class Door:
         if not signed.signature:
             return "", ""
         try:
-            version = self.signers.now()
+            version = self.signers.now().seen()
             self.check_version(version)
             return self.judge.key_of(version, message.by, signed, at), version.at
         except BadSigners as fault:

@@ -5,7 +5,7 @@ import hashlib
 import struct
 from collections.abc import Iterator
 from dataclasses import dataclass
-from functools import cached_property, lru_cache
+from functools import lru_cache
 
 from cryptography.exceptions import InvalidSignature, UnsupportedAlgorithm
 from cryptography.hazmat.primitives import hashes
@@ -14,6 +14,7 @@ from cryptography.hazmat.primitives.asymmetric.ed25519 import Ed25519PublicKey
 from cryptography.hazmat.primitives.asymmetric.utils import encode_dss_signature
 
 MAGIC = b"SSHSIG"
+LENGTH = struct.Struct(">I")
 IS_TOUCHED = 0x01
 CURVES: dict[bytes, tuple[ec.EllipticCurve, hashes.HashAlgorithm]] = {
     b"nistp256": (ec.SECP256R1(), hashes.SHA256()),
@@ -35,15 +36,21 @@ def strings(raw: bytes) -> Iterator[bytes]:
     """The strings of ssh's wire format, one behind the other."""
     at = 0
     while at < len(raw):
-        (size,) = struct.unpack_from(">I", raw, at)
-        if size > len(raw) - at - 4:
-            raise struct.error("cut short")
-        yield raw[at + 4 : at + 4 + size]
-        at += 4 + size
+        found = first_of(raw, at)
+        yield found
+        at += 4 + len(found)
+
+
+def first_of(raw: bytes, at: int) -> bytes:
+    """The string that begins there."""
+    (size,) = LENGTH.unpack_from(raw, at)
+    if size > len(raw) - at - 4:
+        raise struct.error("cut short")
+    return raw[at + 4 : at + 4 + size]
 
 
 def wire(text: bytes) -> bytes:
-    return struct.pack(">I", len(text)) + text
+    return LENGTH.pack(len(text)) + text
 
 
 @dataclass(frozen=True)
@@ -56,9 +63,9 @@ class Parts:
     hashed: bytes
     signature: bytes
 
-    @cached_property
+    @property
     def kind(self) -> bytes:
-        return next(strings(self.key))
+        return first_of(self.key, 0)
 
     @property
     def is_plain(self) -> bool:
@@ -69,12 +76,18 @@ class Parts:
     def is_of_security_key(self) -> bool:
         return self.kind.startswith(b"sk-")
 
-    @cached_property
+    @property
     def tail(self) -> tuple[bytes, bytes, bytes]:
         """The algorithm, the signature itself, and what a security key says behind it."""
-        fields = strings(self.signature)
-        algorithm, itself = next(fields), next(fields)
+        algorithm = first_of(self.signature, 0)
+        itself = first_of(self.signature, 4 + len(algorithm))
         return algorithm, itself, self.signature[8 + len(algorithm) + len(itself) :]
+
+
+@lru_cache(maxsize=1_024)
+def fields_of(key: bytes) -> tuple[bytes, ...]:
+    """The fields of a public key that is no certificate."""
+    return tuple(strings(key))
 
 
 def parts_of(raw: bytes) -> Parts:
@@ -108,7 +121,7 @@ def check(parts: Parts, namespace: str, what: bytes) -> None:
 
 
 def check_by_kind(parts: Parts, told: bytes) -> None:
-    kind, *fields = strings(parts.key)
+    kind, *fields = fields_of(parts.key)
     algorithm, itself, behind = parts.tail
     if kind == b"ssh-rsa":
         check_rsa(fields, algorithm, itself, told)

@@ -19,7 +19,8 @@ For Python 3.9 and later; it needs nothing beside it but sudo. scripts/host_prog
 file of it, which may be copied to a host by itself. `program.py` has the words of the command,
 `settings.py` those of /etc/desk/fetch.conf. In the order in which a right comes and goes:
 
-- `asking.py` asks the desks, `answers.py` reads what they answer, `counts.py` says which of two
+- `asking.py` asks the desks, `signed.py` takes only what their doors signed, where the site has
+  these, `answers.py` reads what they answer, `counts.py` says which of two
   states is newer and keeps this host's own, `lawful.py` knows what a desk writes, `place.py` puts
   it in place, `silence.py` ends grants where nothing is heard; `fetching.py` is all of `fetch`.
 - sudo's plugin (packaging/host/desk_host.c; `plugin.py` has sudo load it) writes down what starts:

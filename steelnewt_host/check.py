@@ -27,6 +27,7 @@ from steelnewt_host.watched import (
     unended,
     unkept,
     wrong_certificate,
+    wrong_keys,
     wrong_names,
     wrong_run,
     wrong_timers,
@@ -59,6 +60,7 @@ def findings(settings: Settings) -> Iterator[Finding]:
     """All of them."""
     yield from wrong_rights(settings)
     yield from refused(settings)
+    yield from wrong_keys(settings)
     yield from wrong_plugin()
     yield from wrong_run(settings)
     yield from unended(settings)

@@ -1,7 +1,10 @@
 """Which of two states of a site is newer, and what this host has had.
 
 A state is a roster and a base, each by its digest, and of both nothing but a history tells which
-came later: a digest has no order, and a state that nobody knows is not newer for that."""
+came later: a digest has no order, and a state that nobody knows is not newer for that.
+
+A site may cut its history: then its desks hold fewer messages, and each line of their history says
+how many they took out. Both numbers together are what a host goes by, as if nothing was cut."""
 
 from __future__ import annotations
 
@@ -16,8 +19,21 @@ from steelnewt_host.faults import Fault
 from steelnewt_host.state import write_state
 
 KNOWN = 64  # how many states the record goes back
+HOLD = ("ROSTER", "BASE")  # what an administrator names
 
-State = tuple[str, str]  # the digests of a roster and of a base
+
+class State(NamedTuple):
+    """The digests of a roster and of a base, and how many messages were taken out before."""
+
+    roster: str
+    base: str
+    archived: int = 0
+
+    def is_as_named(self, other: State) -> bool:
+        """Whether a desk names both alike: what was taken out its history alone says."""
+        return self[:2] == other[:2]
+
+
 Past = Sequence[State]  # the states of a site in their order, the last of which is there now
 
 
@@ -55,7 +71,7 @@ def order(one: Sequence[str], other: Sequence[str]) -> Order:
 
 def row(past: Past, part: int) -> list[str]:
     """The rosters of a past, or its bases, each as often as it came anew."""
-    return [it for it, _ in itertools.groupby(state[part] for state in past)]
+    return [it for it, _ in itertools.groupby(state[:2][part] for state in past)]
 
 
 def orders(one: Past, other: Past) -> tuple[Order, Order]:
@@ -64,23 +80,38 @@ def orders(one: Past, other: Past) -> tuple[Order, Order]:
 
 
 class Count(NamedTuple):
-    """How many messages there were of a roster and base."""
+    """How many messages there were of a roster and base, with those that were taken out."""
 
     messages: int
     roster: str
     base: str
+    archived: int = 0
 
     @property
     def state(self) -> State:
-        return self.roster, self.base
+        return State(self.roster, self.base, self.archived)
+
+
+class Last(NamedTuple):
+    """The count of this host's file, and the states up to it."""
+
+    messages: int
+    past: Past
 
 
 def counted(each: list[object]) -> Count:
     """One row of a record."""
-    messages, roster, base = each
-    if isinstance(messages, int) and isinstance(roster, str) and isinstance(base, str):
-        return Count(messages, roster, base)
+    messages, roster, base, *more = each
+    archived = more[0] if len(more) == 1 else 0
+    are_numbers = isinstance(messages, int) and isinstance(archived, int) and len(more) < 2
+    if are_numbers and isinstance(roster, str) and isinstance(base, str):
+        return Count(messages, roster, base, archived)  # type: ignore[arg-type]
     raise ValueError(f"no count: {each!r}")
+
+
+def row_of(it: Count) -> list[object]:
+    """The same, as a record has it: where nothing was cut, as a program of before reads it."""
+    return [*it] if it.archived else [*it[:3]]
 
 
 class Record:
@@ -106,7 +137,7 @@ class Record:
 
     def how(self, state: Optional[State] = None) -> str:
         """The command by which an administrator says what holds."""
-        return " ".join(("desk-host accept", self.host, *(state or ("ROSTER", "BASE"))))
+        return " ".join(("desk-host accept", self.host, *(state[:2] if state else HOLD)))
 
     @property
     def past(self) -> list[State]:
@@ -116,12 +147,23 @@ class Record:
     def last(self) -> Optional[Count]:
         return self.known[-1] if self.known else None
 
+    @property
+    def sure(self) -> Optional[Last]:
+        """The last, where nothing was ever taken out of a store: else of the same roster and base
+        there may be a desk that was cut, and one that came back from an older backup."""
+        if self.last is None or any(it.archived for it in self.known):
+            return None
+        return Last(self.last.messages, self.past)
+
     def keep(self, messages: int, past: Past) -> None:
-        """Writes down what is installed next. One of the last's state leaves what is known of the
-        time before."""
+        """Writes down what is installed next. One of the last's roster and base leaves what is
+        known of the time before."""
+        last = self.last.state if self.last else None
         known = self.known[:-1]
-        if self.last is None or past[-1] != self.last.state:
+        if last is None or not last.is_as_named(past[-1]):
             known = [Count(0, *it) for it in past[:-1]]
+        elif last != past[-1]:
+            known = self.known
         self.write([*known, Count(messages, *past[-1])])
 
     def accept(self, state: State) -> None:
@@ -132,5 +174,6 @@ class Record:
     def write(self, known: list[Count]) -> None:
         known = known[-KNOWN:]
         if known != self.known:
-            write_state(self.path, json.dumps({"installed": known}) + "\n")
+            rows = [row_of(it) for it in known]
+            write_state(self.path, json.dumps({"installed": rows}) + "\n")
             self.known = known

@@ -16,6 +16,10 @@ class Fault(Exception):
         self.status = status
 
 
+class Unsigned(Fault):
+    """Why an answer is not that of a door whose key this host has: somebody has to look."""
+
+
 class Unclear(Exception):
     """Why sudo cannot be asked about a session, by what its user chose or did."""
 

@@ -12,12 +12,13 @@ from steelnewt_host.answers import Answer, an_hour_ago, answer_of, newest
 from steelnewt_host.asking import compare_clocks, side_by_side
 from steelnewt_host.changes import tell_change
 from steelnewt_host.counts import Order, Record, State, orders
-from steelnewt_host.faults import REFUSED, Fault
+from steelnewt_host.faults import REFUSED, Fault, Unsigned
 from steelnewt_host.lawful import HOST
 from steelnewt_host.noted import Notes
 from steelnewt_host.place import Place, Trial, install
 from steelnewt_host.settings import CONF, Settings
-from steelnewt_host.silence import end_grants, heard, silence
+from steelnewt_host.signed import check_keys
+from steelnewt_host.silence import HOUR, end_grants, heard, silence
 from steelnewt_host.state import keep_spares, locked, state_folder
 from steelnewt_host.sudo import fit_sudo
 from steelnewt_host.telling import say
@@ -41,7 +42,9 @@ def behind(record: Record, it: Answer) -> Optional[str]:
             return f"it has a {what} that this host has left (sha256 {there})"
     if it.is_as_new(record.past, 0) and not it.is_as_new(record.past, record.last.messages):
         most = record.last.messages
-        return f"it holds {it.messages} messages, and this host's file is made of {most}"
+        out = it.state.archived
+        held = f"{it.messages - out} messages" + (f" and archived {out}" if out else "")
+        return f"it holds {held}, and this host's file is made of {most}"
     return None
 
 
@@ -109,7 +112,8 @@ def choice(run: Fetch, answers: list[Answer]) -> Optional[Answer]:
     held, last = run.place.read(), run.record.last
     if held is None or last is None:
         return None
-    own = [it for it in answers if it.state == last.state and held.text.startswith(it.base)]
+    alike = [it for it in answers if it.state.is_as_named(last.state)]
+    own = [it for it in alike if held.text.startswith(it.base)]
     less = [it for it in own if it.is_within(it.base, held.text[len(it.base) :])]
     return max(less, key=messages_of) if less else None
 
@@ -156,12 +160,17 @@ def take_newest(run: Fetch, answers: list[Answer], silent: list[str]) -> bool:
 def ask_all(run: Fetch) -> bool:
     """Asks all desks, and takes the newest sound answer: whether there is one."""
     desks, moment = tuple(dict.fromkeys(run.settings.desks)), an_hour_ago()
+    age = silence(run.settings, run.place.read())
+    last = None if age is None or age > HOUR else run.record.sure
     found = side_by_side(
-        desks, lambda desk: answer_of(run.settings, desk, run.record.host, run.record, moment)
+        desks, lambda desk: answer_of(run.settings, desk, run.record.host, last, moment)
     )
     answers, silent = [], []
     for desk, told in found.items():
-        if isinstance(told, Fault):
+        if isinstance(told, Unsigned):
+            run.refused.append(f"{desk}: {told}")
+            silent.append(desk)
+        elif isinstance(told, Fault):
             say(f"{desk}: {told}")
             silent.append(desk)
         else:
@@ -188,6 +197,7 @@ def check_words(settings: Settings, host: str) -> None:
             raise Fault(f"cannot read the {what} {path}; the old file stays")
     if not settings.desks:
         raise Fault(f"no desk is named: DESKS in {CONF}")
+    check_keys(settings)
 
 
 def fetch(settings: Settings, host: str) -> int:
@@ -221,7 +231,7 @@ def accept(settings: Settings, host: str, state: State) -> int:
     whatever a desk says."""
     if not re.fullmatch(HOST, host):
         raise Fault(f"{host} is no host's name")
-    for it in state:
+    for it in state[:2]:
         if not re.fullmatch("[0-9a-f]{64}", it):
             raise Fault(f"{it} is no SHA-256: sha256sum ROSTER, and desk check BASE | sha256sum")
     state_folder(settings.state)

@@ -106,9 +106,10 @@ def begin(given: argparse.Namespace, made: argparse.ArgumentParser) -> int:
 
         return end_sessions(settings)
     if given.part == "accept":
+        from steelnewt_host.counts import State
         from steelnewt_host.fetching import accept
 
-        return accept(settings, given.host, (given.roster, given.base))
+        return accept(settings, given.host, State(given.roster, given.base))
     if given.part in ("starting", "end-at"):
         from steelnewt_host import ends
 

@@ -31,6 +31,9 @@ class Settings(NamedTuple):
     sessions: str = "end"
     grace: int = 60
     unjudged: str = "end"
+    signed: str = "no"
+    site: str = ""
+    file_keys: tuple[str, ...] = ()
     run: str = RUN  # what is gone with the machine's next start: sudo's plugin knows no other
 
 
@@ -83,6 +86,9 @@ def settings_of(conf: dict[str, str]) -> Settings:
         sessions=one_of(conf, "SESSIONS", WHAT_TO_DO, plain.sessions),
         grace=number("GRACE", conf.get("GRACE") or str(plain.grace)),
         unjudged=one_of(conf, "UNJUDGED", WHAT_TO_DO, plain.unjudged),
+        signed=one_of(conf, "SIGNED", ("yes", "no"), plain.signed),
+        site=conf.get("SITE", ""),
+        file_keys=tuple(conf.get("FILE_KEYS", "").split()),
     )
 
 

@@ -7,6 +7,7 @@ import os
 import re
 import shutil
 import subprocess
+from typing import Optional
 
 from steelnewt_host.faults import UNFIT, Fault
 from steelnewt_host.settings import PATH
@@ -29,8 +30,12 @@ def run(*words: str, patience: int = 60) -> subprocess.CompletedProcess[str]:
     )
 
 
+def found_program(name: str) -> Optional[str]:
+    return shutil.which(name, path=PATH)
+
+
 def program(name: str) -> str:
-    path = shutil.which(name, path=PATH)
+    path = found_program(name)
     if path is None:
         raise Fault(f"this host has no {name}: install Debian's package sudo", UNFIT)
     return path

@@ -21,6 +21,7 @@ from steelnewt_host.finding import CRITICAL, WARNING, Finding
 from steelnewt_host.lawful import HOST
 from steelnewt_host.noted import Notes, is_of_another_start
 from steelnewt_host.settings import Settings
+from steelnewt_host.signed import check_keys
 from steelnewt_host.state import SPARES, read_some, spares, write_state
 from steelnewt_host.sudo import program, run
 from steelnewt_host.timers import has_systemd
@@ -55,6 +56,14 @@ def wrong_certificate(settings: Settings) -> Iterator[Finding]:
     day = time.strftime("%Y-%m-%d", time.gmtime(end))
     level = CRITICAL if end - time.time() < ENDED else WARNING
     yield Finding(level, f"{settings.cert} ends on {day}: no file comes then")
+
+
+def wrong_keys(settings: Settings) -> Iterator[Finding]:
+    """Whether this host can judge what a door signs."""
+    try:
+        check_keys(settings)
+    except Fault as why:
+        yield Finding(CRITICAL, str(why))
 
 
 def own_host(settings: Settings) -> Optional[str]:

@@ -13,7 +13,6 @@ from steelnewt_relay.admission import faults
 from steelnewt_relay.moments import BadTime, in_units, length_of, moment_of
 from steelnewt_relay.outbox import Kept
 from steelnewt_relay.reasons import Reason
-from steelnewt_relay.standing import State
 from steelnewt_relay.visit import Visit
 from steelnewt_relay.words import BadWords, split, unescaped, window_of
 
@@ -163,7 +162,7 @@ def show_same() -> str:
     visit: Visit = flask.g.visit
     kept = asked_before(visit)
     words, standing = words_of(kept), visit.knowledge().standing(kept)
-    if standing.state is State.IN_FORCE and standing.grant:
+    if standing.is_in_force and standing.grant:
         words["begins"] = f"{standing.grant.ends.astimezone(visit.zone):%Y-%m-%d %H:%M:%S}"
     return show_form(visit, words, None)
 

@@ -9,6 +9,7 @@ import sys
 from datetime import tzinfo
 from typing import TextIO
 
+from steelnewt_client.desk import ANSWERS_IN
 from steelnewt_client.moments import now
 from steelnewt_relay import telling
 from steelnewt_relay.caller import Caller, Gone, is_allowed
@@ -16,10 +17,13 @@ from steelnewt_relay.config import Config
 from steelnewt_relay.moments import zone_of
 from steelnewt_relay.outbox import Outbox
 from steelnewt_relay.standing import Knowledge
+from steelnewt_relay.ways import by_ssh
 
 DONE, NOT_SENT, REFUSED, KEPT = 0, 1, 2, 3
 MOST_TYPED = 1_000  # characters of an answer
 YES = ("y", "yes")
+# Words whose answer is the desk's alone: there is nothing else to show.
+PATIENT = ("live", "review")
 
 
 class Late(Exception):
@@ -46,9 +50,11 @@ class Call:
         self.config, self.caller = config, caller
         self.person, self.said = caller.person, said
         self.outbox: Outbox = config.open_outbox()
+        self.outbox.way = by_ssh(caller.key)
         own = self.outbox.own.zone(self.person, config.zone)
         self.zone: tzinfo = zone_of(said.zone) if said.zone else own
-        self.desk = config.open_desk()
+        is_patient = said.command in PATIENT or getattr(said, "all", False)
+        self.desk = config.open_desk(ANSWERS_IN if is_patient else config.patience)
         self.roster, self.auditors = config.read_roster(), config.auditors
         self.demand = config.demand
         self.program = "mydesk" if config.is_signed else "ssh desk"

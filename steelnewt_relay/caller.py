@@ -54,6 +54,11 @@ class Keyed:
     digest: str
     files: Files
 
+    @property
+    def key(self) -> str:
+        """What names the key, for whoever looks later at what came by it."""
+        return self.digest
+
     def check(self) -> None:
         """Raises where the key lets this person call no longer."""
         found = self.holder()
@@ -77,6 +82,12 @@ class Certified:
     person: str
     certificate: Certificate
     files: Files
+
+    @property
+    def key(self) -> str:
+        """What names the certificate, for whoever looks later at what came by it."""
+        told = self.certificate
+        return f"certificate {told.serial} of {told.authority}, key {told.digest}"
 
     def check(self) -> None:
         """Raises where the certificate lets this person call no longer."""

@@ -12,8 +12,8 @@ INNER = ("complete", "prepare", "send", "overview")
 OPTIONS = {
     "ask": "--on --as --for --until --from --why --ticket --once --anyway --no-wait --yes --json",
     "again": "--for --until --from --why --ticket --anyway --no-wait --yes --json",
-    "mine": "-l --all --json", "waiting": "-l --json", "history": "-l --all --who --on --json",
-    "live": "--at --json",
+    "mine": "-l --all --page --json", "waiting": "-l --json",
+    "history": "-l --all --who --on --page --json", "live": "--at --json",
 } | {it: "--why --anyway --again --yes --json" for it in VERDICTS}  # fmt: skip
 
 
@@ -47,10 +47,13 @@ def candidates(call: Call, before: list[str], last: str) -> list[str]:
 
 def names_for(call: Call, first: str, given: list[str], at: str) -> list[str]:
     """Whose requests are open, or the numbers of one person's."""
-    found = [it.request for it in call.outbox.requests_until(at) if it.state != "refused"]
-    mine = [str(it.no) for it in found if it.by == call.person]
     if first in ("again", "extend", "withdraw", "save"):
-        return mine
+        return numbers_of(call, call.person, at)
     if first in (*VERDICTS, "show", "let", "wait") and not given:
-        return [it.by for it in found]
-    return [str(it.no) for it in found if given and it.by == given[0]]
+        found = call.outbox.lists.open(at, call.outbox.share.open)
+        return [it.request.by for it in found]
+    return numbers_of(call, given[0], at) if given else []
+
+
+def numbers_of(call: Call, person: str, at: str) -> list[str]:
+    return [str(it.request.no) for it in call.outbox.lists.open_of(person, at)]

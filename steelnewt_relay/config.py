@@ -6,20 +6,25 @@ import tomllib
 from dataclasses import dataclass
 from datetime import tzinfo
 
-from steelnewt_client.desk import BadAddress, Desk, Place
+from steelnewt_client.desk import ANSWERS_IN, AnyDesk, BadAddress, Desk, Place
 from steelnewt_client.names import is_label
 from steelnewt_client.signed import SITE
 from steelnewt_relay.caller import Files
+from steelnewt_relay.desks import Desks
 from steelnewt_relay.moments import zone_of
 from steelnewt_relay.outbox import Outbox
 from steelnewt_relay.reasons import Demand, demand_of
 from steelnewt_relay.roster import Roster
+from steelnewt_relay.shares import Share, share_of
 
-KEYS = {"desk", "relay", "roster", "outbox", "zone", "numbers", "auditors"}
+KEYS = {"desk", "desks", "patience", "relay", "roster", "outbox", "zone", "numbers", "auditors"}
 KEYS |= {"tls", "page", "why", "notify", "ssh", "signing"}
+KEYS |= {"share", "days"}
+MOST_DAYS = 36_500
 SIGNING_KEYS = {"site", "required"}
-NOTIFY_KEYS = {"program", "seconds", "link", "first", "minutes"}
+NOTIFY_KEYS = {"program", "seconds", "link", "first", "minutes", "urgent"}
 MOST_MINUTES = 1440  # for which the people who are told first are the only ones
+MOST_PATIENCE = 20  # seconds for which people wait for a desk
 MOST_SECONDS = 600  # that a program may take to tell: the unit's stop waits longer
 PAGE_KEYS = {"listen", "secret", "signing_key"}
 TLS_KEYS = {"certificate", "key", "ca", "reader_certificate", "reader_key"}
@@ -39,14 +44,15 @@ class BadConfig(ValueError):
 
 @dataclass(frozen=True)
 class Notify:
-    """What is run for each event, for how long at most, where the page is, and which duty is told
-    first, how many minutes before the others."""
+    """What is run for each event, for how long at most, where the page is, which duty is told
+    first, how many minutes before the others, and the ceilings and people that are urgent."""
 
     program: list[str]
     seconds: float
     link: str
     first: str
     minutes: int
+    urgent: tuple[str, ...] = ()
 
 
 def notify_of(table: dict[str, object]) -> Notify:
@@ -67,7 +73,11 @@ def notify_of(table: dict[str, object]) -> Notify:
         raise ValueError("[notify] first is a duty, such as on-call")
     if not isinstance(minutes, int) or not 1 <= minutes <= MOST_MINUTES:
         raise ValueError(f"[notify] minutes is a number from 1 to {MOST_MINUTES}")
-    return Notify(words, seconds, link, first, minutes)
+    urgent = table.get("urgent", [])
+    names = [it for it in urgent if isinstance(it, str)] if isinstance(urgent, list) else []
+    if names != urgent:
+        raise ValueError('[notify] urgent is a list of ceilings and people, as ["break-glass"]')
+    return Notify(words, seconds, link, first, minutes, tuple(names))
 
 
 @dataclass(frozen=True)
@@ -93,7 +103,7 @@ def signing_of(table: object) -> Signing:
 
 @dataclass(frozen=True)
 class Config:
-    desk: str
+    desks: tuple[str, ...]
     relay: str
     roster: str
     outbox: str
@@ -106,18 +116,24 @@ class Config:
     demand: Demand
     notify: Notify | None
     signing: Signing | None = None
+    share: Share = Share()
+    days: int = 400
+    patience: float = 2.0
 
     def open_outbox(self) -> Outbox:
-        return Outbox(self.outbox, self.numbers, self.signing is not None)
+        return Outbox(self.outbox, self.numbers, self.signing is not None, self.share)
 
     @property
     def is_signed(self) -> bool:
         """Whether nothing unsigned is sent from here."""
         return self.signing is not None and self.signing.required
 
-    def open_desk(self) -> Desk:
+    def open_desk(self, asks_for: float = ANSWERS_IN) -> AnyDesk:
+        """The desk, or several that are asked as one. A question takes so many seconds at most."""
         own, reader = self.pair("certificate", "key"), self.pair("reader_certificate", "reader_key")
-        return Desk(self.desk, self.relay, own, self.tls.get("ca"), reader)
+        ca = self.tls.get("ca")
+        found = [Desk(it, self.relay, own, ca, reader, ANSWERS_IN, asks_for) for it in self.desks]
+        return found[0] if len(found) == 1 else Desks(found)
 
     def pair(self, certificate: str, key: str) -> tuple[str, str] | None:
         """A certificate and its key; neither has a meaning without the other."""
@@ -154,6 +170,13 @@ class Config:
         return secret, signing
 
 
+def days_of(given: object) -> int:
+    """For how many days what is over stays in the outbox: as long at least as a window may be."""
+    if not isinstance(given, int) or isinstance(given, bool) or not 31 <= given <= MOST_DAYS:
+        raise ValueError(f"days is a number from 31 to {MOST_DAYS}")
+    return given
+
+
 def key_of(path: str) -> str:
     """A key from its file, which its owner and their group alone may read or write."""
     try:
@@ -183,6 +206,30 @@ def check_address(text: str, ca: str | None) -> None:
         raise BadConfig(f"desk = {text!r}: name the authority of its front, [tls] ca")
 
 
+def desks_of(found: dict[str, object], ca: str | None) -> tuple[str, ...]:
+    """The addresses of the desk, or of several."""
+    if ("desk" in found) == ("desks" in found):
+        raise BadConfig('name the desk, desk = "..", or several, desks = ["..", ..]: one of both')
+    listed = [found["desk"]] if "desk" in found else found["desks"]
+    if not isinstance(listed, list) or not listed:
+        raise BadConfig('desks is a list of addresses, ["https://desk-a.example", ..]')
+    texts = [str(it) for it in listed]
+    for text in texts:
+        check_address(text, ca)
+    names = [Desk(it).label for it in texts]
+    if twice := [it for it in names if names.count(it) > 1]:
+        raise BadConfig(f"desks names {twice[0]} twice")
+    return tuple(texts)
+
+
+def patience_of(found: dict[str, object]) -> float:
+    """For how many seconds the desk is asked, before people are shown what is kept here."""
+    patience = found.get("patience", Config.patience)
+    if not isinstance(patience, int | float) or not 0.1 <= patience <= MOST_PATIENCE:
+        raise BadConfig(f"patience is a number of seconds, up to {MOST_PATIENCE}")
+    return patience
+
+
 def read_config(path: str) -> Config:
     try:
         with open(path, "rb") as file:
@@ -194,10 +241,10 @@ def read_config(path: str) -> Config:
             raise BadConfig(f"{path}: no setting is named {', '.join(sorted(unknown))}")
         if not all(isinstance(it, str) for it in (*page.values(), *tls.values(), *ssh.values())):
             raise BadConfig(f"{path}: a setting of [page], [ssh] or [tls] is no text in quotes")
-        check_address(found["desk"], tls.get("ca"))
         first, last = found.get("numbers", [1, 999_999_999])
         return Config(
-            desk=found["desk"],
+            desks=desks_of(found, tls.get("ca")),
+            patience=patience_of(found),
             relay=found["relay"],
             roster=found["roster"],
             outbox=found["outbox"],
@@ -210,6 +257,8 @@ def read_config(path: str) -> Config:
             demand=demand_of(found.get("why", {})),
             notify=notify_of(found["notify"]) if "notify" in found else None,
             signing=signing_of(found["signing"]) if "signing" in found else None,
+            share=share_of(found.get("share", {})),
+            days=days_of(found.get("days", 400)),
         )
     except KeyError as fault:
         raise BadConfig(f"{path}: the setting {fault} is missing") from None

@@ -20,7 +20,7 @@ from steelnewt_relay.outbox import Kept
 from steelnewt_relay.posting import post_one
 from steelnewt_relay.reasons import Reason
 from steelnewt_relay.signing import SIGN
-from steelnewt_relay.standing import Knowledge, Standing, State
+from steelnewt_relay.standing import Knowledge, Standing
 from steelnewt_relay.verdicts import full_event
 from steelnewt_relay.visit import MOST_CARDS, Visit
 from steelnewt_relay.words import window_of
@@ -53,12 +53,12 @@ class Asked:
 def show_request(by: str, no: int) -> str | tuple[str, int]:
     """A request's own page: how it stands, who did what, and what its reader may do."""
     visit: Visit = flask.g.visit
-    kept = visit.outbox.request(checked("person", by), no)
+    knowledge = visit.knowledge()
+    kept = knowledge.request(checked("person", by), no)
     if kept is None:
         return flask.render_template(
             "wrong.html", text=unknown(visit, by, no), person=visit.person, is_sent=False
         ), 404
-    knowledge = visit.knowledge()
     standing = knowledge.standing(kept)
     return flask.render_template(
         "request.html",
@@ -67,6 +67,7 @@ def show_request(by: str, no: int) -> str | tuple[str, int]:
         notices=notices(visit, knowledge),
         is_told="told" in flask.request.args,
         standing=standing,
+        trouble=knowledge.trouble,
         moments=heads.moments(standing),
         left=heads.time_left(standing, visit.now),
         ceiling=visit.roster.ceilings.get(kept.request.wish.ceiling),
@@ -87,23 +88,15 @@ def unknown(visit: Visit, by: str, no: int) -> str:
 
 def open_of(visit: Visit, by: str) -> list[int]:
     """The numbers of a person's last requests that are open."""
-    left = [it.request for it in visit.knowledge().open() if it.request.by == by]
-    return [it.no for it in left[-MOST_CARDS:]]
-
-
-def is_open(standing: Standing) -> bool:
-    return standing.state in heads.OPEN
+    found = visit.outbox.lists.open_of(by, stamp(visit.now))
+    return [it.request.no for it in found[-MOST_CARDS:]]
 
 
 def may_approve(visit: Visit, standing: Standing) -> bool:
-    """Whether a person's approval is still of use."""
-    request = standing.request
-    about = visit.person, request.by, request.wish.ceiling, visit.now
-    return (
-        is_open(standing)
-        and visit.roster.may_approve(*about)
-        and not standing.is_approved_by(visit.person)
-    )
+    """Whether a person's approval is of use by the desk, as far as that is known."""
+    may = standing.may_approve
+    is_named = standing.request.by != visit.person if may is None else visit.person in may
+    return standing.is_open and is_named and not standing.is_approved_by(visit.person)
 
 
 def kinds_for(visit: Visit, standing: Standing) -> tuple[str, ...]:
@@ -113,28 +106,31 @@ def kinds_for(visit: Visit, standing: Standing) -> tuple[str, ...]:
     if request.by == visit.person:
         return own_kinds(standing)
     if may_approve(visit, standing):
-        return kinds_waiting(visit, standing)[1:]
-    is_granted = standing.state in (State.IN_FORCE, State.COMING)
-    return ("revoke",) if is_granted and visit.roster.may_revoke(*about) else ()
+        return tuple(it for it in kinds_waiting(visit, standing) if it != "approve")
+    return ("revoke",) if standing.is_granted and visit.roster.may_revoke(*about) else ()
 
 
 def kinds_waiting(visit: Visit, standing: Standing) -> tuple[str, ...]:
     """The buttons of a request for whoever may approve it. Where much of its time went by, they may
     have its asker told that they would approve all of it."""
+    if standing.is_elsewhere:
+        return ("refuse",)
     is_let = heads.is_short(standing, visit.now) and visit.config.notify is not None
     return ("approve", "refuse", "let") if is_let else ("approve", "refuse")
 
 
 def own_kinds(standing: Standing) -> tuple[str, ...]:
     """The buttons of a request for whoever asked."""
-    if standing.state in (State.IN_FORCE, State.COMING):
-        return "revoke", "again"
-    return (WITHDRAW, "again") if standing.state is State.WAITING else ("again",)
+    # (the words of one that another relay brought are not here to be asked for again)
+    again = () if standing.is_elsewhere else ("again",)
+    if standing.is_granted:
+        return "revoke", *again
+    return (WITHDRAW, *again) if standing.is_open and standing.status else again
 
 
 def approval_token(visit: Visit, standing: Standing) -> str:
     """What an approver sends from the request's own page, which shows it whole."""
-    if not may_approve(visit, standing):
+    if standing.is_elsewhere or not may_approve(visit, standing):
         return ""
     return verdict_token(visit, "approve", [(standing.request.by, standing.request.no)], True)
 
@@ -147,9 +143,9 @@ def verdict_token(visit: Visit, kind: str, names: list[Name], is_back: bool = Fa
 def again_token(visit: Visit, standing: Standing) -> str:
     """What whoever asked sends from the request's own page to ask for the same from now on, where
     that can be granted and little or nothing of the old one is left."""
-    request, left = standing.request, (*heads.OPEN, State.IN_FORCE, State.COMING)
-    is_whole = standing.state in left and not heads.is_short(standing, visit.now)
-    if request.by != visit.person or is_whole:
+    request, is_left = standing.request, standing.is_open or standing.is_granted
+    is_whole = is_left and not heads.is_short(standing, visit.now)
+    if request.by != visit.person or standing.is_elsewhere or is_whole:
         return ""
     length = f"{int(as_asked(request.wish.length()).total_seconds())}s"
     window = window_of("now", length, None, visit.zone, visit.now)
@@ -206,7 +202,7 @@ def asked_of(
     visit: Visit, knowledge: Knowledge, kind: str, name: Name, unseen: list[str]
 ) -> Asked | None:
     """A request that a verdict is about. Nobody approves what is not shown here."""
-    kept = visit.outbox.request(*name)
+    kept = knowledge.request(*name)
     if kept is None:
         unseen.append(telling.unseen(kind, *name, open_of(visit, name[0])))
         return None
@@ -221,7 +217,7 @@ def is_withdrawal(visit: Visit, kind: str, shown: list[Asked]) -> bool:
     return (
         kind == "revoke"
         and bool(shown)
-        and all(it.name[0] == visit.person and is_open(it.standing) for it in shown)
+        and all(it.name[0] == visit.person and it.standing.is_open for it in shown)
     )
 
 
@@ -243,7 +239,8 @@ def letable(visit: Visit, of: str, no: int) -> Kept:
     kept = visit.outbox.request(of, no)
     if kept is None:
         raise BadWord(unknown(visit, of, no))
-    if why := visit.roster.bar("approve", visit.person, of, kept.request.wish.ceiling, visit.now):
+    knowledge = visit.knowledge()
+    if why := knowledge.bar_now(knowledge.standing(kept), "approve", visit.person):
         raise BadWord(telling.warning("approve", why).rstrip("."))
     if visit.config.notify is None:
         raise BadWord(f"nobody is told anything here: write to {of} yourself")
@@ -296,7 +293,7 @@ def keep(visit: Visit, said: dict[str, Any], why: str = "") -> list[Kept]:
         return keep_verdicts(visit, said, why)
     words = {name: tuple(it) if isinstance(it, list) else it for name, it in said["wish"].items()}
     wish, once, reason = Wish(**words).as_of(visit.now), said["once"], reason_in(said)
-    hear(visit.outbox, visit.desk)
+    hear(visit.outbox, visit.config, visit.desk, visit.person)
     return [visit.outbox.keep_request(visit.person, wish, stamp(visit.now), once, once, reason)]
 
 
@@ -330,11 +327,10 @@ def notices(visit: Visit, knowledge: Knowledge) -> list[Notice]:
 def told(visit: Visit, knowledge: Knowledge, kept: Kept) -> Notice:
     if isinstance(kept.message, Verdict):
         verdict = kept.verdict
-        request = visit.outbox.request(verdict.of, verdict.no)
+        request = knowledge.request(verdict.of, verdict.no)
         standing = knowledge.standing(request) if request else None
         barred = standing.bar_of(verdict) if standing else ""
-        is_idle = bool(standing and not barred and knowledge.changes_nothing(standing, verdict))
-        text = telling.verdict_fate(verdict.kind, kept.state, kept.answer, barred, is_idle)
+        text = telling.verdict_fate(kept, barred)
         # (what the desk has not got yet changes nothing of the request so far)
         if standing and kept.state == "acked":
             on_hosts = telling.on_hosts(verdict.kind, standing)
@@ -345,4 +341,4 @@ def told(visit: Visit, knowledge: Knowledge, kept: Kept) -> Notice:
 
 
 def fate(visit: Visit, standing: Standing) -> str:
-    return telling.fate(standing, visit.zone, visit.roster, visit.now)
+    return telling.fate(standing, visit.zone)

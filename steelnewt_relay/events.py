@@ -11,10 +11,11 @@ from steelnewt_client.moments import stamp
 from steelnewt_client.told import Grant
 from steelnewt_relay import telling
 from steelnewt_relay.config import Config
+from steelnewt_relay.fates import ARCHIVED, UNKNOWN
 from steelnewt_relay.letters import plain
 from steelnewt_relay.moments import shown
 from steelnewt_relay.outbox import Kept
-from steelnewt_relay.standing import Knowledge, Said, Standing, State, name_of
+from steelnewt_relay.standing import Knowledge, Said, Standing, name_of
 from steelnewt_relay.summary import headline
 from steelnewt_relay.woken import CALLS, ENDS, Woken
 
@@ -34,13 +35,15 @@ class Event:
 @dataclass(frozen=True)
 class Manner:
     """How people are told: in which zone, where the page is, what they type, which duty is told
-    first, and how long the others sleep on (nothing: all are told at once)."""
+    first, how long the others sleep on (nothing: all are told at once), and the ceilings and people
+    whose events go before all others."""
 
     zone: tzinfo = UTC
     link: str = ""
     program: str = "ssh desk"
     first: str = ""
     patience: timedelta = timedelta(minutes=10)
+    urgent: tuple[str, ...] = ()
 
     @staticmethod
     def of(config: Config) -> "Manner":
@@ -49,7 +52,7 @@ class Manner:
         if (told := config.notify) is None:
             return Manner(config.zone, "", program)
         patience = timedelta(minutes=told.minutes)
-        return Manner(config.zone, told.link, program, told.first, patience)
+        return Manner(config.zone, told.link, program, told.first, patience, told.urgent)
 
 
 class Finder:
@@ -78,7 +81,7 @@ class Finder:
 
     def of_verdict(self, kept: Kept, verdict: Verdict) -> Iterator[Event]:
         """What a verdict came to. Nobody hears one thing twice: the approval that is the last one
-        needed is told as the grant, and one that changes nothing is not told."""
+        needed is told as the grant, and a grant is told once, whoever approves it as well."""
         request = self.request_of(kept)
         standing = self.standing(request) if request else None
         did = did_of(kept, verdict, standing)
@@ -88,15 +91,14 @@ class Finder:
         elif not (request and standing and standing.grant and verdict.kind == "approve"):
             yield self.event(kind, kept, standing, f"{did}.")
         else:
-            if not self.knowledge.changes_nothing(standing, verdict):
-                said = f"{did}: it is granted."
-                yield self.event("granted", request, standing, said, verdict.by)
+            said = f"{did}: it is granted."
+            yield self.event("granted", request, standing, said, verdict.by)
             yield Event(kind, kept.id, {})
 
     def standing(self, kept: Kept) -> Standing:
         """What became of a request. `Silent` while the desk does not answer."""
         found = self.knowledge.standing(kept)
-        if found.state is State.UNKNOWN:
+        if found.state == UNKNOWN and self.knowledge.trouble:
             raise Silent(self.knowledge.trouble)
         return found
 
@@ -127,15 +129,29 @@ class Finder:
         when = f"{standing.name} ends at {shown(grant.ends, zone)}."
         return self.event("ends-soon", kept, standing, when)
 
+    def of_elsewhere(self, kept: Kept) -> Event:
+        """What another relay brought in somebody's name: they are told, and may not have said it."""
+        if is_verdict(kept):
+            verdict = kept.verdict
+            request = self.knowledge.request(verdict.of, verdict.no)
+            standing = self.standing(request) if request else None
+            did = did_of(kept, verdict, standing)
+        else:
+            standing = self.standing(kept)
+            did = f"{standing.request.by} asked for {standing.name}"
+        said = f"{did}, {telling.ELSEWHERE}."
+        return self.event("elsewhere", kept, standing, said)
+
     def of_past(self, kept: Kept) -> Event | None:
         """What a request came to whose window is over. A refused or revoked request gives no event:
-        the refusal or revocation itself was told before."""
+        the refusal or revocation itself was told before. Nor does one of which the desk does not say
+        any more what it came to."""
         standing = self.standing(kept)
         if standing.grant:
             return self.event("granted", kept, standing, f"{standing.name} was granted.")
-        if standing.state is State.LAPSED:
-            return self.event("void", kept, standing, f"{standing.name} was not granted in time.")
-        return None
+        if standing.objections() or standing.state == ARCHIVED:
+            return None
+        return self.event("void", kept, standing, f"{standing.name} was not granted.")
 
     def event(
         self, kind: str, kept: Kept, standing: Standing | None, said: str, by: str = ""
@@ -145,6 +161,8 @@ class Finder:
         who, no = (kept.verdict.of, kept.verdict.no) if is_verdict(kept) else name_of(kept.request)
         data: dict[str, object] = {"event": kind, "at": stamp(self.knowledge.now), "by": by}
         data |= {"who": who, "no": no, "thread": f"{who}-{no}", "said": said, "subject": said}
+        about = {by, who, standing.request.wish.ceiling if standing else ""}
+        data["urgent"] = bool(about & set(self.manner.urgent))
         data |= {"approvers": [], "verdict_why": kept.reason.why if is_verdict(kept) else None}
         # (whoever gives a verdict may name anybody, and a mail goes to that name at the site)
         people = self.knowledge.roster.people
@@ -156,7 +174,7 @@ class Finder:
             data["approvers"] = self.approvers(standing)
             data["subject"] = headline(who, wish, standing.kept.reason)
             lines = telling.kept_lines(standing.kept, self.zone_for(to))
-            told += [*telling.rows(lines), self.fate(standing, self.zone_for(to))]
+            told += [*telling.rows(lines), telling.fate(standing, self.zone_for(to))]
             told += self.next_step(kind, standing, to)
         data["link"] = link = self.link(who, no) if standing else self.manner.link
         data["text"] = "\n".join([*told, *([link] if link else [])])
@@ -184,17 +202,9 @@ class Finder:
         zones = {str(it): it for it in (self.own.zone(name, self.manner.zone) for name in to)}
         return next(iter(zones.values())) if len(zones) == 1 else self.manner.zone
 
-    def fate(self, standing: Standing, zone: tzinfo) -> str:
-        knowledge = self.knowledge
-        return telling.fate(standing, zone, knowledge.roster, knowledge.now)
-
     def approvers(self, standing: Standing) -> list[str]:
-        """Who may approve it now and did not, while that could matter."""
-        if standing.state is not State.WAITING:
-            return []
-        request, knowledge = standing.request, self.knowledge
-        may = knowledge.roster.approvers(request.by, request.wish.ceiling, knowledge.now)
-        return [it for it in may if not standing.is_approved_by(it)]
+        """Who may approve it now by the desk and did not."""
+        return [it for it in standing.may_approve or () if not standing.is_approved_by(it)]
 
     def awake(self, people: list[str]) -> list[str]:
         """The people who are not away, or everybody if all of them are."""
@@ -204,6 +214,8 @@ class Finder:
     def called(self, kind: str, standing: Standing) -> list[str]:
         """Whom a request wakes: first whoever holds the duty that is told first, then the rest."""
         approvers, roster, now = self.approvers(standing), self.knowledge.roster, self.knowledge.now
+        if standing.is_revoked:
+            return []
         if kind == "asked-next":
             told = {name for name, _ in self.woken.calls(standing.kept.id)}
             rest = [it for it in approvers if it not in told]
@@ -217,11 +229,10 @@ class Finder:
         just now."""
         if kind in CALLS:
             return self.called(kind, standing) if standing else []
-        if kind == "uncounted":
+        if kind in ("uncounted", "elsewhere"):
             return sorted({by, who})
         # (what is in force already may not be marked in the outbox yet)
-        said = [it for it in standing.said if not it.barred] if standing else []
-        given = {it.verdict.by for it in said if it.verdict.kind == "approve"}
+        given = {it.verdict.by for it in standing.approvals()} if standing else set[str]()
         left = self.woken.left(standing) if standing and kind in ENDS else set()
         if kind == "granted":
             return sorted((given | left) - {by} | {who})
@@ -240,7 +251,8 @@ def did_of(kept: Kept, verdict: Verdict, standing: Standing | None) -> str:
 
 
 COPIED = (
-    "ceiling", "hosts", "runas", "commands", "from", "until", "why", "ticket", "state", "grant",
+    "ceiling", "hosts", "runas", "commands", "from", "until", "why", "ticket", "status", "state",
+    "window", "denial", "lacks", "may_approve", "elsewhere",
 )  # fmt: skip
 
 

@@ -7,19 +7,18 @@ from datetime import UTC, datetime, timedelta, tzinfo
 
 from steelnewt_client.messages import Wish
 from steelnewt_client.moments import of_stamp, stamp
+from steelnewt_relay import fates
 from steelnewt_relay.letters import plain
 from steelnewt_relay.moments import as_asked, spoken
 from steelnewt_relay.outbox import Kept
-from steelnewt_relay.standing import Said, Standing, State
+from steelnewt_relay.standing import Said, Standing
 from steelnewt_relay.summary import left_of_window
-from steelnewt_relay.telling import BARS, DONE
+from steelnewt_relay.telling import DONE, ELSEWHERE, lacking
 
 # What has no more left than this is urgent.
 URGENT = timedelta(minutes=15)
 # How many of one's last requests are looked at for what is usual, and how many of those are shown.
 MOST_LOOKED, MOST_USUAL = 50, 5
-# What may still be granted.
-OPEN = (State.WAITING, State.KEPT, State.UNKNOWN)
 
 
 def headline(wish: Wish) -> str:
@@ -47,18 +46,18 @@ def clock(at: datetime, zone: tzinfo) -> str:
 
 def time_left(standing: Standing, at: datetime) -> str:
     """How much is left of a window that runs while its request waits."""
-    return left_of_window(standing.request.wish, at) if standing.state in OPEN else ""
+    return left_of_window(standing.request.wish, at) if standing.is_open else ""
 
 
 def is_short(standing: Standing, at: datetime) -> bool:
     """Whether so much went by while a request waited that its asker may want a new one."""
     begins, ends = of_stamp(standing.request.wish.begins), of_stamp(standing.request.wish.ends)
-    return standing.state in OPEN and begins <= at < ends and 4 * (ends - at) < 3 * (ends - begins)
+    return standing.is_open and begins <= at < ends and 4 * (ends - at) < 3 * (ends - begins)
 
 
 def is_urgent(standing: Standing, at: datetime) -> bool:
     """Whether a request is of no use any more in a while."""
-    return standing.state in OPEN and of_stamp(standing.request.wish.ends) - at <= URGENT
+    return standing.is_open and of_stamp(standing.request.wish.ends) - at <= URGENT
 
 
 def urgent_first(found: Sequence[Standing], at: datetime) -> list[Standing]:
@@ -87,7 +86,7 @@ def moments(standing: Standing) -> list[Moment]:
     found += [said_at(it) for it in standing.said]
     if grant:
         found += [Moment(grant.begins, "in force"), Moment(grant.ends, "its end")]
-    elif standing.state in OPEN:
+    elif standing.is_open:
         found.append(Moment(of_stamp(request.wish.ends), "the end of what was asked for"))
     return sorted(found, key=lambda it: it.at)
 
@@ -96,12 +95,16 @@ def said_at(said: Said) -> Moment:
     """A verdict, and that it does not count, if it does not."""
     verdict = said.verdict
     text = f"{verdict.by} {DONE[verdict.kind]} it"
+    if said.is_elsewhere:
+        text += f", {ELSEWHERE}"
     if said.kept.state == "refused":
         text += "; the desk refused that"
     elif said.kept.state == "kept":
         text += "; the desk has not got it yet"
-    elif said.barred:
-        text += f"; it does not count: {BARS.get(said.barred, said.barred)}"
+    elif said.kept.lacks:
+        text += f"; it is {lacking(said.kept)}"
+    if said.barred and said.kept.state == "acked":
+        text += f"; it does not count: {fates.bar(said.barred)}"
     return Moment(of_stamp(verdict.at), text, plain(said.kept.reason.why))
 
 

@@ -28,6 +28,8 @@ PRINCIPAL = re.compile(rf'{CALL} --certificate" (\S+)')
 ENDS = re.compile(r"^ *Valid: .*\b(?:to|before) (\S+)$", re.MULTILINE)
 SIGNED = re.compile(rf"^ *Signing CA: \S+ ({DIGEST}) ", re.MULTILINE)
 PRINCIPALS = re.compile(r"^ *Principals: *\n((?: {16}\S+\n)*)", re.MULTILINE)
+SERIAL = re.compile(r"^ *Serial: (\d+)$", re.MULTILINE)
+PUBLIC = re.compile(r"^ *Public key: \S+ (\S+)$", re.MULTILINE)
 KRL = b"SSHKRL\n\0"
 
 
@@ -112,13 +114,15 @@ def principals_in(text: str, person: str) -> set[str]:
 
 @dataclass(frozen=True)
 class Certificate:
-    """Whom a certificate names, the digest of its authority, and its last moment as ssh-keygen
-    prints it: empty where it has none."""
+    """Whom a certificate names, the digest of its authority, its last moment as ssh-keygen prints
+    it (empty where it has none), its serial, and the digest of its key."""
 
     text: str
     principals: frozenset[str]
     authority: str
     ends: str
+    serial: str = ""
+    digest: str = ""
 
     @staticmethod
     def read(text: str) -> "Certificate":
@@ -128,7 +132,9 @@ class Certificate:
             raise BadKey(f"ssh-keygen takes it for no certificate: {ran.stderr.strip()}")
         ends = ENDS.search(ran.stdout)
         names = frozenset(named[1].split())
-        return Certificate(text, names, signed[1], ends[1] if ends else "")
+        serial, digest = (it.search(ran.stdout) for it in (SERIAL, PUBLIC))
+        found = (ends, serial, digest)
+        return Certificate(text, names, signed[1], *(it[1] if it else "" for it in found))
 
 
 def is_revoked(path: str, key: str, authority: str = "") -> bool:

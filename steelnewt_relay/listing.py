@@ -11,16 +11,17 @@ from steelnewt_client.messages import BadWord
 from steelnewt_client.moments import now, of_stamp, stamp
 from steelnewt_relay import telling
 from steelnewt_relay.call import DONE, KEPT, Call
+from steelnewt_relay.lists import MOST_LISTED
 from steelnewt_relay.letters import columns, pieces, plain
 from steelnewt_relay.moments import clock, in_units, moment_of, shown
 from steelnewt_relay.outbox import Kept
-from steelnewt_relay.standing import Knowledge, Standing, State
+from steelnewt_relay.standing import Knowledge, Standing
 from steelnewt_relay.summary import few, minutes
+from steelnewt_relay.ways import messages_of, with_ways
 from steelnewt_relay.woken import Woken
 
 LIVE_LINES = ("on", "as", "may run", "why", "ticket")
 URGENT = timedelta(minutes=15)
-OPEN = (State.WAITING, State.KEPT, State.UNKNOWN)
 
 
 def show(
@@ -33,14 +34,14 @@ def show(
     """Requests, each with what it asks for, who was told, who said what, and what became of it."""
     woken = Woken(call.outbox)
     for standing in standings:
-        call.say_strong(f"{standing.name}  [{standing.state.value}]")
+        call.say_strong(f"{standing.name}  [{telling.label(standing)}]")
         call.say_lines(lines_of(standing.kept, call.zone))
         for name, when in woken.calls(standing.kept.id):
             call.say(f"  {name} was told at {clock(when, call.zone, knowledge.now)}")
         for said in standing.said:
             for line in telling.said_lines(said, call.zone):
                 call.say(line)
-        call.say(f"  {telling.fate(standing, call.zone, call.roster, knowledge.now)}")
+        call.say(f"  {telling.fate(standing, call.zone)}")
         call.say()
     return ended(call, standings, knowledge, none)
 
@@ -50,8 +51,19 @@ def ended(call: Call, standings: list[Standing], knowledge: Knowledge, none: str
         call.say(none)
     if knowledge.trouble:
         call.say(f"The desk does not answer: {knowledge.trouble}.")
-    call.give_data([telling.as_data(it) for it in standings])
+    call.give_data(data_of(call, standings, knowledge))
     return KEPT if knowledge.trouble else DONE
+
+
+def data_of(
+    call: Call, standings: list[Standing], knowledge: Knowledge
+) -> list[dict[str, object]]:
+    """The requests for scripts; for an auditor, by which keys they and the verdicts came, too."""
+    data = [telling.as_data(it) for it in standings]
+    if not call.roster.holds(call.person, call.auditors, knowledge.now):
+        return data
+    ways = call.outbox.ways.of(messages_of(standings))
+    return [with_ways(told, it, ways) for told, it in zip(data, standings, strict=True)]
 
 
 def list_of(
@@ -94,20 +106,16 @@ def row_of(standing: Standing, call: Call, at: datetime) -> list[str]:
         f"{wish.runas}@{where}",
         in_units(wish.length()),
         f"until {until}",
-        state_of(standing, call, at),
+        state_of(standing, at),
         plain(why),
     ]
 
 
-def state_of(standing: Standing, call: Call, at: datetime) -> str:
+def state_of(standing: Standing, at: datetime) -> str:
     """What a request needs, or what became of it, in a few words."""
-    if standing.state is State.OBJECTED:
-        return telling.DONE[standing.objections()[0].verdict.kind]
-    if standing.state is not State.WAITING:
-        return str(standing.state.value).partition(":")[0]
-    ceiling = call.roster.ceilings.get(standing.request.wish.ceiling)
-    given = {it.verdict.by for it in standing.approvals()}
-    needs = f"needs {max(1, ceiling.needs - len(given))}" if ceiling else "waits"
+    if standing.word != "waiting" or not standing.told:
+        return telling.label(standing)
+    needs = f"needs {standing.told.lacks}"
     if is_urgent(standing, at):
         left = of_stamp(standing.request.wish.ends) - at
         return f"{needs}, {minutes(left)} min left"
@@ -116,13 +124,23 @@ def state_of(standing: Standing, call: Call, at: datetime) -> str:
 
 def is_urgent(standing: Standing, at: datetime) -> bool:
     ends = of_stamp(standing.request.wish.ends)
-    return standing.state in OPEN and ends - at <= URGENT
+    return standing.is_open and ends - at <= URGENT
 
 
 def mine(call: Call) -> int:
-    knowledge = call.knowledge()
-    found = knowledge.mine(call.person, call.said.all)
-    return either(call, found, knowledge, "You asked for nothing.")
+    return page_of(call, call.person, "", "You asked for nothing.")
+
+
+def page_of(call: Call, who: str, host: str, none: str) -> int:
+    """A page of requests, the newest on the first; and how to see the next one."""
+    knowledge, said = call.knowledge(), call.said
+    wanted = knowledge.wanted(who, host, said.all)
+    kept = call.outbox.lists.page(wanted, said.page)
+    found = knowledge.listed(kept, wanted, said.page, said.all)
+    status = either(call, found, knowledge, none)
+    if len(kept) == MOST_LISTED:
+        call.say(f"Older ones: write --page {said.page + 1}")
+    return status
 
 
 def either(call: Call, found: list[Standing], knowledge: Knowledge, none: str) -> int:
@@ -135,13 +153,12 @@ def either(call: Call, found: list[Standing], knowledge: Knowledge, none: str) -
 
 
 def waiting(call: Call) -> int:
-    """What waits for this person; what ends first is on top. (Data have all that is open.)"""
+    """What waits for this person; what ends first is on top."""
     knowledge, none = call.knowledge(), "Nothing waits for you."
     found = knowledge.waiting(call.person)
     if call.said.json:
         return ended(call, found, knowledge, none)
-    listed = [it for it in found if it.state is not State.OBJECTED]
-    listed = sorted(listed, key=lambda it: (it.request.wish.ends, it.kept.id))
+    listed = sorted(found, key=lambda it: it.request.wish.ends)
     if call.said.long:
         return show(call, listed, knowledge, none)
     more = f"All of one: show WHO NUMBER. To say yes: {call.program} approve WHO NUMBER"
@@ -165,33 +182,30 @@ def ceilings(call: Call) -> int:
 def show_one(call: Call) -> int:
     if call.said.of is None:
         raise BadWord("which one? Write show WHO NUMBER")
-    knowledge, kept = call.knowledge(), call.outbox.request(call.said.of, call.said.no)
-    if kept is None:
+    knowledge = call.knowledge()
+    if (kept := knowledge.request(call.said.of, call.said.no)) is None:
         raise BadWord(f"there is no {call.said.of} {call.said.no} here")
     return show(call, [knowledge.standing(kept)], knowledge, "", telling.kept_lines)
 
 
 def history(call: Call) -> int:
-    knowledge, said = call.knowledge(), call.said
-    found = knowledge.history(said.who, said.on, said.all)
-    return either(call, found, knowledge, "Nobody asked for anything of that here.")
+    none = "Nobody asked for anything of that here."
+    return page_of(call, call.said.who or "", call.said.on or "", none)
 
 
 def live(call: Call) -> int:
     """What is in force at a moment, whoever asked and wherever."""
-    knowledge = call.knowledge()
-    at = moment_of(call.said.at, call.zone, knowledge.now)
-    grants, data = call.desk.grants(at), []
-    call.say(f"In force at {shown(at, call.zone)}: {len(grants) or 'nothing'}")
-    for grant in grants:
-        kept = knowledge.asked_here(grant)
+    at = moment_of(call.said.at, call.zone, now())
+    knowledge, data = Knowledge(call.outbox, call.desk, call.roster, at), []
+    knowledge.ask_open()
+    rows = [(grant, kept) for grant, kept in knowledge.rows() if grant.begins <= at]
+    call.say(f"In force at {shown(at, call.zone)}: {len(rows) or 'nothing'}")
+    for grant, kept in rows:
         window = f"{shown(grant.begins, call.zone)} until {shown(grant.ends, call.zone)}"
-        call.say(f"{grant.who} {grant.no}  {grant.ceiling}  {window}")
-        if kept:
-            lines = telling.brief_lines(kept, call.zone)
-            call.say_lines([it for it in lines if it[0] in LIVE_LINES])
-        else:
-            call.say("  asked elsewhere: its hosts and commands are not known here")
+        mark = f"  {telling.ELSEWHERE}" if kept.id < 0 else ""
+        call.say(f"{grant.who} {grant.no}  {grant.ceiling}  {window}{mark}")
+        lines = telling.brief_lines(kept, call.zone)
+        call.say_lines([it for it in lines if it[0] in LIVE_LINES])
         data.append(telling.grant_data(grant, kept))
     call.give_data(data)
     return DONE
@@ -215,9 +229,9 @@ def overview(call: Call) -> int:
     """What waits, what is in force, and the words that fit: `ssh -t desk` alone."""
     knowledge = call.knowledge()
     own = knowledge.mine(call.person)
-    found = [it for it in knowledge.waiting(call.person) if it.state is not State.OBJECTED]
-    in_force = [it for it in own if it.state is State.IN_FORCE]
-    open_own = [it for it in own if it.state in OPEN]
+    found = knowledge.waiting(call.person)
+    in_force = [it for it in own if it.is_in_force]
+    open_own = [it for it in own if it.is_open]
     told = [f"{len(found) or 'nothing'} wait{'s' if len(found) < 2 else ''} for you"]
     told += [in_force_line(it, knowledge.now) for it in in_force[:3]]
     told.append(f"{len(open_own) or 'nothing'} of yours wait{'s' if len(open_own) < 2 else ''}")
@@ -239,9 +253,10 @@ def fitting_words(
     call: Call, found: list[Standing], in_force: list[Standing], open_own: list[Standing]
 ) -> list[str]:
     """Three lines at most that fit what there is."""
-    lines = [f"approve {found[0].name}"] if len(found) == 1 else ["waiting"] if found else []
-    lines += [f"extend {it.request.no}" for it in in_force[:1]]
-    lines += [f"wait {it.request.no}" for it in open_own[:1]]
+    is_one = len(found) == 1 and not found[0].is_elsewhere
+    lines = [f"approve {found[0].name}"] if is_one else ["waiting"] if found else []
+    lines += [f"extend {it.request.no}" for it in in_force if not it.is_elsewhere][:1]
+    lines += [f"wait {it.request.no}" for it in open_own if not it.is_elsewhere][:1]
     if call.roster.may_ask(call.person, now()):
         lines += [f"ask {it}" for it in call.outbox.own.names(call.person)[:1]] or ["ask"]
     return [*lines[:3], "help"]

@@ -1,5 +1,9 @@
 """Tells people what happened: runs a site's program once for each event, with the event as JSON.
 
+What is urgent has a process of its own, which also looks at what happened: however much else there
+is to tell, and however long the program takes for it, an alarm waits for nothing. Else everybody's
+doings have their turn, so one person's many hold up nobody's few.
+
 An event is recorded in the outbox's database before the program runs, and marked when it ended
 well. So none is lost; one whose program was running when the relay was killed is run again, under
 the same id, by which a receiver drops the repeat.
@@ -9,6 +13,7 @@ import fcntl
 import json
 import logging
 import os
+import re
 import secrets
 import signal
 import sqlite3
@@ -21,6 +26,8 @@ from dataclasses import dataclass
 
 from steelnewt_client.desk import Silent
 from steelnewt_client.moments import stamp
+from steelnewt_relay import elsewhere, untold
+from steelnewt_relay.elsewhere import RECENT, Elsewhere
 from steelnewt_relay.events import Event, Finder
 from steelnewt_relay.outbox import Kept, Outbox
 from steelnewt_relay.roster import BadRoster
@@ -39,21 +46,28 @@ CREATE TABLE IF NOT EXISTS notices (
     tries INTEGER NOT NULL DEFAULT 0,
     began REAL NOT NULL,
     next REAL NOT NULL DEFAULT 0,
+    urgent INTEGER NOT NULL DEFAULT 0,
+    who TEXT NOT NULL DEFAULT '',
     UNIQUE (message, kind)
 ) STRICT;
-CREATE INDEX IF NOT EXISTS due_notices ON notices (state) WHERE state = 'due';
 CREATE INDEX IF NOT EXISTS open_calls ON notices (body ->> '$.until') WHERE kind = 'asked';
 CREATE TABLE IF NOT EXISTS told_from (
     one INTEGER PRIMARY KEY CHECK (one = 1), message INTEGER NOT NULL
 ) STRICT;
 """
-# Messages that the desk answered, that came since this relay tells, and of which nothing is told.
-UNTOLD = """id > (SELECT message FROM told_from) AND state <> 'kept'
- AND NOT EXISTS (SELECT 1 FROM notices WHERE notices.message = messages.id)"""
-# Requests since then whose window is over and that were neither granted nor settled otherwise.
-PAST = """id > (SELECT message FROM told_from) AND state = 'acked' AND kind = 'request'
- AND body ->> '$.until' < ? AND NOT EXISTS (SELECT 1 FROM notices
- WHERE notices.message = messages.id AND notices.kind IN ('void', 'granted'))"""
+# (behind the columns that an older relay's table lacks)
+INDEX = """CREATE INDEX IF NOT EXISTS due_of_each ON notices (urgent, who, next)
+ WHERE state = 'due'"""
+ADDED = {
+    "urgent": "ALTER TABLE notices ADD COLUMN urgent INTEGER NOT NULL DEFAULT 0",
+    "who": "ALTER TABLE notices ADD COLUMN who TEXT NOT NULL DEFAULT ''",
+}
+MADE = set(re.findall(r"IF NOT EXISTS (\w+)", f"{SCHEMA}{untold.SCHEMA}{elsewhere.SCHEMA}{INDEX}"))
+# What is due: each person's first, and then each person's next.
+DUE = """SELECT id, kind, body, tries, began FROM notices JOIN (SELECT rowid AS row,
+ row_number() OVER (PARTITION BY who ORDER BY rowid) AS turn FROM notices INDEXED BY due_of_each
+ WHERE state = 'due' AND urgent = ? AND next <= ? ORDER BY turn, row LIMIT ?)
+ ON notices.rowid = row ORDER BY turn, row"""
 
 
 class Busy(OSError):
@@ -74,23 +88,40 @@ class Notices:
 
     def __init__(self, outbox: Outbox) -> None:
         self.outbox = outbox
-        with outbox.writing():
-            for statement in SCHEMA.split(";"):
+        self.elsewhere = Elsewhere(self)
+        # (whoever only looks waits for nobody who writes)
+        if not MADE <= outbox.names_made():
+            self.make()
+
+    def make(self) -> None:
+        with self.outbox.writing():
+            for statement in f"{SCHEMA};{untold.SCHEMA};{elsewhere.SCHEMA}".split(";"):
                 self.base.execute(statement)
+            there = {name for _, name, *_ in self.base.execute("PRAGMA table_info (notices)")}
+            for statement in [it for name, it in ADDED.items() if name not in there]:
+                self.base.execute(statement)
+            self.base.execute(INDEX)
+            self.base.execute("DROP INDEX IF EXISTS due_notices")  # (an older relay's)
             # (nobody is told of what was kept before there was anything to tell by)
             self.base.execute(
                 "INSERT OR IGNORE INTO told_from SELECT 1, coalesce(max(id), 0) FROM messages"
             )
+            self.base.execute(untold.BEGIN)
 
     @property
     def base(self) -> sqlite3.Connection:
         return self.outbox.base
 
     def untold(self) -> list[Kept]:
-        return self.outbox.find(UNTOLD)
+        """Messages that the desk answered, that came since this relay tells, and of which nothing
+        is told."""
+        if untold.is_new(self.base, time.time()):
+            with self.outbox.writing():
+                untold.note_new(self.base)
+        return self.outbox.find(untold.UNTOLD)
 
     def past(self, now: str) -> list[Kept]:
-        return self.outbox.find(PAST, now)
+        return self.outbox.find(untold.PAST, now)
 
     def is_new(self, kept: Kept) -> bool:
         """Whether a request came since this relay tells."""
@@ -113,19 +144,18 @@ class Notices:
         with self.outbox.writing():
             for event in events:
                 id, state = secrets.token_hex(16), "due" if event.data else "needless"
+                is_urgent, who = bool(event.data.get("urgent")), event.data.get("by", "")
                 self.base.execute(
-                    "INSERT INTO notices (id, message, kind, body, state, began)"
-                    " VALUES (?, ?, ?, ?, ?, ?) ON CONFLICT DO NOTHING",
+                    "INSERT INTO notices (id, message, kind, body, state, began, urgent, who)"
+                    " VALUES (?, ?, ?, ?, ?, ?, ?, ?) ON CONFLICT DO NOTHING",
                     (id, event.message, event.kind, json.dumps({"id": id} | event.data), state,
-                     time.time()),
+                     time.time(), is_urgent, who),
                 )  # fmt: skip
+                untold.note_told(self.base, event.message, event.kind)
 
-    def due(self) -> list[Due]:
-        rows = self.base.execute(
-            "SELECT id, kind, body, tries, began FROM notices"
-            " WHERE state = 'due' AND next <= ? ORDER BY rowid LIMIT ?",
-            (time.time(), MOST_AT_ONCE),
-        )
+    def due(self, is_urgent: bool) -> list[Due]:
+        """What is to be told now: of each person's doings the first, and then of each the next."""
+        rows = self.base.execute(DUE, (is_urgent, time.time(), MOST_AT_ONCE))
         return [Due(*row) for row in rows]
 
     def done(self, due: Due) -> None:
@@ -148,29 +178,31 @@ class Notices:
 
 def find(notices: Notices, finder: Finder) -> Iterator[Event]:
     """What happened and is not recorded yet. `Silent` where the desk does not answer."""
-    untold, knowledge = notices.untold(), finder.knowledge
+    new, knowledge = notices.untold(), finder.knowledge
     late = finder.late()
-    about = [finder.request_of(it) for it in untold] + notices.past(stamp(knowledge.now)) + late
+    about = [finder.request_of(it) for it in new] + notices.past(stamp(knowledge.now)) + late
     with suppress(Silent):
-        knowledge.ask([it for it in about if it], is_live=True)
-    for kept in untold:
+        knowledge.ask_since(knowledge.now - RECENT)
+        knowledge.ask([it for it in about if it])
+    for kept in new:
         yield from finder.of_message(kept)
     for kept in late:
         yield finder.of_late(kept)
     for grant in knowledge.live():
         request = knowledge.asked_here(grant)
         is_untold = request and notices.is_new(request) and not notices.has(request, "granted")
-        if request and is_untold and not is_under_way(notices, request, untold):
+        if request and is_untold and not is_under_way(notices, request, new):
             yield finder.of_grant(request)
         if request and finder.is_ending(grant) and not notices.has(request, "ends-soon"):
             yield finder.of_end(grant, request)
+    yield from notices.elsewhere.find(finder)
 
 
-def is_under_way(notices: Notices, request: Kept, untold: list[Kept]) -> bool:
+def is_under_way(notices: Notices, request: Kept, new: list[Kept]) -> bool:
     """Whether a verdict on a request was sent that nothing was told of, and is not looked at now:
     what it brought is told with it, as its author's doing."""
     verdicts = notices.outbox.verdicts(request.request.by, request.request.no)
-    now_looked_at = {it.id for it in untold}
+    now_looked_at = {it.id for it in new}
     return any(it.id not in now_looked_at and not notices.is_noted(it) for it in verdicts)
 
 
@@ -227,12 +259,15 @@ def run(program: list[str], body: str, seconds: float) -> str:
         job.wait()
 
 
-def tell(notices: Notices, program: list[str], seconds: float, ended: threading.Event) -> None:
-    """Runs the program for each event that is due, the oldest first."""
-    for due in notices.due():
+Program = tuple[list[str], float]
+
+
+def tell(notices: Notices, program: Program, is_urgent: bool, ended: threading.Event) -> None:
+    """Runs the program for each event that is due and urgent, or is not."""
+    for due in notices.due(is_urgent):
         if ended.is_set():
             return
-        if why := run(program, due.body, seconds):
+        if why := run(program[0], due.body, program[1]):
             log.warning("event %s, %s: %s; %s", due.id, due.kind, why, notices.failed(due))
         else:
             notices.done(due)
@@ -251,21 +286,31 @@ def locked(path: str) -> int:
 
 
 def keep_telling(
+    notices: Notices, program: Program, every: float, ended: threading.Event
+) -> None:
+    """Tells what is not urgent, again and again, until `ended`."""
+    while not ended.is_set():
+        # (what was told could not be noted on a full disk, and would be told again)
+        if notices.outbox.has_room():
+            tell(notices, program, False, ended)
+        ended.wait(every)
+
+
+def keep_looking(
     notices: Notices,
     finder: Callable[[], Finder],
-    program: tuple[list[str], float],
+    program: Program,
     every: float,
     ended: threading.Event,
 ) -> None:
-    """Looks and tells, again and again, until `ended`."""
+    """Looks at what happened and tells what is urgent, again and again, until `ended`."""
     trouble = ""
     while not ended.is_set():
-        # (what was told could not be noted on a full disk, and would be told again)
         has_room = notices.outbox.has_room()
         why = look(notices, finder) if has_room else "the disk is full, so nobody is told"
         if why and why != trouble:
             log.warning("what happened is not known: %s", why)
         trouble = why
         if has_room:
-            tell(notices, *program, ended)
+            tell(notices, program, True, ended)
         ended.wait(every)

@@ -9,9 +9,9 @@ import json
 import os
 import re
 import sqlite3
-from collections.abc import Callable, Iterable, Iterator, Mapping
+from collections.abc import Callable, Iterable, Iterator, Mapping, Sequence
 from contextlib import closing, contextmanager, suppress
-from dataclasses import dataclass, replace
+from dataclasses import dataclass, field, replace
 from datetime import timedelta
 from functools import lru_cache
 from typing import TypeVar
@@ -19,9 +19,11 @@ from typing import TypeVar
 from steelnewt_client.messages import BadWord, Request, Verdict, Wish, measured, read
 from steelnewt_client.moments import of_stamp, stamp
 from steelnewt_client.signed import Signed, reason_digest
+from steelnewt_relay import lists, owing, ways
 from steelnewt_relay.own import Own
 from steelnewt_relay.reasons import NONE, Reason, Reasons
 from steelnewt_relay.reserve import NoRoom, Reserve
+from steelnewt_relay.shares import Share
 
 SCHEMA = """
 CREATE TABLE IF NOT EXISTS messages (
@@ -41,6 +43,7 @@ CREATE INDEX IF NOT EXISTS by_name ON messages (of, no);
 CREATE INDEX IF NOT EXISTS by_end ON messages (body ->> '$.until') WHERE kind = 'request';
 CREATE INDEX IF NOT EXISTS by_state ON messages (state) WHERE state = 'kept';
 CREATE TABLE IF NOT EXISTS numbers (person TEXT PRIMARY KEY, last INTEGER NOT NULL) STRICT;
+CREATE TABLE IF NOT EXISTS heard (one INTEGER PRIMARY KEY, file INTEGER NOT NULL) STRICT;
 CREATE TABLE IF NOT EXISTS reasons (
     id INTEGER PRIMARY KEY, why TEXT NOT NULL, ticket TEXT NOT NULL
 ) STRICT;
@@ -60,9 +63,11 @@ CREATE TABLE IF NOT EXISTS templates (
     PRIMARY KEY (person, name)
 ) STRICT;
 """
+SCHEMA += lists.SCHEMA + ways.SCHEMA + owing.SCHEMA
 MADE = set(re.findall(r"IF NOT EXISTS (\w+)", SCHEMA))
 COLUMNS = (
-    "id, body, state, answer, reasons.why, ticket, signature, about, signatures.why"
+    "id, body, state, answer, reasons.why, ticket, signature, about, signatures.why, "
+    + owing.LACKS
 )
 JOINED = "messages LEFT JOIN reasons USING (id) LEFT JOIN signatures USING (id)"
 # Verdicts on the requests whose names a list of JSON has.
@@ -89,8 +94,9 @@ class OutOfNumbers(ValueError):
 class Kept:
     """A message that is on the disk, and what the desk answered so far.
 
-    `state` is 'kept' until the desk answers, then 'acked' or 'refused'. `answer` is the desk's
-    refusal; while the message is kept, it is why the post failed.
+    `state` is 'kept' until a desk has it, which is 'acked', or each has refused it. `answer` is the
+    desk's refusal; while the message is kept, it is why the post failed. `lacks` has the desks that
+    lack what another has, each with what it said.
     """
 
     id: int
@@ -100,6 +106,9 @@ class Kept:
     is_new: bool = True
     reason: Reason = NONE
     signature: tuple[str, str, str] = ("", "", "")
+    # (the bytes that were kept: made anew they could be others, which is another message)
+    body: str = field(default="", compare=False)
+    lacks: tuple[tuple[str, str], ...] = ()
 
     @property
     def request(self) -> Request:
@@ -118,7 +127,7 @@ class Kept:
     @property
     def line(self) -> bytes:
         """What is posted: the message, and its author's signature where there is one."""
-        return Signed(self.message.text(), *self.signature).line().encode("utf-8")
+        return Signed(self.body, *self.signature).line().encode("utf-8")
 
 
 @lru_cache(maxsize=16_384)
@@ -129,9 +138,11 @@ def kept_of(
     answer: str,
     reason: tuple[str, str],
     signature: tuple[str, str, str],
+    lacks: str | None,
 ) -> Kept:
     """A row of the outbox: one that is as it was is not read again."""
-    return Kept(id, read(body), state, answer, True, Reason(*reason), signature)
+    listed = tuple((desk, said) for desk, said in json.loads(lacks or "[]"))
+    return Kept(id, read(body), state, answer, True, Reason(*reason), signature, body, listed)
 
 
 def is_taking_away(text: str) -> bool:
@@ -144,12 +155,18 @@ def is_taking_away(text: str) -> bool:
 
 class Outbox:
     def __init__(
-        self, path: str, numbers: tuple[int, int] = (1, 999_999_999), signs: bool = True
+        self,
+        path: str,
+        numbers: tuple[int, int] = (1, 999_999_999),
+        signs: bool = True,
+        share: Share = Share(),
     ) -> None:
         """(`signs` is false where no door takes signatures: a desk itself takes messages alone)"""
-        self.numbers, self.signs = numbers, signs
+        self.numbers, self.signs, self.share = numbers, signs, share
         self.path, self.reserve, self.is_reading = path, Reserve(path), False
-        self.own = Own(self)
+        # (by which key whoever calls came)
+        self.way = ""
+        self.own, self.lists, self.owed = Own(self), lists.Lists(self), owing.Owed(self)
         self.base = sqlite3.connect(":memory:")  # (until it is open)
         try:
             self.open()
@@ -159,11 +176,7 @@ class Outbox:
             self.open_to_read()
 
     def open(self) -> None:
-        try:
-            # (SQLite gives its log the rights of the file)
-            os.close(os.open(self.path, os.O_CREAT | os.O_RDWR, 0o600))
-        except OSError as fault:
-            raise sqlite3.OperationalError(str(fault)) from None
+        self.make_file()
         self.base = sqlite3.connect(self.path, timeout=20, isolation_level=None)
         self.base.execute("PRAGMA journal_mode = wal")
         self.base.execute("PRAGMA synchronous = full")
@@ -172,6 +185,21 @@ class Outbox:
         if not self.is_made():
             with self.writing():
                 self.make_tables()
+
+    def make_file(self) -> None:
+        """Makes the file where there is none. One that is there is opened by SQLite alone: whoever
+        closes it themselves drops the locks of all who have it open in this process, and then what
+        they write goes into a log that others have taken away ('How To Corrupt An SQLite Database
+        File', 2.2)."""
+        if os.path.exists(self.path):
+            if not os.access(self.path, os.R_OK | os.W_OK):
+                raise sqlite3.OperationalError(f"{self.path} cannot be read and written")
+            return
+        try:
+            # (SQLite gives its log the rights of the file)
+            os.close(os.open(self.path, os.O_CREAT | os.O_RDWR, 0o600))
+        except OSError as fault:
+            raise sqlite3.OperationalError(str(fault)) from None
 
     def open_to_read(self) -> None:
         """On a full disk SQLite cannot make the file that those share who have the outbox open.
@@ -187,12 +215,19 @@ class Outbox:
         self.make_tables()
 
     def make_tables(self) -> None:
+        before = self.names_made()
         for statement in SCHEMA.split(";"):
             self.base.execute(statement)
+        if "messages" in before and "on_hosts" not in before:
+            self.lists.note_all_hosts()
 
     @property
     def reasons(self) -> Reasons:
         return Reasons(self.base)
+
+    @property
+    def ways(self) -> ways.Ways:
+        return ways.Ways(self.base)
 
     def template(self, person: str, name: str) -> Kept | None:
         """The request that a person saved under a name of their own."""
@@ -203,8 +238,11 @@ class Outbox:
 
     def is_made(self) -> bool:
         """Whether the file has all that the schema names."""
+        return MADE <= self.names_made()
+
+    def names_made(self) -> set[str]:
         rows = self.base.execute("SELECT name FROM sqlite_master")
-        return MADE <= {name for (name,) in rows}
+        return {name for (name,) in rows}
 
     def close(self) -> None:
         self.base.close()
@@ -267,6 +305,7 @@ class Outbox:
             if old := self.same(by, once):
                 self.check_words(old, wish, words)
                 return old
+            self.share.check_request(self.base, by, at, wish.begins)
             request = Request(by, self.next_number(by), at, wish)
             kept = self.insert(request, "request", by, request.no, once)
             if once:
@@ -297,8 +336,7 @@ class Outbox:
             with self.writing(takes_away):
                 if old := self.same(verdict.by, once):
                     return old
-                if self.is_approval_of_refused(verdict):
-                    raise BadWord(f"{UNASKED}: there is nothing to approve")
+                self.check_verdict(verdict)
                 kept = self.insert(verdict, verdict.kind, verdict.of, verdict.no, once)
                 self.reasons.keep_verdict(kept.id, why)
                 return replace(self.entry(kept.id), is_new=kept.is_new)
@@ -309,6 +347,7 @@ class Outbox:
         """Gives a wish the person's next number, for its author to sign. It is sent once it comes
         back signed; a number that was prepared is used."""
         with self.writing():
+            self.share.check_request(self.base, by, at, wish.begins)
             request = Request(by, self.next_number(by), at, wish)
             self.prepare(request, reason)
             return request
@@ -320,8 +359,7 @@ class Outbox:
 
         def write() -> None:
             with self.writing(takes_away):
-                if self.is_approval_of_refused(verdict):
-                    raise BadWord(f"{UNASKED}: there is nothing to approve")
+                self.check_verdict(verdict)
                 self.prepare(verdict, reason)
 
         self.spending(write, takes_away)
@@ -357,9 +395,14 @@ class Outbox:
                 self.reasons.keep(kept.id, Reason(*row))
             return replace(self.entry(kept.id), is_new=kept.is_new)
 
-    def is_approval_of_refused(self, verdict: Verdict) -> bool:
-        request = self.request(verdict.of, verdict.no) if verdict.kind == "approve" else None
-        return request is not None and request.state == "refused"
+    def check_verdict(self, verdict: Verdict) -> None:
+        """Raises where an approval is of nothing, or one too many. All else is always taken."""
+        if verdict.kind != "approve":
+            return
+        request = self.request(verdict.of, verdict.no)
+        if request is not None and request.state == "refused":
+            raise BadWord(f"{UNASKED}: there is nothing to approve")
+        self.share.check_sent(self.base, verdict.by, verdict.at)
 
     def insert(
         self, message: Request | Verdict, kind: str, of: str, no: int, once: str | None
@@ -369,7 +412,12 @@ class Outbox:
             " ON CONFLICT (body) DO NOTHING",
             (measured(message.text()), message.by, kind, of, no, once),
         )
+        self.owed.take_up()
         found = self.find("body = ?", message.text())[0]
+        if written.rowcount == 1:
+            self.ways.keep(found.id, self.way, f"{message.by}: {kind} {of} {no}")
+            if kind == "request":
+                self.lists.note_hosts(found.id)
         return replace(found, is_new=written.rowcount == 1)
 
     def same(self, by: str, once: str | None) -> Kept | None:
@@ -378,10 +426,7 @@ class Outbox:
         return replace(found[0], is_new=False) if found else None
 
     def next_number(self, person: str) -> int:
-        first, last = self.numbers
-        rows = "SELECT last FROM numbers WHERE person IN (?, ?)"
-        used = [row[0] for row in self.base.execute(rows, (person, EVERYBODY))]
-        number: int = max([first, *(it + 1 for it in used)])
+        number, last = self.coming(person), self.numbers[1]
         if number > last:
             raise OutOfNumbers(
                 f"{person} has used the numbers up to {last}: ask the desk's operator"
@@ -394,8 +439,22 @@ class Outbox:
         return number
 
     def has_heard(self) -> bool:
-        """Whether it knows which numbers are used: it gave some, or was told (numbers.py)."""
+        """Whether it knows which numbers are used: it was told (numbers.py), and since then this
+        file is not a backup of another. (An older version gave numbers, and noted no file.)"""
+        if found := self.base.execute("SELECT file FROM heard").fetchone():
+            return bool(found[0] == self.file())
         return self.base.execute("SELECT 1 FROM numbers").fetchone() is not None
+
+    def file(self) -> int:
+        """Which file this is: what is brought back is another one of the same name."""
+        return os.stat(self.path).st_ino
+
+    def coming(self, person: str) -> int:
+        """The number that a person is given next."""
+        rows = "SELECT last FROM numbers WHERE person IN (?, ?)"
+        used = [row[0] for row in self.base.execute(rows, (person, EVERYBODY))]
+        number: int = max([self.numbers[0], *(it + 1 for it in used)])
+        return number
 
     def number_past(self, number: int) -> None:
         """From here on nobody is given a number up to this one: another outbox may have given
@@ -410,14 +469,16 @@ class Outbox:
                 " ON CONFLICT (person) DO UPDATE SET last = max(last, excluded.last)",
                 [(EVERYBODY, 0), *used.items()],
             )
+            self.base.execute("INSERT OR REPLACE INTO heard VALUES (1, ?)", (self.file(),))
 
     def find(self, where: str, *values: object) -> list[Kept]:
-        """Messages in the order in which they were kept."""
+        """Messages in the order in which they were kept. (For the + SQLite sorts what an index of
+        `where` finds, in place of looking through all of them in their order.)"""
         rows = self.base.execute(
-            f"SELECT {COLUMNS} FROM {JOINED} WHERE {where} ORDER BY id", values
+            f"SELECT {COLUMNS} FROM {JOINED} WHERE {where} ORDER BY +id", values
         )
         return [
-            kept_of(*row[:4], (row[4] or "", row[5] or ""), self.signature_of(*row[6:]))
+            kept_of(*row[:4], (row[4] or "", row[5] or ""), self.signature_of(*row[6:9]), row[9])
             for row in rows
         ]
 
@@ -431,29 +492,17 @@ class Outbox:
     def entry(self, id: int) -> Kept:
         return self.find("id = ?", id)[0]
 
-    def with_reasons(self) -> list[Kept]:
-        """All requests, and the verdicts for which somebody gave a reason."""
-        return self.find("kind = 'request' OR reasons.why IS NOT NULL")
+    def with_reasons(self) -> Iterator[Kept]:
+        """All requests, and the verdicts of which a reason or the key is known; some at a
+        time."""
+        last = self.base.execute("SELECT ifnull(max(id), 0) FROM messages").fetchone()[0]
+        for first in range(0, last, lists.MOST_READ):
+            span = "id > ? AND id <= ? AND (kind = 'request' OR reasons.why IS NOT NULL"
+            span += " OR EXISTS (SELECT 1 FROM ways WHERE ways.id = messages.id))"
+            yield from self.find(span, first, first + lists.MOST_READ)
 
     def requests(self) -> list[Kept]:
         return self.find("kind = 'request'")
-
-    def requests_until(self, at: str) -> list[Kept]:
-        """Requests whose window ends at a moment or later."""
-        return self.find("kind = 'request' AND body ->> '$.until' >= ?", at)
-
-    def first_open(self, at: str, behind: int = 0) -> tuple[str, str, int]:
-        """When the first window begins among the requests that were kept behind the message of this
-        number and that end at `at` or later, and when that request ends; `at` twice where no window
-        begins before it. The third is the number of the last message that is kept."""
-        row = self.base.execute(
-            "SELECT min(body ->> '$.from'), body ->> '$.until' FROM messages"
-            " WHERE kind = 'request' AND id > ? AND body ->> '$.until' >= ?",
-            (behind, at),
-        ).fetchone()
-        last = self.base.execute("SELECT ifnull(max(id), 0) FROM messages").fetchone()[0]
-        begins, ends = row if row[0] and row[0] < at else (at, at)
-        return begins, ends, last
 
     def requests_of(self, person: str) -> list[Kept]:
         return self.find("kind = 'request' AND by = ?", person)
@@ -478,8 +527,13 @@ class Outbox:
         found = self.find(NAMED, json.dumps(list(names)))
         return {(it.request.by, it.request.no): it for it in found}
 
+    def names_here(self, names: Iterable[tuple[str, int]]) -> list[tuple[str, int]]:
+        """Which of these names have a request here."""
+        where = f"SELECT of, no FROM messages WHERE {NAMED}"
+        return self.base.execute(where, (json.dumps(list(names)),)).fetchall()
+
     def answered(self, id: int, state: str, answer: str = "") -> None:
-        """Notes what became of a message. An answer of the desk stays."""
+        """Notes what became of a message, at whichever desk. An answer that was final stays."""
         takes_away = self.entry(id).takes_away
 
         def write() -> None:
@@ -488,12 +542,12 @@ class Outbox:
                     "UPDATE messages SET state = ?, answer = ? WHERE id = ? AND state = 'kept'",
                     (state, answer, id),
                 )
+                if state != "kept":
+                    self.base.execute("DELETE FROM owed WHERE message = ?", (id,))
 
         self.spending(write, takes_away)
 
-    def post_again(self) -> int:
-        """Marks all that was acknowledged as not posted: for a desk that lost its store."""
-        with self.writing():
-            return self.base.execute(
-                "UPDATE messages SET state = 'kept' WHERE state = 'acked'"
-            ).rowcount
+    def post_again(self, desks: Sequence[str] = ()) -> int:
+        """Has all posted again that was acknowledged, to desks that lost their stores; without a
+        name to all of them."""
+        return self.owed.again(desks)

@@ -10,6 +10,7 @@ import os
 import re
 import socket
 import sqlite3
+from contextlib import ExitStack
 from datetime import datetime, tzinfo
 from functools import lru_cache
 from typing import Any
@@ -22,7 +23,7 @@ from waitress.parser import HTTPRequestParser
 from werkzeug.exceptions import HTTPException
 
 from steelnewt_client.desk import Silent
-from steelnewt_client.messages import BadWord, Request
+from steelnewt_client.messages import BadWord
 from steelnewt_client.moments import of_stamp
 from steelnewt_client.names import PERSON
 from steelnewt_client.told import Grant
@@ -33,13 +34,15 @@ from steelnewt_relay.deciding import kinds_waiting, notices, own_kinds, send, sh
 from steelnewt_relay.deciding import show_request, show_verdict
 from steelnewt_relay.letters import plain
 from steelnewt_relay.moments import BadTime, shown
-from steelnewt_relay.outbox import OutOfNumbers
+from steelnewt_relay.outbox import Kept, OutOfNumbers
 from steelnewt_relay.roster import BadRoster, Roster
+from steelnewt_relay.shares import Crowded, Places
 from steelnewt_relay.sharing import Shared
-from steelnewt_relay.standing import Board, Row, Standing, State
+from steelnewt_relay.standing import Board, Row, Standing
 from steelnewt_relay.summary import by_reach, few
 from steelnewt_relay.timeline import timeline
 from steelnewt_relay.visit import Cards, Seen, Server, Visit
+from steelnewt_relay.ways import by_page
 from steelnewt_relay.words import BadWords, checked_if, unescaped
 
 log = logging.getLogger("desk-relay")
@@ -60,6 +63,9 @@ EXPOSED = (
     "EVERY ACCOUNT OF THIS MACHINE REACHES THE PAGE HERE, and while it is stopped any of them can"
     " take its place, and is given the front's secret; listen at unix:/run/desk-relay/page.sock"
 )
+# So many questions of one person are answered at a time; and so many seconds there are at least from
+# one question about what is past to the next.
+MOST_OF_ONE, PAST_PAUSE = 16, 0.2
 # Whoever connects and says nothing is dropped after a while, and keeps nobody out before.
 LIMITS: dict[str, Any] = {
     # (most of them wait for the question to the desk that they share)
@@ -81,18 +87,20 @@ HEADERS = {
 }
 
 
-def caller(secret: str) -> str:
-    """Who is calling, by the front's word; nobody else has the front's secret."""
+def caller(secret: str) -> tuple[str, str]:
+    """Who is calling and by which key, by the front's word; nobody else has the front's secret. (A
+    front sets one header anew, so what it says of the key stands there too, behind the name and a
+    mark that no name has: where there is no name, no other word is taken for it.)"""
     given = flask.request.headers.get(FRONT_HEADER, "")
     if not hmac.compare_digest(given.encode("utf-8"), secret.encode("utf-8")):
         flask.abort(403, "This page is reached through its front alone.")
-    person = flask.request.headers.get(PERSON_HEADER, "")
+    person, _, key = flask.request.headers.get(PERSON_HEADER, "").partition(";")
     if not re.fullmatch(PERSON, person):
         flask.abort(403, NOBODY)
     if flask.request.headers.get("Sec-Fetch-Site", "none") not in ("none", "same-origin"):
         if flask.request.method != "GET":
             flask.abort(403, "The form came from another site.")
-    return person
+    return person, by_page(key.strip())
 
 
 def create_app(config: Config) -> flask.Flask:
@@ -101,18 +109,23 @@ def create_app(config: Config) -> flask.Flask:
     app.config["MAX_CONTENT_LENGTH"] = 65536
     secret, signing_key = config.page_keys()
     tokens = URLSafeTimedSerializer(signing_key, salt="desk-relay page")
-    server = Server(config, tokens, Shared(), Seen())
+    server = Server(config, tokens, Shared(), Shared(PAST_PAUSE), Seen())
+    places = Places(MOST_OF_ONE)
 
     @app.before_request
     def begin() -> flask.Response | None:
         if not HOST.fullmatch(flask.request.headers.get("Host", "")):
             # (no page: its links would need a host)
             return flask.Response(NO_HOST, 400, mimetype="text/plain")
-        person = caller(secret)
+        person, way = caller(secret)
         if not FORM.fullmatch(flask.request.headers.get("Content-Type", "")):
             flask.abort(415, "The form is not from this page. Begin again.")
         if flask.request.endpoint != "static":
+            flask.g.held = held = ExitStack()
+            held.enter_context(places.place(person))
             flask.g.visit = visit = Visit(server, person)
+            held.callback(visit.outbox.close)
+            visit.outbox.way = way
             if person not in visit.roster.people:
                 # (whoever can sign on at the site sees nothing here for that alone)
                 flask.abort(403, NOT_LISTED.format(person))
@@ -120,15 +133,16 @@ def create_app(config: Config) -> flask.Flask:
 
     @app.teardown_request
     def end(_: BaseException | None) -> None:
-        if "visit" in flask.g:
-            flask.g.visit.outbox.close()
+        if "held" in flask.g:
+            flask.g.held.close()
 
     @app.after_request
     def guard(reply: flask.Response) -> flask.Response:
         reply.headers.update(HEADERS)
         return reply
 
-    for kind in (BadWord, BadWords, BadTime, OutOfNumbers, BadRoster, Silent, sqlite3.Error):
+    ours = (OutOfNumbers, BadRoster, Silent, sqlite3.Error, Crowded)
+    for kind in (BadWord, BadWords, BadTime, *ours):
         app.register_error_handler(kind, complain)
     app.register_error_handler(HTTPException, complain)
     app.add_url_rule("/", "home", home)
@@ -141,7 +155,7 @@ def create_app(config: Config) -> flask.Flask:
     app.add_url_rule("/let", "let", show_let)
     app.add_url_rule("/send", "send", send, methods=["POST"])
     app.jinja_env.globals.update(
-        telling=telling, heads=heads, State=State, shown=shown, of_stamp=of_stamp,
+        telling=telling, heads=heads, shown=shown, of_stamp=of_stamp,
         by_reach=by_reach, unescaped=unescaped, few=few, fields=FIELDS, own_kinds=own_kinds,
         kinds_waiting=kinds_waiting, plain=plain,
     )  # fmt: skip
@@ -165,14 +179,14 @@ def made_parts(app: flask.Flask) -> dict[str, Any]:
         return made(standing, visit.roster, day, visit.zone, left, is_urgent, kinds)
 
     @lru_cache(maxsize=4096)
-    def made_row(grant: Grant, request: Request | None, zone: tzinfo, may_revoke: bool) -> Markup:
-        return Markup(parts.row(grant, request, zone, may_revoke))
+    def made_row(grant: Grant, kept: Kept, zone: tzinfo, may_revoke: bool) -> Markup:
+        return Markup(parts.row(grant, kept.request, kept.id < 0, zone, may_revoke))
 
     def row(each: Row, visit: Visit) -> Markup:
         """A grant's row. It has a button for those who may revoke it, and is the same else."""
-        grant, request = each
+        grant, kept = each
         about = visit.person, grant.who, grant.ceiling, visit.now
-        return made_row(grant, request, visit.zone, visit.roster.may_revoke(*about))
+        return made_row(grant, kept, visit.zone, visit.roster.may_revoke(*about))
 
     @lru_cache(maxsize=4)
     def drawn(board: Board, zone: tzinfo) -> Markup:
@@ -199,7 +213,7 @@ def home() -> str:
     """What waits for me, my requests, what is in force, and the findings for an auditor."""
     visit: Visit = flask.g.visit
     is_all = "all" in flask.request.args
-    asked = visit.knowledge().asked_by(visit.person, is_all)
+    count, asked = visit.own(is_all)
     knowledge, board = visit.shared_knowledge(asked, is_all)
     review, trouble = None, knowledge.trouble
     if visit.is_auditor() and not trouble:
@@ -207,20 +221,20 @@ def home() -> str:
             review = visit.desk.review(visit.now)
         except Silent as why:
             trouble = str(why)
-    waiting = knowledge.waiting(visit.person)
-    left = [it for it in waiting if it.state is not State.OBJECTED]
+    left = knowledge.waiting(visit.person)
+    objected = [it for it in board.ended if it.request.by != visit.person]
     return flask.render_template(
         "home.html",
         visit=visit,
         person=visit.person,
         notices=notices(visit, knowledge),
-        mine=Cards("mine", knowledge.standings(asked, is_all)),
-        waiting=Cards("waiting", heads.urgent_first(left, visit.now)),
-        objected=Cards("objected", [it for it in waiting if it.state is State.OBJECTED]),
+        mine=visit.mine(knowledge, count, asked, is_all),
+        waiting=Cards.of("waiting", heads.urgent_first(left, visit.now)),
+        objected=Cards.of("objected", objected),
         ticked=flask.request.args.get("ticked", ""),
         board=board,
         ceilings=visit.roster.may_ask(visit.person, visit.now),
-        usual=heads.usual(visit.own_requests(), asked),
+        usual=heads.usual(visit.own_requests(), visit.last_own(is_all)),
         review=review,
         trouble=trouble,
         token=visit.token("ask"),
@@ -230,14 +244,11 @@ def home() -> str:
 def show_history() -> str:
     """What came through this relay, whoever asked."""
     visit, given = flask.g.visit, flask.request.args
-    who, host = (given.get(name, "").strip() or None for name in ("who", "on"))
-    knowledge = visit.knowledge()
-    found = knowledge.history(
-        checked_if("person", who), checked_if("host", host), "all" in flask.request.args
-    )
-    cards = Cards("page", found)
+    who, host = (given.get(name, "").strip() for name in ("who", "on"))
+    checked_if("person", who or None), checked_if("host", host or None)
+    found = visit.past(who, host, "all" in given)
     return flask.render_template(
-        "history.html", visit=visit, person=visit.person, found=cards, who=who, on=host
+        "history.html", visit=visit, person=visit.person, found=found, who=who, on=host
     )
 
 

@@ -9,21 +9,28 @@ import signal
 import sqlite3
 import sys
 import threading
-from collections.abc import Iterable
+from collections.abc import Iterable, Iterator, Sequence
+from datetime import UTC, datetime
+from itertools import islice
 
 from steelnewt_client.messages import BadWord, Verdict, checked
-from steelnewt_client.moments import now
+from steelnewt_client.moments import now, stamp
 from steelnewt_relay import ssh
+from steelnewt_relay.archive import Archive, keep_tidy
 from steelnewt_relay.caller import Caller, Keyed, certified
 from steelnewt_relay.calls import open_calls
 from steelnewt_relay.config import BadConfig, Config, read_config
 from steelnewt_relay.events import Finder, Manner
+from steelnewt_relay.forking import forked
 from steelnewt_relay.keys import BadKey
-from steelnewt_relay.notices import Notices, keep_telling, locked
-from steelnewt_relay.outbox import Kept
+from steelnewt_relay.lists import MOST_READ
+from steelnewt_relay.notices import Notices, keep_looking, keep_telling, locked
+from steelnewt_relay.outbox import Kept, Outbox
+from steelnewt_relay.owing import Lag
 from steelnewt_relay.posting import keep_posting
 from steelnewt_relay.sent import BadOutbox, bodies, numbered
 from steelnewt_relay.standing import Knowledge
+from steelnewt_relay.ways import log_to_journal
 
 CONFIG = "/etc/desk/relay.toml"
 
@@ -43,13 +50,16 @@ def parser() -> argparse.ArgumentParser:
     notify = jobs.add_parser("notify", help="tell people what happened, until SIGTERM")
     notify.add_argument("--every", type=float, default=5.0, help="seconds between two rounds")
     jobs.add_parser("page", help="serve the page, until SIGTERM")
-    jobs.add_parser("post-again", help="post again all that was acknowledged")
+    again = jobs.add_parser("post-again", help="post again all that was acknowledged")
+    said = "as `check` names it: one that lost its store, where the others have theirs"
+    again.add_argument("desks", metavar="DESK", nargs="*", help=said)
+    jobs.add_parser("check", help="say which desk lacks how many messages, and since when")
     past = jobs.add_parser("number-past", help="give no number up to this one, to nobody")
     past.add_argument("number", metavar="NUMBER", type=int)
     sent = jobs.add_parser("sent", help="print the outbox's messages, whoever may have written it")
     said = "only those behind this number, each with its number and state"
     sent.add_argument("--after", type=int, metavar="NUMBER", help=said)
-    jobs.add_parser("reasons", help="print why people asked and decided, as lines of JSON")
+    jobs.add_parser("reasons", help="print why people asked and decided, and by which keys")
     return found
 
 
@@ -93,6 +103,7 @@ def serve_person(config: Config, caller: Caller) -> int:
     for stream in (sys.stdin, sys.stdout, sys.stderr):
         if isinstance(stream, io.TextIOWrapper):
             stream.reconfigure(encoding="utf-8", errors="backslashreplace")
+    log_to_journal()
     check_room(caller.person)
     signal.signal(signal.SIGALRM, ssh.too_late)
     signal.alarm(MOST_SECONDS)
@@ -108,30 +119,82 @@ def ended_by_signal() -> threading.Event:
 
 def post(config: Config, every: float) -> int:
     ended = ended_by_signal()
-    keep_posting(config.open_outbox(), config.open_desk(), every, ended)
+    tidy = (config.open_outbox, config.days, ended)
+    threading.Thread(target=keep_tidy, args=tidy, daemon=True).start()
+    keep_posting(config.open_outbox, config.open_desk(), every, ended)
     return 0
 
 
 def notify(config: Config, every: float) -> int:
-    """Tells people, where the settings say by what."""
+    """Tells people, where the settings say by what: one process looks at what happened and tells
+    what is urgent, and another one all else."""
     if (told := config.notify) is None:
         print("desk-relay: nobody is told anything: the settings have no [notify]", file=sys.stderr)
         return 0
-    ended, manner = ended_by_signal(), Manner.of(config)
-    outbox, desk = config.open_outbox(), config.open_desk()
+    ended, program = ended_by_signal(), (told.program, told.seconds)
     lock = locked(f"{config.outbox}.notify")
+    other = forked(lambda: keep_telling(Notices(config.open_outbox()), program, every, ended))
+    outbox, desk, manner = config.open_outbox(), config.open_desk(), Manner.of(config)
 
     def finder() -> Finder:
-        knowledge = Knowledge(outbox, desk, config.read_roster(), now())
-        return Finder(knowledge, manner)
+        if other.has_ended():
+            raise OSError("the process that tells what is not urgent has ended")
+        return Finder(Knowledge(outbox, desk, config.read_roster(), now()), manner)
 
-    keep_telling(Notices(outbox), finder, (told.program, told.seconds), every, ended)
-    os.close(lock)
+    try:
+        keep_looking(Notices(outbox), finder, program, every, ended)
+    finally:
+        other.end()
+        os.close(lock)
     return 0
 
 
-def reason_line(kept: Kept) -> str:
-    """A request's name or a verdict, and why somebody asked or gave it: a line for the evidence."""
+def post_again(config: Config, names: Sequence[str]) -> int:
+    known = [each.label for each in config.open_desk().each]
+    if other := [name for name in names if name not in known]:
+        raise BadConfig(f"no desk is called {other[0]}: {', '.join(known)}")
+    outbox = config.open_outbox()
+    outbox.owed.know(known)
+    count = outbox.post_again(names) + Archive(outbox).bring_back()
+    return print_lines([f"{count} messages are posted again"])
+
+
+def check(config: Config) -> int:
+    """Says what each desk lacks; 1 where one lacks anything."""
+    lags = {it.desk: it for it in config.open_outbox().owed.lags()}
+    for each in config.open_desk().each:
+        print(f"{each.label}: {told(lags[each.label]) if each.label in lags else 'lacks nothing'}")
+    return 1 if lags else 0
+
+
+def told(lag: Lag) -> str:
+    """What a desk lacks."""
+    text = f"lacks {lag.count} messages, one since {moment(lag.since)}"
+    text += f", and refuses {lag.refused} of them that another has" if lag.refused else ""
+    return f"{text}: {lag.answer}" if lag.answer else text
+
+
+def moment(seconds: int) -> str:
+    return stamp(datetime.fromtimestamp(seconds, UTC))
+
+
+def reason_lines(outbox: Outbox) -> Iterator[str]:
+    """Each message of which more is known here than the desk has."""
+    for some in batched(outbox.with_reasons()):
+        ways = outbox.ways.of([it.id for it in some])
+        yield from (reason_line(it, ways.get(it.id)) for it in some)
+
+
+def batched(found: Iterable[Kept]) -> Iterator[list[Kept]]:
+    """Some at a time."""
+    rest = iter(found)
+    while some := list(islice(rest, MOST_READ)):
+        yield some
+
+
+def reason_line(kept: Kept, way: dict[str, str] | None) -> str:
+    """A request's name or a verdict, why somebody asked or gave it, and by which key it came: a
+    line for the evidence."""
     name: dict[str, object] = {}
     if isinstance(kept.message, Verdict):
         name |= vars(kept.verdict)
@@ -140,7 +203,7 @@ def reason_line(kept: Kept) -> str:
         name |= {"who": request.by, "no": request.no, "at": request.at}
         name["ceiling"] = request.wish.ceiling
     state = {"state": kept.state, "answer": kept.answer or None}
-    return json.dumps(name | kept.reason.data() | state)
+    return json.dumps(name | kept.reason.data() | state | {"came_by": way})
 
 
 def print_lines(lines: Iterable[str]) -> int:
@@ -156,7 +219,9 @@ def run_job(config: Config, job: str, said: argparse.Namespace) -> int:
     if job == "notify":
         return notify(config, said.every)
     if job == "post-again":
-        return print_lines([f"{config.open_outbox().post_again()} messages are posted again"])
+        return post_again(config, said.desks)
+    if job == "check":
+        return check(config)
     if job == "number-past":
         config.open_outbox().number_past(said.number)
         return print_lines([f"numbers go on behind {said.number}"])
@@ -166,7 +231,7 @@ def run_job(config: Config, job: str, said: argparse.Namespace) -> int:
             return print_lines(numbered(config.outbox, after))
         return print_lines(bodies(config.outbox))
     if job == "reasons":
-        return print_lines(reason_line(it) for it in config.open_outbox().with_reasons())
+        return print_lines(reason_lines(config.open_outbox()))
     # (Flask takes a moment to load, and a call by ssh has no use for it)
     from steelnewt_relay.page import serve
 

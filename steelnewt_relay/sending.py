@@ -7,19 +7,20 @@ import sys
 from dataclasses import replace
 from datetime import timedelta
 
-from steelnewt_client.messages import BadWord, Wish
+from steelnewt_client.messages import BadWord, Wish, number_of
 from steelnewt_client.moments import now, stamp
 from steelnewt_relay import staying, telling
 from steelnewt_relay.admission import objections, surely_refused
 from steelnewt_relay.call import DONE, KEPT, NOT_SENT, REFUSED, YES, Call, is_at_terminal
 from steelnewt_relay.leading import Leader
+from steelnewt_relay.lists import Wanted
 from steelnewt_relay.meant import hosts_of, is_named, typed_hosts, wish_of
 from steelnewt_relay.moments import in_units
 from steelnewt_relay.numbers import hear
 from steelnewt_relay.outbox import Kept
 from steelnewt_relay.posting import post_one
 from steelnewt_relay.reasons import Reason
-from steelnewt_relay.standing import Standing, State
+from steelnewt_relay.standing import Standing
 from steelnewt_relay.summary import summed_up
 from steelnewt_relay.typed import BadWords
 from steelnewt_relay.words import commands_of, window_of, words_of
@@ -88,11 +89,20 @@ def again(call: Call) -> int:
 
 def again_of(call: Call) -> tuple[Wish, Reason]:
     """What an older request of this person's asks for, from now on."""
-    asked = call.outbox.requests_of(call.person)
-    found = [it for it in asked if call.said.no in (None, it.request.no)]
+    return renewed(call, own_request(call, call.said.no))
+
+
+def own_request(call: Call, no: int | None) -> Kept:
+    """A request of this person's: the last one, where no number is given."""
+    found = last_of(call) if no is None else call.outbox.request(call.person, no)
     if not found:
         raise BadWord("there is no such request of yours: 'mine --all' shows them")
-    return renewed(call, found[-1])
+    return found
+
+
+def last_of(call: Call) -> Kept | None:
+    """This person's last request."""
+    return next(iter(call.outbox.lists.page(Wanted(call.person), size=1)), None)
 
 
 def saved(call: Call) -> int:
@@ -143,13 +153,10 @@ def save(call: Call) -> int:
         call.say(f"{words[0]} is a name of yours no more.")
         call.give_data({"name": words[0], "no": None})
         return DONE
-    asked = call.outbox.requests_of(call.person)
-    found = [it for it in asked if len(words) == 1 or str(it.request.no) == words[1]]
-    if not found:
-        raise BadWord("there is no such request of yours: 'mine --all' shows them")
-    call.outbox.own.save(call.person, words[0], found[-1].id, call.roster.ceilings)
-    call.say(f"{call.person} {found[-1].request.no} is {words[0]}: ask {words[0]}")
-    call.give_data({"name": words[0], "no": found[-1].request.no})
+    found = own_request(call, number_of(words[1]) if words[1:] else None)
+    call.outbox.own.save(call.person, words[0], found.id, call.roster.ceilings)
+    call.say(f"{call.person} {found.request.no} is {words[0]}: ask {words[0]}")
+    call.give_data({"name": words[0], "no": found.request.no})
     return DONE
 
 
@@ -162,9 +169,9 @@ def lead(call: Call) -> int:
         raise BadWords("there is nothing that you may ask for now")
     leader = Leader(call.talk(), call.zone, call.demand, now())
     vars(call.said).update(NO_WINDOW)
-    if asked := call.outbox.requests_of(call.person):
-        call.say_strong(f"Your last request, {call.person} {asked[-1].request.no}")
-        call.say_lines(telling.brief_lines(asked[-1], call.zone))
+    if last := last_of(call):
+        call.say_strong(f"Your last request, {call.person} {last.request.no}")
+        call.say_lines(telling.brief_lines(last, call.zone))
         if leader.asked("The same again, from now on (y, or nothing)", str).lower() in YES:
             return again(call)
     said = leader.request(ceilings)
@@ -188,14 +195,14 @@ def send(
         return REFUSED
     if not once and not is_meant and (old := same_wish(call, wish)):
         call.say(f"You asked for the same just now, as {old.name}.")
-        call.say(telling.fate(old, call.zone, call.roster, now()))
+        call.say(telling.fate(old, call.zone))
         call.say("Nothing was sent. Write --again to ask for it once more.")
         return NOT_SENT
     call.say(summed_up(call.person, wish))
     if not call.is_agreed("Send it?"):
         return NOT_SENT
     at = now()
-    hear(call.outbox, call.desk)
+    hear(call.outbox, call.config, call.desk, call.person)
     kept = call.outbox.keep_request(call.person, wish.as_of(at), stamp(at), once, words, reason)
     call.say_strong(f"Kept as {call.person} {kept.request.no}.")
     return told_request(call, post_one(call.outbox, call.desk, kept))
@@ -225,11 +232,11 @@ def same_wish(call: Call, wish: Wish) -> Standing | None:
     """A request for the same that this person asked a few minutes ago: asked twice by mistake?
     (What was revoked, refused or is over is not the same.)"""
     since = stamp(now() - SAME_FOR)
-    for kept in reversed(call.outbox.requests_of(call.person)):
+    for kept in reversed(call.outbox.lists.page(Wanted(call.person))):
         old = kept.request
         if old.at > since and kept.state != "refused" and old.wish.is_like(wish):
             found = call.knowledge().standing(kept)
-            if found.state not in (State.OVER, State.OBJECTED, State.LAPSED):
+            if found.is_open or found.is_granted:
                 return found
     return None
 
@@ -237,7 +244,7 @@ def same_wish(call: Call, wish: Wish) -> Standing | None:
 def told_request(call: Call, kept: Kept) -> int:
     """Says what became of a request that was sent, and stays until it is decided."""
     standing = call.knowledge().standing(kept)
-    call.say(telling.fate(standing, call.zone, call.roster, now()))
+    call.say(telling.fate(standing, call.zone))
     if kept.state == "acked":
         call.say(f"To approve it they write: {call.program} approve {standing.name}")
     call.give_data(telling.as_data(standing))
@@ -254,17 +261,17 @@ def is_left(said: argparse.Namespace) -> bool:
 def told_verdict(call: Call, kept: Kept) -> tuple[int, dict[str, object]]:
     """Says what became of a verdict that was sent: a status, and the same for scripts."""
     verdict = kept.verdict
-    request = call.outbox.request(verdict.of, verdict.no)
     knowledge = call.knowledge()
+    request = knowledge.request(verdict.of, verdict.no)
     after = knowledge.standing(request) if request else None
     barred = after.bar_of(verdict) if after else ""
-    is_idle = bool(after and not barred and knowledge.changes_nothing(after, verdict))
-    call.say(telling.verdict_fate(verdict.kind, kept.state, kept.answer, barred, is_idle))
+    call.say(telling.verdict_fate(kept, barred))
     if after:
-        call.say(telling.fate(after, call.zone, call.roster, now()))
+        call.say(telling.fate(after, call.zone))
         if kept.state == "acked" and (more := telling.on_hosts(verdict.kind, after)):
             call.say(more)
     data: dict[str, object] = {"verdict": vars(verdict), "state": kept.state}
     data |= {"answer": kept.answer or None, "barred": barred or None}
+    data["lacking"] = telling.lacking_data(kept)
     data["why"] = kept.reason.why or None
-    return max(status_of(kept), NOT_SENT if barred or is_idle else DONE), data
+    return max(status_of(kept), NOT_SENT if barred else DONE), data

@@ -44,7 +44,7 @@ def prepare_request(call: Call, wish: Wish, reason: Reason) -> Item:
     at, note = now(), hopeless(call, wish)
     if note and not call.said.anyway:
         raise BadWord(f"{note.rstrip('.')}. Change that, or write --anyway")
-    hear(call.outbox, call.desk)
+    hear(call.outbox, call.config, call.desk, call.person)
     request = call.outbox.prepare_request(call.person, wish.as_of(at), stamp(at), reason)
     return item(request.text(), None, reason, [note])
 
@@ -60,7 +60,7 @@ def prepare_verdict(call: Call, kind: str, of: str, no: int) -> Item:
             telling.approvable(kept)
         knowledge = call.knowledge()
         standing, reason = knowledge.standing(kept), kept.reason
-        notes.append(telling.fate(standing, call.zone, call.roster, now()))
+        notes.append(telling.fate(standing, call.zone))
         notes.append(vain(call, kind, knowledge.bar_now(standing, kind, call.person)))
     if kind != "approve":
         reason = own
@@ -68,7 +68,7 @@ def prepare_verdict(call: Call, kind: str, of: str, no: int) -> Item:
         raise BadWord("where people sign, an approval is signed over the reason of its request:"
                       " leave --why (a refusal and a revocation have one)")  # fmt: skip
     call.outbox.prepare_verdict(verdict, reason)
-    return item(verdict.text(), kept.request.text() if kept else None, reason, notes)
+    return item(verdict.text(), kept.body if kept else None, reason, notes)
 
 
 def vain(call: Call, kind: str, why: str) -> str:

@@ -1,67 +1,100 @@
 """What became of a request: what the desk says, and what this relay brought itself.
 
-The rules are the desk's. A relay asks it once about all that one answer shows, and shows what the
-desk tells: the grant of each request, and which verdicts count. For a verdict that the desk does
-not hold yet, it follows the desk's own rule (docs/MESSAGES.md), by what the roster says of the
-verdict's moment.
+A relay decides nothing. It asks the desk about all that one answer shows, and shows what the desk
+tells: the status of each request, its grant, who may approve it now, and which verdicts count,
+whichever relay brought them. It has words of its own only for what no desk can know (fates.py).
 """
 
-from collections.abc import Callable, Mapping
+import hashlib
+from collections.abc import Callable, Iterable, Mapping
 from contextlib import suppress
-from dataclasses import dataclass, replace
+from dataclasses import dataclass, field, replace
 from datetime import datetime, timedelta
-from enum import Enum
+from functools import lru_cache
 from typing import NamedTuple, TypeVar
 
-from steelnewt_client.desk import Desk, Silent
+from steelnewt_client.desk import AnyDesk, Silent
 from steelnewt_client.messages import Request, Verdict
 from steelnewt_client.moments import of_stamp, stamp
 from steelnewt_client.told import Grant, Name, Told
+from steelnewt_relay.fates import ARCHIVED, KEPT, OVER, REJECTED, UNKNOWN
+from steelnewt_relay.lists import Wanted
 from steelnewt_relay.outbox import Kept, Outbox
-from steelnewt_relay.roster import Ceiling, Roster
+from steelnewt_relay.roster import Roster
 
 SHOWN_FOR = timedelta(days=7)
-# What the desk's weight of a verdict says of its author or its moment.
-WEIGHED = ("", "asker", "duty", "conflict", "late")
+# How far behind the clock a history is cut, at the least.
+CUT_BEHIND = timedelta(days=1)
+# So many names one question may bring, of requests that are over; else each is asked for by its own.
+MOST_TOLD = 2_000
+# The words of what may still be granted.
+OPEN = ("waiting", KEPT, UNKNOWN)
 Asked = TypeVar("Asked")
-
-
-class State(Enum):
-    """What can be said of a request."""
-
-    KEPT = "not yet at the desk"
-    REFUSED = "refused by the desk"
-    UNKNOWN = "not known: the desk does not answer"
-    IN_FORCE = "in force"
-    COMING = "granted, to come"
-    OVER = "over"
-    WAITING = "waiting"
-    OBJECTED = "not granted"
-    LAPSED = "not granted in time"
 
 
 @dataclass(frozen=True)
 class Said:
-    """A verdict of this relay's people, and why it does not count, if it does not."""
+    """A verdict, and why it does not count by the desk's word: empty where it does, and None where
+    the desk told nothing of it."""
 
     kept: Kept
     verdict: Verdict
-    barred: str = ""
+    barred: str | None = None
+
+    @property
+    def counts(self) -> bool:
+        return self.barred == ""
+
+    @property
+    def is_elsewhere(self) -> bool:
+        """Whether another relay brought it."""
+        return self.kept.id < 0
 
 
 @dataclass(frozen=True)
 class Standing:
-    """A request and what became of it."""
+    """A request and what became of it: `status` is the desk's word, empty where it told none, and
+    `state` the relay's own, empty where there is none."""
 
     kept: Kept
     request: Request
-    state: State
-    grant: Grant | None
+    status: str
+    state: str
+    told: Told | None = field(hash=False)
     said: tuple[Said, ...]
+    is_begun: bool = False
+
+    # (what follows from these is looked at again and again, for each who asks)
+    word: str = field(init=False, compare=False)
+    is_revoked: bool = field(init=False, compare=False)
+    is_open: bool = field(init=False, compare=False)
+    may_approve: tuple[str, ...] | None = field(init=False, compare=False)
+
+    def __post_init__(self) -> None:
+        """`word` is the one word for it, the relay's own where it has one. `may_approve` is who may
+        approve it now by the desk; None where that is not known. `is_open`: whether anybody waits
+        for what becomes of it (what was revoked while it waited still waits at the desk, but
+        nobody is asked to approve it)."""
+        word, may = self.state or self.status, self.told.may_approve if self.told else None
+        is_revoked = any(it.counts and it.verdict.kind == "revoke" for it in self.said)
+        is_known = word not in (KEPT, UNKNOWN)
+        object.__setattr__(self, "word", word)
+        object.__setattr__(self, "is_revoked", is_revoked)
+        object.__setattr__(self, "is_open", word in OPEN and not is_revoked)
+        object.__setattr__(self, "may_approve", () if is_known and word != "waiting" else may)
 
     @property
     def name(self) -> str:
         return f"{self.request.by} {self.request.no}"
+
+    @property
+    def is_elsewhere(self) -> bool:
+        """Whether another relay brought it."""
+        return self.kept.id < 0
+
+    @property
+    def grant(self) -> Grant | None:
+        return self.told.grant if self.told else None
 
     @property
     def is_cut(self) -> bool:
@@ -69,28 +102,33 @@ class Standing:
         return bool(self.grant and self.grant.ends < of_stamp(self.request.wish.ends))
 
     @property
-    def is_ahead(self) -> bool:
-        """Whether whoever asked may still end it."""
-        return self.state in (State.IN_FORCE, State.COMING, State.WAITING)
+    def is_granted(self) -> bool:
+        """Whether it is in force, or will be."""
+        return self.word == "granted"
 
-    def counted(self) -> list[Said]:
-        """The verdicts that this relay brought, that are at the desk, and that count there."""
-        return [it for it in self.said if it.kept.state == "acked" and not it.barred]
+    @property
+    def is_over(self) -> bool:
+        return self.state in (OVER, ARCHIVED)
+
+    @property
+    def is_in_force(self) -> bool:
+        return self.is_granted and self.is_begun
 
     def approvals(self) -> list[Said]:
-        return [it for it in self.counted() if it.verdict.kind == "approve"]
-
-    def is_approved_by(self, person: str) -> bool:
-        given = [it for it in self.said if it.verdict.kind == "approve" and not it.barred]
-        return any(it.verdict.by == person for it in given if it.kept.state != "refused")
+        return [it for it in self.said if it.counts and it.verdict.kind == "approve"]
 
     def objections(self) -> list[Said]:
-        """Refusals and revocations, by which the desk grants nothing."""
-        return [it for it in self.counted() if it.verdict.kind != "approve"]
+        """The refusals and revocations that count."""
+        return [it for it in self.said if it.counts and it.verdict.kind != "approve"]
+
+    def is_approved_by(self, person: str) -> bool:
+        """Whether a person's approval counts, or is on its way to the desk."""
+        given = [it for it in self.said if it.verdict.kind == "approve" and it.verdict.by == person]
+        return any(it.counts or it.kept.state == "kept" for it in given)
 
     def bar_of(self, verdict: Verdict) -> str:
-        """Why a verdict that was kept does not count."""
-        return next((it.barred for it in self.said if it.verdict == verdict), "")
+        """Why a verdict does not count by the desk's word, where it says so."""
+        return next((it.barred or "" for it in self.said if it.verdict == verdict), "")
 
 
 class Made(NamedTuple):
@@ -102,8 +140,8 @@ class Made(NamedTuple):
     standing: Standing
 
 
-# A grant, and the request where this relay brought it.
-Row = tuple[Grant, Request | None]
+# A grant, and the request that it is of.
+Row = tuple[Grant, Kept]
 
 
 @dataclass(frozen=True, eq=False)
@@ -118,8 +156,10 @@ class Board:
     since: datetime | None
     silence: Silent | None
     open: list[Kept]
+    elsewhere: list[Kept]
     standings: Mapping[int, Standing]
     left: list[Standing]
+    ended: list[Standing]
     rows: list[Row]
     made: Mapping[int, Made]
 
@@ -127,12 +167,18 @@ class Board:
 class Knowledge:
     """What the desk says, asked once while one answer is made."""
 
-    def __init__(self, outbox: Outbox, desk: Desk, roster: Roster, now: datetime) -> None:
+    def __init__(self, outbox: Outbox, desk: AnyDesk, roster: Roster, now: datetime) -> None:
         self.outbox, self.desk, self.roster, self.now = outbox, desk, roster, now
+        self.at = stamp(now)
+        if len(desk.each) > 1:
+            desk.prefer(outbox.owed.lacking())
         self.names: dict[Name, Told | None] = {}
         # (all names are known with a window that reaches this moment or a later one)
         self.since: datetime | None = None
+        # (and with who may approve those that are open)
+        self.is_open_told = False
         self.silence: Silent | None = None
+        self.cut: str | None = None
         self.verdicts: dict[Name, list[Kept]] = {}
         self.board: Board | None = None
         # (what was made before, and what is made here)
@@ -156,185 +202,223 @@ class Knowledge:
 
     def ask_since(self, since: datetime) -> None:
         """Asks for all names with a window that reaches this moment or a later one."""
-        self.names |= self.asked(lambda: self.desk.names(since))
-        self.since = min(since, self.since or since)
+        if self.since and self.since <= since:
+            return
+        found = self.asked(lambda: self.desk.names(since))
+        self.names, self.since = {**found, **self.names}, since
 
-    def ask(self, listed: list[Kept], is_all: bool = False, is_live: bool = False) -> None:
-        """Asks about all of these at once, and for what is in force (`is_live`). Windows that ended
-        before the days that are shown are not asked for, unless older ones are listed (`is_all`);
-        what is left then was revoked long before its end, and is asked for at once too."""
+    def ask_open(self) -> None:
+        """Asks for all names whose window has not ended, and who may approve now what waits."""
+        if not self.is_open_told:
+            self.names |= self.asked(lambda: self.desk.open(self.now))
+            self.is_open_told = True
+
+    def ask(self, listed: Iterable[Kept], is_all: bool = False) -> None:
+        """Asks about all of these at once. Windows that ended before the days that are shown are
+        not asked for, unless older ones are listed (`is_all`); what is left then was revoked long
+        before its end, and is asked for at once too. Where that would bring the names of a year for
+        a few, each is asked for by its own name."""
         asked = [it.request for it in listed if it.state == "acked"]
-        if len(asked) < 2 and not is_live:
+        if len(self.unknown(asked)) < 2:
             return  # (one is asked for by its name)
-        begins = [of_stamp(it.wish.begins) for it in asked]
-        first = min([self.now, *begins])
-        self.ask_since(first if is_all else max(first, self.now - SHOWN_FOR))
-        left = [of_stamp(it.wish.begins) for it in asked if not self.is_known(it)]
+        if any(it.wish.ends >= self.at for it in asked):
+            self.ask_open()
+        left, limit = self.unknown(asked), self.now - SHOWN_FOR
+        if not (is_all and self.are_few(left)):
+            left = [it for it in left if of_stamp(it.wish.begins) >= limit]
         if len(left) > 1:
-            self.ask_since(min(left))
+            self.ask_since(self.first_of(left))
+        left = self.unknown(asked)
+        if len(left) > 1 and self.are_few(left):
+            self.ask_since(self.first_of(left))
+
+    def unknown(self, asked: list[Request]) -> list[Request]:
+        return [it for it in asked if not self.is_known(it)]
+
+    def first_of(self, asked: list[Request]) -> datetime:
+        """When the first of these windows begins; this moment, where none begins before it."""
+        return min([self.now, *(of_stamp(it.wish.begins) for it in asked)])
+
+    def are_few(self, asked: list[Request]) -> bool:
+        """Whether a question about all names since the first of these windows brings no more than
+        it may, as far as this outbox tells."""
+        wanted = Wanted(since=stamp(self.first_of(asked)))
+        return self.outbox.lists.count(wanted) <= MOST_TOLD
 
     def is_known(self, request: Request) -> bool:
         """Whether all is known that the desk holds of a request: its window, which is not before
         the one that it asks for, was asked about."""
-        is_in = self.since is not None and of_stamp(request.wish.begins) >= self.since
-        return is_in or name_of(request) in self.names
+        if (request.by, request.no) in self.names:
+            return True
+        return self.since is not None and of_stamp(request.wish.begins) >= self.since
 
     def told(self, request: Request) -> Told | None:
         """What the desk tells of a request; nothing where it has no message of that name."""
-        name = name_of(request)
-        if not self.is_known(request) and request.by == "after":
-            # (a route of the desk's has that word)
-            self.ask_since(of_stamp(request.wish.begins))
-        elif not self.is_known(request):
-            self.names[name] = self.asked(lambda: self.desk.name(*name))
+        name = request.by, request.no
+        if name not in self.names and not self.is_known(request):
+            self.ask_name(name, of_stamp(request.wish.begins))
+        found = self.names.get(name)
+        # (who may approve it is told together with all that is open)
+        is_asked = found is None or found.status != "waiting" or found.may_approve is not None
+        if is_asked or request.wish.ends < self.at:
+            return found
+        self.ask_open()
         return self.names.get(name)
+
+    def ask_name(self, name: Name, begins: datetime) -> None:
+        if name[0] == "after":
+            # (a route of the desk's has that word)
+            self.ask_since(begins)
+        else:
+            self.names[name] = self.asked(lambda: self.desk.name(*name))
 
     def live(self) -> list[Grant]:
         """What is in force now, whoever brought it."""
         if self.since is None or self.since > self.now:
-            self.ask_since(self.now)
+            self.ask_open()
+        return [it for it in self.grants() if it.begins <= self.now]
+
+    def grants(self) -> list[Grant]:
+        """What is in force or to come, as far as was asked."""
         grants = [it.grant for it in self.names.values() if it and it.grant]
-        found = [it for it in grants if it.begins <= self.now <= it.ends]
+        found = [it for it in grants if self.now <= it.ends]
         return sorted(found, key=lambda it: (it.who, it.no))
 
     def standing(self, kept: Kept) -> Standing:
-        """What became of a request of this relay's."""
+        """What became of a request."""
         if self.board and (made := self.board.standings.get(kept.id)) and made.kept == kept:
             return made
         request = kept.request
         entries = self.verdicts_on(request)
         if kept.state != "acked":
-            state = State.KEPT if kept.state == "kept" else State.REFUSED
-            return Standing(kept, request, state, None, self.said_of(request, entries, {}))
+            state = KEPT if kept.state == "kept" else REJECTED
+            return Standing(kept, request, "", state, None, said_of(entries, None))
         try:
             told = self.told(request)
         except Silent:
-            said = self.said_of(request, entries, {})
-            return Standing(kept, request, State.UNKNOWN, None, said)
-        found = self.made_of(kept, entries, told)
-        state = self.state_of(found)
-        found = found if found.state is state else replace(found, state=state)
+            told = None
+        found = self.of_now(self.made_of(kept, entries, told))
         self.made[kept.id] = Made(kept, entries, told, found)
         return found
 
     def made_of(self, kept: Kept, entries: list[Kept], told: Told | None) -> Standing:
-        """A standing, whose state is still to be told; the one that was made of the same before,
-        where there is one."""
+        """A standing, of whatever moment; the one that was made of the same before, where there is
+        one."""
         was = self.before.get(kept.id)
         if was and was.kept == kept and was.told is told and was.entries == entries:
             return was.standing
-        said = self.said_of(kept.request, entries, told.weights if told else {})
+        status = told.status if told else ""
+        return Standing(kept, kept.request, status, "", told, said_of(entries, told))
+
+    def of_now(self, found: Standing) -> Standing:
+        """Notes whether the window has begun, or ended, by the clock."""
+        told = found.told
         grant = told.grant if told else None
-        return Standing(kept, kept.request, State.WAITING, grant, said)
+        state, is_begun = "" if told else UNKNOWN, grant is not None and grant.begins <= self.now
+        is_over = grant.ends < self.now if grant else found.request.wish.ends < self.at
+        if is_over and found.status in ("granted", "waiting"):
+            state = ARCHIVED if told and self.is_archived(found, told) else OVER
+        if found.state == state and found.is_begun == is_begun:
+            return found
+        return replace(found, state=state, is_begun=is_begun)
+
+    def is_archived(self, found: Standing, told: Told) -> bool:
+        """Whether the desk no longer has what was said of a request that is over: it lacks a
+        verdict that this relay brought and it acknowledged, or its history was cut behind the
+        end, and then nobody knows here what came by others."""
+        brought = [it.verdict for it in found.said if it.kept.state == "acked"]
+        if any(it not in told.weights for it in brought):
+            return True
+        ends = found.request.wish.ends
+        return of_stamp(ends) < self.now - CUT_BEHIND and ends < self.cut_at()
+
+    def cut_at(self) -> str:
+        """Up to which moment the desk's history was cut; empty where it was not, or says
+        nothing."""
+        if self.cut is None:
+            self.cut = ""
+            with suppress(Silent):
+                self.cut = self.asked(self.desk.cut_at)
+        return self.cut
 
     def verdicts_on(self, request: Request) -> list[Kept]:
         """The verdicts that this relay brought on a request."""
         found = self.verdicts.get(name_of(request))
         return self.outbox.verdicts(request.by, request.no) if found is None else found
 
-    def make_board(self, since: datetime, last: Board | None = None) -> Board:
-        """Asks the desk for all names since a moment, and looks at all that is open. What did not
-        change since the last board is not made again."""
+    def make_board(self, since: datetime | None, last: Board | None = None) -> Board:
+        """Asks the desk for all that is open, and for all names since a moment, and looks at what
+        is open. What did not change since the last board is not made again."""
         if last and last.roster is self.roster:
             self.before = last.made
-        found, rows = self.open(), []
         with suppress(Silent):
-            self.ask_since(since)
+            self.ask_open()
+            if since:
+                self.ask_since(since)
+        found, rows = self.open(), self.rows()
         made = self.standings(found)
-        with suppress(Silent):
-            rows = self.rows()
-        standings = {it.kept.id: it for it in made}
-        told = self.names, self.since, self.silence
-        left = left_of(made)
-        return Board(self.now, self.roster, *told, found, standings, left, rows, self.made)
+        return Board(
+            self.now,
+            self.roster,
+            self.names,
+            self.since,
+            self.silence,
+            found,
+            [it for it in found if it.id < 0],
+            {it.kept.id: it for it in made},
+            left_of(made),
+            ended_of(made),
+            rows,
+            self.made,
+        )
 
     def take(self, board: Board) -> None:
         """Knows from here on what stands on a board."""
         self.names, self.since = dict(board.names), board.since
-        self.silence, self.board = board.silence, board
-
-    def state_of(self, found: Standing) -> State:
-        """What can be said of a request that the desk has, by its grant and its verdicts."""
-        if grant := found.grant:
-            if self.now < grant.begins:
-                return State.COMING
-            return State.IN_FORCE if self.now <= grant.ends else State.OVER
-        if found.objections():
-            return State.OBJECTED
-        ends = of_stamp(found.request.wish.ends)
-        return State.LAPSED if ends < self.now else State.WAITING
-
-    def said_of(
-        self, request: Request, entries: list[Kept], weights: Mapping[Verdict, str]
-    ) -> tuple[Said, ...]:
-        """The verdicts on a request, each with the reason why it does not count: the desk's where
-        it weighs the verdict, or the rule's."""
-        verdicts = [it.verdict for it in entries if it.state != "refused"]
-        given = [it for it in verdicts if it.kind == "approve" and not self.bar(request, it)]
-        complete = completed(given, self.roster.ceilings.get(request.wish.ceiling))
-        said = []
-        for kept in entries:
-            verdict, why = kept.verdict, self.bar(request, kept.verdict)
-            if verdict.kind == "refuse" and complete and verdict.at > complete:
-                why = why or "late"
-            if weights.get(verdict) in WEIGHED:
-                why = weights[verdict]
-            if verdict.kind == "revoke" and verdict.at > request.wish.ends:
-                why = why or "over"
-            said.append(Said(kept, verdict, why))
-        return tuple(said)
-
-    def bar(self, request: Request, verdict: Verdict) -> str:
-        """Why nobody with the author's duties at the verdict's moment may give it."""
-        at, label = of_stamp(verdict.at), request.wish.ceiling
-        return self.roster.bar(verdict.kind, verdict.by, request.by, label, at)
+        self.silence, self.board, self.is_open_told = board.silence, board, True
 
     def bar_now(self, standing: Standing, kind: str, person: str) -> str:
-        """Why a verdict that a person would give now would not count, as far as is known here."""
-        wish, asker = standing.request.wish, standing.request.by
-        why = self.roster.bar(kind, person, asker, wish.ceiling, self.now)
-        if not why and kind == "approve" and standing.grant:
-            return "complete"
-        if not why and kind == "refuse" and standing.grant and self.is_past(standing):
-            return "late"
-        if not why and kind == "approve" and standing.state is State.OBJECTED:
-            return "objected"
-        return why or ("over" if of_stamp(wish.ends) < self.now else "")
-
-    def changes_nothing(self, standing: Standing, verdict: Verdict) -> bool:
-        """Whether an approval came when enough others had approved."""
-        ceiling = self.roster.ceilings.get(standing.request.wish.ceiling)
-        counted = [it.verdict for it in standing.said if not it.barred]
-        given = [it for it in counted if it.kind == "approve" and it.by != verdict.by]
-        before = [it for it in given if (it.at, it.by) < (verdict.at, verdict.by)]
-        return verdict.kind == "approve" and bool(completed(before, ceiling))
-
-    def is_past(self, standing: Standing) -> bool:
-        """Whether the moment has passed at which enough people had approved: a refusal of that very
-        second still counts."""
-        ceiling = self.roster.ceilings.get(standing.request.wish.ceiling)
-        counted = [it.verdict for it in standing.said if not it.barred]
-        given = [verdict for verdict in counted if verdict.kind == "approve"]
-        return stamp(self.now) > completed(given, ceiling)
-
-    def is_shown(self, kept: Kept) -> bool:
-        """Whether a request ended not long ago, or has not."""
-        return of_stamp(kept.request.wish.ends) > self.now - SHOWN_FOR
+        """Why a verdict that a person would give now would not count, by what the desk told; a word
+        of telling.BARS_NOW. (Who may revoke it does not tell.)"""
+        if kind == "revoke":
+            about = person, standing.request.by, standing.request.wish.ceiling, self.now
+            may = self.roster.may_revoke(*about)
+            return ("over" if standing.is_over else "") if may else "duty"
+        if standing.is_over:
+            return "over"
+        if standing.status == "granted":
+            return "complete" if kind == "approve" else "late"
+        if standing.status != "waiting":
+            return "ended" if kind == "approve" and standing.status else ""
+        if standing.is_revoked and kind == "approve":
+            return "revoked"
+        if (may_approve := standing.may_approve) is None or person in may_approve:
+            return ""
+        if standing.is_approved_by(person):
+            return "given" if kind == "approve" else ""
+        return "asker" if person == standing.request.by else "others"
 
     def mine(self, person: str, is_all: bool = False) -> list[Standing]:
-        """A person's requests, the newest first."""
-        return self.standings(self.asked_by(person, is_all), is_all)
+        """A person's last requests, the newest first; behind them what another relay brought."""
+        wanted = self.wanted(person, "", is_all)
+        return self.listed(self.outbox.lists.page(wanted), wanted, is_all=is_all)
 
-    def asked_by(self, person: str, is_all: bool = False) -> list[Kept]:
-        """A person's requests of the last days, or all, in the order in which they were kept."""
-        found = self.outbox.requests_of(person)
-        return found if is_all else [it for it in found if self.is_shown(it)]
+    def wanted(self, who: str, host: str, is_all: bool) -> Wanted:
+        """Requests of the last days, or all."""
+        return Wanted(who, host, "" if is_all else stamp(self.now - SHOWN_FOR))
 
-    def history(self, who: str | None, host: str | None, is_all: bool) -> list[Standing]:
-        """What came through this relay, whoever asked, the newest first."""
-        found = self.outbox.requests_of(who) if who else self.outbox.requests()
-        on = [it for it in found if host is None or host in it.request.wish.hosts]
-        return self.standings(on if is_all else [it for it in on if self.is_shown(it)], is_all)
+    def listed(
+        self, kept: list[Kept], wanted: Wanted, page: int = 1, is_all: bool = False
+    ) -> list[Standing]:
+        """What became of a page of requests, the newest first; behind the first page what of such
+        requests another relay brought, as long as they are open."""
+        with suppress(Silent):
+            self.ask_open()
+        found = self.standings(kept, is_all)
+        if page > 1:
+            return found
+        others = self.board.elsewhere if self.board else self.elsewhere()
+        return found + self.standings([it for it in others if wanted.has(it.request)])
 
     def standings(self, listed: list[Kept], is_all: bool = False) -> list[Standing]:
         """What became of requests, the last first. `trouble` says why it is not known."""
@@ -346,74 +430,100 @@ class Knowledge:
         return [self.standing(it) for it in reversed(listed)]
 
     def waiting(self, person: str) -> list[Standing]:
-        """What a person may approve by the roster and did not, the oldest first; behind it what
-        somebody refused or revoked who may."""
-        asked = [it.request for it in self.open()]
-        about = {(it.by, it.wish.ceiling) for it in asked}
-        may = {it for it in about if person in self.roster.approvers(*it, self.now)}
-        if self.board:
-            left = self.board.left
-        else:
-            listed = [it for it in self.open() if about_of(it.request) in may]
-            left = left_of(self.standings(listed))
+        """What a person may approve now by the desk, and what of others is open of which that is
+        not known; the oldest first."""
+        left = self.board.left if self.board else self.left()
         return [
             it
             for it in left
-            if about_of(it.request) in may and not (it.said and it.is_approved_by(person))
+            if (it.request.by != person if (may := it.may_approve) is None else person in may)
+            and not (it.said and it.is_approved_by(person))
         ]
 
+    def left(self) -> list[Standing]:
+        with suppress(Silent):
+            self.ask_open()
+        return left_of(self.standings(self.open()))
+
     def open(self) -> list[Kept]:
-        """Requests that the desk did not refuse, and whose window is not over."""
+        """Requests that the desk did not refuse, and whose window is not over, of nobody more than
+        their share; behind this relay's those of others that the desk told."""
         if self.board:
             return self.board.open
-        found = self.outbox.requests_until(stamp(self.now))
-        return [it for it in found if it.state != "refused"]
+        ours = self.outbox.lists.open(self.at, self.outbox.share.open)
+        return ours + self.elsewhere({(it.message.by, it.message.no) for it in ours})
 
-    def coming(self) -> list[Standing]:
-        """What this relay's people asked for and the desk grants, but not yet."""
-        grants = [it.grant for it in self.names.values() if it and it.grant]
-        ahead = [(it.who, it.no) for it in grants if it.begins > self.now]
-        kept = sorted(self.outbox.requests_on(ahead).values(), key=lambda it: it.id)
-        found = [self.standing(it) for it in kept]
-        return [it for it in found if it.state is State.COMING]
+    def elsewhere(self, ours: set[Name] | None = None) -> list[Kept]:
+        """The open requests that the desk told and that this relay did not bring."""
+        asked = {
+            name: told.requests
+            for name, told in self.names.items()
+            if told and told.requests and name not in (ours or ())
+        }
+        for name in self.outbox.names_here(asked):
+            del asked[name]
+        found = [each[0] for each in asked.values() if max(it.wish.ends for it in each) >= self.at]
+        return [brought_elsewhere(it) for it in sorted(found, key=lambda it: (it.at, it.by, it.no))]
 
     def rows(self) -> list[Row]:
-        """What is in force, whoever brought it, and what this relay's people are granted to
-        come."""
-        live = self.live()
-        asked = self.outbox.requests_on((it.who, it.no) for it in live)
-        brought = [(it, asked.get((it.who, it.no))) for it in live]
-        rows = [(grant, kept.request if kept else None) for grant, kept in brought]
-        return rows + [(it.grant, it.request) for it in self.coming() if it.grant]
+        """What is in force, and behind it what is granted to come, whoever brought it."""
+        grants = self.grants()
+        live = [it for it in grants if it.begins <= self.now]
+        grants = live + [it for it in grants if it.begins > self.now]
+        asked = self.outbox.requests_on((it.who, it.no) for it in grants)
+        return [(it, asked.get((it.who, it.no)) or self.of_grant(it)) for it in grants]
+
+    def of_grant(self, grant: Grant) -> Kept:
+        """The request of a grant that another relay brought."""
+        told = self.names[grant.who, grant.no]
+        assert told is not None
+        return brought_elsewhere(told.requests[0])
+
+    def request(self, of: str, no: int) -> Kept | None:
+        """A request that this relay brought, or else one that the desk holds."""
+        if kept := self.outbox.request(of, no):
+            return kept
+        with suppress(Silent):
+            if (of, no) not in self.names:
+                self.ask_name((of, no), self.now)
+        told = self.names.get((of, no))
+        return brought_elsewhere(told.requests[0]) if told and told.requests else None
 
     def asked_here(self, grant: Grant) -> Kept | None:
         """The request of a grant, where this relay brought it."""
         return self.outbox.request(grant.who, grant.no)
 
 
-def completed(approvals: list[Verdict], ceiling: Ceiling | None) -> str:
-    """The moment at which as many people had approved as the ceiling needs; empty where too few
-    have. Only the earliest approval of each counts."""
-    firsts = sorted({it.by: it.at for it in sorted(approvals, key=at_of, reverse=True)}.values())
-    return firsts[ceiling.needs - 1] if ceiling and len(firsts) >= ceiling.needs else ""
+@lru_cache(maxsize=4_096)
+def brought_elsewhere(message: Request | Verdict) -> Kept:
+    """A message that the desk holds and another relay brought. (Its number is below zero, and its
+    own: no outbox gave it one.)"""
+    text = message.text()
+    digest = hashlib.sha256(text.encode("utf-8")).digest()
+    return Kept(-1 - int.from_bytes(digest[:7], "big"), message, "acked", "", body=text)
+
+
+def said_of(entries: list[Kept], told: Told | None) -> tuple[Said, ...]:
+    """The verdicts on a request, in the order of their moments, with the desk's word on each."""
+    weights = told.weights if told else {}
+    found = [Said(it, it.verdict, weights.get(it.verdict)) for it in entries]
+    if len(weights) > len(found) or not all(it.verdict in weights for it in found):
+        ours = {it.verdict for it in found}
+        others = [(it, why) for it, why in weights.items() if it not in ours]
+        found += [Said(brought_elsewhere(it), it, why) for it, why in others]
+    return tuple(sorted(found, key=lambda it: it.verdict.at))
 
 
 def left_of(standings: list[Standing]) -> list[Standing]:
-    """What still waits of requests that are listed the last first: the oldest first, and behind it
-    what somebody refused or revoked who may."""
-    left = (State.WAITING, State.KEPT, State.UNKNOWN, State.OBJECTED)
-    still = [it for it in reversed(standings) if it.state in left]
-    return sorted(still, key=lambda it: it.state is State.OBJECTED)
+    """What still waits of requests that are listed the last first: the oldest first."""
+    return [it for it in reversed(standings) if it.is_open]
 
 
-def about_of(request: Request) -> tuple[str, str]:
-    """Who asks under which ceiling: it depends on no more who may approve it."""
-    return request.by, request.wish.ceiling
+def ended_of(standings: list[Standing]) -> list[Standing]:
+    """What is open by its window alone: somebody refused or revoked it, or nothing of it is granted
+    for another reason."""
+    return [it for it in reversed(standings) if not it.is_open and it.status != "granted"]
 
 
 def name_of(request: Request) -> Name:
     return request.by, request.no
-
-
-def at_of(verdict: Verdict) -> str:
-    return verdict.at

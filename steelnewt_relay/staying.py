@@ -10,14 +10,12 @@ from steelnewt_relay import telling
 from steelnewt_relay.call import DONE, KEPT, NOT_SENT, Call, Late, admit
 from steelnewt_relay.moments import clock
 from steelnewt_relay.outbox import Kept
-from steelnewt_relay.standing import Standing, State
+from steelnewt_relay.standing import Standing
 from steelnewt_relay.summary import by_reach, few
 from steelnewt_relay.woken import Woken
 from steelnewt_relay.words import unescaped
 
 EVERY = 3.0  # seconds between two looks
-OPEN = (State.WAITING, State.KEPT, State.UNKNOWN)
-GRANTED = (State.IN_FORCE, State.COMING)
 
 
 def wait(call: Call) -> int:
@@ -33,8 +31,8 @@ def stay(call: Call, kept: Kept, status: int = DONE) -> int:
     """Says what becomes of a request as it happens; `status` where the person leaves before it is
     decided, or where the call has taken as long as one may."""
     name = f"{kept.request.by} {kept.request.no}"
-    call.say(f"{name}: waiting. Ctrl-C: it goes on without you.")
     try:
+        call.say(f"{name}: waiting. Ctrl-C: it goes on without you.")
         return followed(call, kept)
     except (KeyboardInterrupt, Late):
         call.say(f"\nIt goes on without you: {call.program} wait {name}")
@@ -50,7 +48,7 @@ def followed(call: Call, kept: Kept) -> int:
             if line not in said:
                 call.say(line)
             said.add(line)
-        if standing.state not in OPEN:
+        if not standing.is_open:
             return decided(call, standing)
         time.sleep(EVERY)
         admit(call.config, call.caller)
@@ -66,11 +64,11 @@ def news(call: Call, standing: Standing) -> list[str]:
 
 def decided(call: Call, standing: Standing) -> int:
     """What became of it; the line to type, where it is granted."""
-    call.say_strong(telling.fate(standing, call.zone, call.roster, now()))
-    if standing.state in GRANTED:
+    call.say_strong(telling.fate(standing, call.zone))
+    if standing.is_granted:
         call.say(sudo_lines(standing.request.wish))
         return DONE
-    return KEPT if standing.state is State.KEPT else NOT_SENT
+    return NOT_SENT
 
 
 def sudo_lines(wish: Wish) -> str:

@@ -6,36 +6,34 @@ from datetime import datetime, timedelta, tzinfo
 from steelnewt_client.codes import in_words
 from steelnewt_client.messages import BadWord, Verdict, Wish
 from steelnewt_client.moments import of_stamp, stamp
-from steelnewt_client.told import Grant
+from steelnewt_client.told import Grant, Told
+from steelnewt_relay import fates
 from steelnewt_relay.letters import plain, wrapped
 from steelnewt_relay.moments import as_asked, shown, spoken
 from steelnewt_relay.outbox import UNASKED, Kept
 from steelnewt_relay.reasons import Demand, Reason
 from steelnewt_relay.roster import Ceiling, Roster
-from steelnewt_relay.standing import Said, Standing, State
+from steelnewt_relay.standing import Said, Standing
 from steelnewt_relay.summary import by_reach, few
 from steelnewt_relay.words import unescaped
 
 DONE = {"approve": "approved", "refuse": "refused", "revoke": "revoked"}
-BARS = {
-    "asker": "nobody approves what they asked for themselves",
-    "duty": "the duty to approve was not held then",
-    "conflict": "a duty that conflicts with approving was held then",
-    "late": "enough people had approved it before; only a revocation ends it now",
-    "over": "its window was over",
-}
-# The same of a verdict that is not given yet, to whoever would give it.
+# Why a verdict would not count that is not given yet, to whoever would give it.
 BARS_NOW = {
     "asker": "you asked for it yourself",
+    "others": "the desk does not name you among those who may approve it now",
+    "given": "you approved it already",
     "duty": "you do not hold the duty to approve under this ceiling now",
-    "conflict": "you hold a duty now that conflicts with approving under this ceiling",
     "late": "enough people have approved it: revoke it, if it is to end",
     "complete": "enough people have approved it already",
-    "objected": "the desk grants nothing of it any more",
+    "ended": "the desk grants nothing of it any more",
+    "revoked": "it was revoked",
     "over": "its window is over",
 }
 # Within which time each host fetches its file (desk-fetch@.timer).
 FETCHED = "within 5 minutes"
+# What another relay brought is marked so.
+ELSEWHERE = "by another way in"
 NOUNS = {"approve": "approval", "refuse": "refusal", "revoke": "revocation"}
 FINDINGS = {
     "LIVE": "grants in force, and whether each is needed",
@@ -148,8 +146,17 @@ def objected(objections: list[str]) -> str:
     return f"The desk will refuse this: {'; '.join(objections)}." if objections else ""
 
 
-def approvals(count: int) -> str:
-    return "1 approval" if count == 1 else f"approvals of {count} people"
+def approvals(count: int, more: str = "") -> str:
+    return f"1{more} approval" if count == 1 else f"approvals of {count}{more} people"
+
+
+def label(standing: Standing) -> str:
+    """The word for what became of a request, what the clock says of a grant, and whether another
+    relay brought it."""
+    found = [standing.word]
+    if standing.is_granted:
+        found.append("in force" if standing.is_begun else "to come")
+    return ", ".join([*found, ELSEWHERE] if standing.is_elsewhere else found)
 
 
 def said_lines(said: Said, zone: tzinfo) -> list[str]:
@@ -162,98 +169,122 @@ def said_line(said: Said, zone: tzinfo) -> str:
     """A verdict on one line: its author, its moment, and why it does not count, if it does not."""
     verdict = said.verdict
     text = f"{verdict.by} {DONE[verdict.kind]} it, {shown(of_stamp(verdict.at), zone)}"
+    if said.is_elsewhere:
+        text += f"; {ELSEWHERE}"
     if said.kept.state == "kept":
         return f"{text}; kept here, not yet at the desk"
     if said.kept.state == "refused":
         return f"{text}; {in_words(said.kept.answer)}"
+    text += f"; {lacking(said.kept)}" if said.kept.lacks else ""
     return f"{text}; {uncounted(said.barred)}" if said.barred else text
+
+
+def lacking(kept: Kept) -> str:
+    """Which desks lack what another has, and what they said; empty where each has it."""
+    listed = [f"{desk} ({said})" if said else desk for desk, said in kept.lacks]
+    return f"not yet at {' and '.join(listed)}" if listed else ""
 
 
 def uncounted(barred: str) -> str:
     """Why a verdict that was given does not count."""
-    return f"it does not count: {BARS.get(barred, barred)}"
+    return f"it does not count: {fates.bar(barred)}"
 
 
 def warning(kind: str, why: str) -> str:
     """What whoever is about to give a verdict has to know, where it would not count."""
     said = BARS_NOW.get(why, why)
-    will = "would change nothing" if why == "complete" else "will not count"
+    will = "would change nothing" if why in ("complete", "given") else "will not count"
     return f"Your {NOUNS[kind]} {will}: {said}." if why else ""
 
 
-def fate(standing: Standing, zone: tzinfo, roster: Roster, now: datetime) -> str:
-    """What became of a request, in one sentence."""
-    state, grant = standing.state, standing.grant
-    if grant:
-        first, last = shown(grant.begins, zone), shown(grant.ends, zone)
-        early = "; it was revoked, so it ends before what was asked for" if standing.is_cut else ""
-        told = {State.IN_FORCE: "is in force", State.OVER: "was in force"}.get(state, "is granted")
-        return f"It {told} from {first} until {last}{early}."
-    if state is State.KEPT:
-        why = f": {standing.kept.answer}" if standing.kept.answer else ""
-        return f"It is kept here and not yet at the desk{why}. It is posted again by itself."
-    if state is State.REFUSED:
-        return f"The desk refused it. {in_words(standing.kept.answer)}"
-    if state is State.UNKNOWN:
-        return "It is at the desk. What became of it is not known now: the desk does not answer."
-    if state is State.OBJECTED:
-        by = ", ".join(
-            f"{it.verdict.by} {DONE[it.verdict.kind]} it" for it in standing.objections()
-        )
-        return f"The desk grants nothing of it: {by}."
-    if state is State.LAPSED:
-        return "Its window is over, and the desk granted nothing of it."
-    return waits_for(standing, roster, now)
+def fate(standing: Standing, zone: tzinfo) -> str:
+    """What became of a request: the sentence of the desk's word, or of the relay's own where the
+    desk told none, and behind it what is told beside the word."""
+    is_archived = standing.state == fates.ARCHIVED
+    word = standing.state if is_archived else standing.status or standing.state
+    return " ".join([fates.sentence(word), *beside(standing, zone)])
 
 
-def waits_for(standing: Standing, roster: Roster, now: datetime) -> str:
-    """What a request without a grant still needs, as far as this relay knows."""
-    wish, asker = standing.request.wish, standing.request.by
+def beside(standing: Standing, zone: tzinfo) -> Iterator[str]:
+    """What stands beside the word of a request."""
+    told, answer = standing.told, standing.kept.answer
+    if standing.state == fates.KEPT and answer:
+        yield f"The last time: {answer}."
+    if standing.state == fates.REJECTED:
+        yield in_words(answer)
+    if told and told.denial:
+        yield in_words(told.denial)
+    if standing.grant:
+        yield window_of(standing, standing.grant, zone)
+    if by := [f"{it.verdict.by} {DONE[it.verdict.kind]} it" for it in standing.objections()]:
+        yield f"{', '.join(by)}."
+    if told and standing.word == "waiting":
+        yield waits_for(standing, told)
+    elif standing.state == fates.OVER and not standing.grant:
+        yield fates.sentence(fates.OVER)
+    if lacks := lacking(standing.kept):
+        yield f"It is {lacks}."
+
+
+def window_of(standing: Standing, grant: Grant, zone: tzinfo) -> str:
+    """From when until when a grant is in force, as the desk tells it."""
+    first, last = shown(grant.begins, zone), shown(grant.ends, zone)
+    early = "; it was revoked, so it ends before what was asked for" if standing.is_cut else ""
+    is_over = standing.state == fates.OVER
+    told = "was in force" if is_over else "is in force" if standing.is_begun else "is granted"
+    return f"It {told} from {first} until {last}{early}."
+
+
+def waits_for(standing: Standing, told: Told) -> str:
+    """What a request still needs, and of whom, as the desk tells it."""
     given = sorted({it.verdict.by for it in standing.approvals()})
-    ceiling = roster.ceilings.get(wish.ceiling)
-    needed = f"It needs {approvals(ceiling.needs)}" if ceiling else "It waits for approvals"
-    left = [it for it in roster.approvers(asker, wish.ceiling, now) if it not in given]
+    needed = f"It needs {approvals(told.lacks, ' more' if given else '')}"
     so_far = f"approved so far by {', '.join(given)}" if given else "nobody approved it yet"
-    may = f"{', '.join(left)} may approve it" if left else "nobody may now"
-    few = bool(ceiling and len(given) + len(left) < ceiling.needs)
-    return f"{needed}; {so_far}; {may}." + (" So it cannot be granted now." if few else "")
+    if (may_approve := standing.may_approve) is None:
+        return f"{needed}; {so_far}; who may approve it now is not known."
+    may = f"{', '.join(may_approve)} may approve it" if may_approve else "nobody may now"
+    few = " So it cannot be granted now." if len(may_approve) < told.lacks else ""
+    return f"{needed}; {so_far}; {may}.{few}"
 
 
-def verdict_fate(
-    kind: str, state: str, answer: str, barred: str = "", is_idle: bool = False
-) -> str:
-    """What became of a verdict when it was posted, and that it does not count or changes nothing,
-    where that is so."""
+def verdict_fate(kept: Kept, barred: str = "") -> str:
+    """What became of a verdict when it was posted, and that it does not count, where that is so."""
+    kind, state, answer = kept.verdict.kind, kept.state, kept.answer
     but = f" But {uncounted(barred)}." if barred else ""
-    if is_idle:
-        but = " But it changes nothing: enough people had approved it before."
     if state == "acked":
-        return f"The desk has your {NOUNS[kind]}.{but}"
+        lacks = f" It is {lacking(kept)}." if kept.lacks else ""
+        return f"The desk has your {NOUNS[kind]}.{lacks}{but}"
     if state == "refused" and answer == UNASKED:
         return f"It was not posted: {answer}."
     if state == "refused":
         return f"The desk refused that. {in_words(answer)}"
-    kept = f"It is kept here and not yet at the desk: {answer}. It is posted again by itself."
-    return kept + but
+    return f"It is kept here and not yet at the desk: {answer}. It is posted again by itself."
 
 
 def on_hosts(kind: str, standing: Standing) -> str:
     """What a verdict means on the hosts, which know what the desk says by their next fetch; empty
     where it changes nothing there."""
-    if kind == "approve" and standing.state is State.IN_FORCE:
+    if kind == "approve" and standing.is_in_force:
         return f"Each host has it with its next fetch, {FETCHED}."
-    if kind != "approve" and standing.is_cut:
+    # (void: it was revoked in its first second)
+    is_ended = standing.is_cut or (kind == "revoke" and standing.status == "void")
+    if kind != "approve" and is_ended:
         return f"Each host takes it away with its next fetch, {FETCHED}: until then sudo allows it."
     return ""
 
 
 def approvable(request: Kept) -> None:
     """Raises where the desk refused the request: an approval would wait there for any other of the
-    same name."""
+    same name. Nor is approved here what came by another relay, which alone knows the reason."""
     if request.state == "refused":
         raise BadWord(
             f"the desk refused {request.request.by} {request.request.no}, so there is nothing to"
             f" approve. {in_words(request.answer)}"
+        )
+    if request.id < 0:
+        raise BadWord(
+            f"{request.request.by} {request.request.no} came by another way in, which shows why it was"
+            " asked: approve it there"
         )
 
 
@@ -269,14 +300,23 @@ def unseen(kind: str, of: str, no: int, open_here: Sequence[int] = ()) -> str:
 
 
 def as_data(standing: Standing) -> dict[str, object]:
-    """A request and what became of it, for scripts."""
-    request, grant = standing.request, standing.grant
+    """A request and what became of it, for scripts: `status` and what belongs to it are the desk's
+    words, `state` is the relay's own."""
+    request, told, grant = standing.request, standing.told, standing.grant
+    may = standing.may_approve if standing.word == "waiting" else None
     return {
         "who": request.by,
         "no": request.no,
-        "state": standing.state.name.lower().replace("_", "-"),
+        "status": standing.status or None,
+        "state": standing.state or None,
+        "window": {"from": stamp(grant.begins), "until": stamp(grant.ends)} if grant else None,
+        "denial": told.denial or None if told else None,
+        "lacks": told.lacks or None if told else None,
+        "may_approve": None if may is None else list(may),
         "refusal": standing.kept.answer if standing.kept.state == "refused" else None,
         "trouble": standing.kept.answer if standing.kept.state == "kept" else None,
+        "elsewhere": standing.is_elsewhere,
+        "lacking": lacking_data(standing.kept),
         "at": request.at,
         "ceiling": request.wish.ceiling,
         "hosts": list(request.wish.hosts),
@@ -285,7 +325,6 @@ def as_data(standing: Standing) -> dict[str, object]:
         "from": request.wish.begins,
         "until": request.wish.ends,
         **standing.kept.reason.data(),
-        "grant": {"from": stamp(grant.begins), "until": stamp(grant.ends)} if grant else None,
         "verdicts": [verdict_data(it) for it in standing.said],
     }
 
@@ -309,19 +348,24 @@ def offer_data(
 
 
 def verdict_data(said: Said) -> dict[str, object]:
+    """A verdict; `counts` and `barred` are the desk's word, null where it told none."""
     verdict: Verdict = said.verdict
     data: dict[str, object] = {"by": verdict.by, "kind": verdict.kind, "at": verdict.at}
-    counts = said.kept.state != "refused" and not said.barred
-    data |= {"state": said.kept.state, "counts": counts, "barred": said.barred or None}
-    return data | {"why": said.kept.reason.why or None}
+    counts = None if said.barred is None else said.counts
+    data |= {"state": said.kept.state, "elsewhere": said.is_elsewhere}
+    data |= {"counts": counts, "barred": said.barred or None}
+    return data | {"lacking": lacking_data(said.kept), "why": said.kept.reason.why or None}
 
 
-def grant_data(grant: Grant, kept: Kept | None) -> dict[str, object]:
-    """A grant in force, for scripts; what is granted where this relay brought the request."""
+def lacking_data(kept: Kept) -> list[dict[str, str]]:
+    """The desks that lack what another has, for scripts."""
+    return [{"desk": desk, "answer": said} for desk, said in kept.lacks]
+
+
+def grant_data(grant: Grant, kept: Kept) -> dict[str, object]:
+    """A grant in force and its request, for scripts."""
     data: dict[str, object] = {"who": grant.who, "no": grant.no, "ceiling": grant.ceiling}
     data |= {"from": stamp(grant.begins), "until": stamp(grant.ends)}
-    if kept:
-        wish = kept.request.wish
-        data |= {"hosts": list(wish.hosts), "runas": wish.runas, "commands": list(wish.commands)}
-        data |= kept.reason.data()
-    return data
+    wish = kept.request.wish
+    data |= {"hosts": list(wish.hosts), "runas": wish.runas, "commands": list(wish.commands)}
+    return data | kept.reason.data() | {"elsewhere": kept.id < 0}

@@ -3,8 +3,8 @@
 from dataclasses import dataclass
 from datetime import datetime, timedelta, tzinfo
 
-from steelnewt_client.messages import Request
 from steelnewt_client.told import Grant
+from steelnewt_relay.outbox import Kept
 
 LEFT, RIGHT, ROW, TOP = 250, 30, 30, 34
 WIDTH = 960
@@ -33,7 +33,7 @@ class Picture:
 
 
 def timeline(
-    rows: list[tuple[Grant, Request | None]], now: datetime, zone: tzinfo
+    rows: list[tuple[Grant, Kept]], now: datetime, zone: tzinfo
 ) -> Picture | None:
     """The windows of grants on one axis, with a line for now."""
     if not rows:
@@ -47,12 +47,9 @@ def timeline(
         return round(LEFT + share * (WIDTH - LEFT - RIGHT), 1)
 
     bars = []
-    for number, (grant, request) in enumerate(rows):
+    for number, (grant, kept) in enumerate(rows):
         x, end = place(grant.begins), place(grant.ends)
-        where = ", ".join(request.wish.hosts) if request else grant.ceiling
-        label = (
-            f"{grant.who} {grant.no} on {where}" if request else f"{grant.who} {grant.no}: {where}"
-        )
+        label = f"{grant.who} {grant.no} on {', '.join(kept.request.wish.hosts)}"
         is_now = grant.begins <= now <= grant.ends
         bars.append(Bar(TOP + number * ROW, x, max(end - x, 3.0), clipped(label), is_now))
     ticks = [(place(at), in_short(at, zone, whole)) for at in marks(first, whole)]

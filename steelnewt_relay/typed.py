@@ -11,7 +11,7 @@ from dataclasses import dataclass
 
 VALUED = (
     "--on", "--as", "--for", "--until", "--from", "--why", "--ticket", "--once", "--zone", "--at",
-    "--who",
+    "--who", "--page",
 )  # fmt: skip
 OWN = (*VALUED[:9], "--yes", "--json", "--again", "--anyway", "--no-wait")
 DAY = re.compile(r"today|tomorrow|in|[0-9]{4}-[0-9]{2}-[0-9]{2}")

@@ -13,7 +13,7 @@ from steelnewt_relay.notices import Notices
 from steelnewt_relay.posting import post_one
 from steelnewt_relay.reasons import Reason
 from steelnewt_relay.sending import told_verdict
-from steelnewt_relay.standing import Knowledge, Standing, State
+from steelnewt_relay.standing import Knowledge, Standing
 from steelnewt_relay.summary import left_of_window, summed_up
 
 Name = tuple[str, int]
@@ -33,7 +33,7 @@ def give_verdicts(call: Call) -> int:
     knowledge = call.knowledge()
     names = call.said.names or [the_only_one(call, knowledge)]
     call.say(f"You are {call.person}.")
-    kept = {name: call.outbox.request(*name) for name in names}
+    kept = {name: knowledge.request(*name) for name in names}
     knowledge.ask([it for it in kept.values() if it])
     standings = {name: knowledge.standing(it) if it else None for name, it in kept.items()}
     for name, standing in standings.items():
@@ -61,7 +61,8 @@ def question_of(call: Call, names: list[Name]) -> str:
 def the_only_one(call: Call, knowledge: Knowledge) -> Name:
     """The one request that waits for this person, where they name none."""
     kind = call.said.command
-    found = [it for it in knowledge.waiting(call.person) if it.state is State.WAITING]
+    left = knowledge.waiting(call.person)
+    found = [it for it in left if it.word == "waiting" and not it.is_elsewhere]
     if kind == "revoke" or len(found) != 1:
         many = ", ".join(it.name for it in found)
         raise BadWord(f"which one? Write {kind} WHO NUMBER" + (f": {many} wait" if many else ""))
@@ -95,15 +96,14 @@ def show_request(
         telling.approvable(standing.kept)
     call.say_strong(f"{of} {no}")
     call.say_lines(telling.brief_lines(standing.kept, call.zone))
-    call.say(telling.fate(standing, call.zone, call.roster, now()))
-    if standing.state is State.WAITING and (left := left_of_window(standing.request.wish, now())):
+    call.say(telling.fate(standing, call.zone))
+    if standing.word == "waiting" and (left := left_of_window(standing.request.wish, now())):
         call.say_strong(f"{left}. For the whole length from now on: let {of} {no}")
 
 
 def open_of(call: Call, of: str) -> list[int]:
     """The numbers of a person's requests that are open."""
-    found = call.outbox.requests_until(stamp(now()))
-    return [it.request.no for it in found if it.request.by == of and it.state != "refused"]
+    return [it.request.no for it in call.outbox.lists.open_of(of, stamp(now()))]
 
 
 def is_vain(call: Call, knowledge: Knowledge, standings: dict[Name, Standing | None]) -> bool:
@@ -137,11 +137,12 @@ def let(call: Call) -> int:
     if kept is None:
         raise BadWord("which one? Write let WHO NUMBER: 'waiting' shows them")
     wish, knowledge = kept.request.wish, call.knowledge()
-    if why := call.roster.bar("approve", call.person, of, wish.ceiling, now()):
+    standing = knowledge.standing(kept)
+    if why := knowledge.bar_now(standing, "approve", call.person):
         raise BadWord(telling.warning("approve", why).rstrip("."))
     if call.config.notify is None:
         raise BadWord(f"nobody is told anything here: write to {of} yourself")
-    event = full_event(call.person, call.config, knowledge, knowledge.standing(kept))
+    event = full_event(call.person, call.config, knowledge, standing)
     Notices(call.outbox).record([event])
     call.say(f"{of} is told: {call.program} again {no} asks for {in_units(wish.length())} anew.")
     call.give_data({"told": of})

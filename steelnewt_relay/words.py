@@ -37,10 +37,10 @@ Without words, at a terminal (ssh -t): what waits, and what you can do.
   let WHO NUMBER    tells whoever asked that you would approve the whole length from now on
   ceilings  what you may ask for, for how long, and who may approve it now
   show WHO NUMBER    one request
-  mine      your requests, the newest last (-l: all of each; --all: older ones too)
+  mine      your requests, the newest last (-l: all of each; --all: older ones too, 100 a --page)
   waiting   what waits for an approval that you may give; what ends first is on top
   live      what is in force now (--at TIME: at another time)
-  history   what anybody asked here (--who NAME, --on HOST, --all, -l)
+  history   what anybody asked here (--who NAME, --on HOST, --all, --page, -l)
   review    the desk's findings, for auditors
   set zone Europe/Berlin    away [FROM] UNTIL    your zone; the days on which nobody calls you
 
@@ -86,6 +86,7 @@ def parser() -> Parser:
         listing.add_argument("-l", "--long", action="store_true")
         if word != "waiting":
             listing.add_argument("--all", action="store_true")
+            listing.add_argument("--page", default="1", metavar="NUMBER")
         if word == "history":
             listing.add_argument("--who", metavar="NAME")
             listing.add_argument("--on", metavar="HOST")
@@ -173,6 +174,8 @@ def parse(line: str) -> argparse.Namespace:
         said.of, said.no = found[0] if found else (None, None)
     if first == "again" and said.no is not None:
         said.no = number_of(said.no)
+    if first in ("mine", "history"):
+        said.page = page_number(said.page)
     if first == "history":
         said.who, said.on = checked_if("person", said.who), checked_if("host", said.on)
     return said
@@ -261,6 +264,13 @@ def prepared(words: list[str]) -> argparse.Namespace:
 def unescaped(command: str) -> str:
     """A command of a message as a person types it."""
     return re.sub(r"\\([,:=])", r"\1", command)
+
+
+def page_number(word: str) -> int:
+    """Which page of a list somebody wants."""
+    if (number := number_of(word)) < 1:
+        raise BadWord("the first page is --page 1")
+    return number
 
 
 def checked_if(kind: str, word: str | None) -> str | None:

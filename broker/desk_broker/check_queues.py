@@ -49,7 +49,8 @@ def main() -> int:
     parser.add_argument("--most", type=int, default=1_000, help="messages that may wait (1000)")
     parser.add_argument("--replicas", type=int, default=3, help="of each queue (3)")
     words = parser.parse_args()
-    rows = [row for row in json.load(sys.stdin) if str(row["name"]).startswith("desk.")]
+    kinds = ("desk.", "first.")
+    rows = [row for row in json.load(sys.stdin) if str(row["name"]).startswith(kinds)]
     found = [fault for row in rows for fault in faults(row, words.most, words.replicas)]
     if not rows:
         found.append("the broker has no queue of a desk: were the definitions imported?")

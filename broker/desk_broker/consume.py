@@ -1,6 +1,7 @@
-"""Takes messages from a desk's queue and posts them to the desk, several at once (flight.py).
+"""Takes messages from a desk's two queues and posts them to the desk, several at once (flight.py).
+What takes rights away has a queue of its own, and its turn first.
 
-A message leaves the queue only when the desk said `ack`, or refused it and the broker confirmed it
+A message leaves its queue only when the desk said `ack`, or refused it and the broker confirmed it
 in the queue of what was refused. Whatever else happens, it is tried again: a message
 may be posted twice, which changes nothing, and none is lost. One consumer for each desk.
 
@@ -20,7 +21,7 @@ import os
 import signal
 import sys
 import time
-from collections.abc import Mapping
+from collections.abc import Mapping, Sequence
 from types import FrameType
 
 import pika
@@ -95,6 +96,27 @@ class Link:
             flight.acknowledged(last)
 
 
+class Lane:
+    """One of a desk's queues, and its messages on their way. Its head comes alone; once that is
+    settled many come at a time."""
+
+    def __init__(self, link: Link, flight: Flight) -> None:
+        self.link, self.flight, self._is_head_alone = link, flight, True
+
+    def begin(self) -> None:
+        if not self.link.take_head(self.flight):
+            self.take_all()
+
+    def take_all(self) -> None:
+        """(where it does not yet)"""
+        if self._is_head_alone:
+            self.link.take_all(self.flight)
+            self._is_head_alone = False
+
+    def is_taking(self) -> bool:
+        return self._is_head_alone or self.link.is_taking()
+
+
 class Consumer:
     """The consumer of one desk; `run` returns when it was asked to stop."""
 
@@ -131,43 +153,50 @@ class Consumer:
         connection = pika.BlockingConnection(parameters)
         try:
             LOG.info("desk %s: connected to %s", self._name, parameters.host)
-            link = Link(connection, names.queue(self._name))
-            flight = Flight(self._name, self._desk, self.tally, self.is_stopping)
+            queues = names.first_queue(self._name), names.queue(self._name)
+            lanes = [
+                Lane(Link(connection, queue), self._flight()) for queue in queues
+            ]
             try:
-                self._carry(link, flight)
+                self._carry(lanes)
             finally:
-                flight.end()
+                for lane in lanes:
+                    lane.flight.end()
         finally:
             close(connection)
 
-    def _carry(self, link: Link, flight: Flight) -> None:
-        """The head of the queue alone; once that is settled many at a time."""
-        is_open = link.take_head(flight)
-        while is_open and not self._stopping:
-            is_open = not self._go_on(link, flight)
-        if not self._stopping:
-            link.take_all(flight)
-        while not self._stopping and link.is_taking():
-            self._go_on(link, flight)
+    def _flight(self) -> Flight:
+        return Flight(self._name, self._desk, self.tally, self.is_stopping)
+
+    def _carry(self, lanes: Sequence[Lane]) -> None:
+        """Posts what comes from these queues until it is time to stop, or one gives no more. None
+        waits for what another's desk does not answer."""
+        for lane in lanes:
+            lane.begin()
+        while not self._stopping and all(lane.is_taking() for lane in lanes):
+            lanes[0].link.wait(min(EMPTY, *(lane.flight.idle_for() for lane in lanes)))
+            for lane in lanes:
+                self._go_on(lane)
             self.tally.tell_if_due()
         if self._stopping:
-            flight.finish()
-            self._settle_done(link, flight)
+            for lane in lanes:
+                lane.flight.finish()
+                self._settle_done(lane)
 
-    def _go_on(self, link: Link, flight: Flight) -> int:
-        """Takes what came from the queue, and posts for a while; how many answers there were."""
-        link.wait(min(EMPTY, flight.idle_for()))
-        flight.go_on(LATER if flight.has_waiting() else LOOK)
-        return self._settle_done(link, flight)
+    def _go_on(self, lane: Lane) -> None:
+        """Posts what came from a queue, for a while."""
+        lane.flight.go_on(LATER if lane.flight.has_waiting() else LOOK)
+        if self._settle_done(lane) and not self._stopping:
+            lane.take_all()
 
-    def _settle_done(self, link: Link, flight: Flight) -> int:
+    def _settle_done(self, lane: Lane) -> int:
         """Takes off the queue what was answered; how many answers there were."""
-        count = 0
-        for delivery, answer in flight.done():
+        count, link = 0, lane.link
+        for delivery, answer in lane.flight.done():
             count += 1
             if self._settle(link.connection, link.refusals, delivery, answer):
                 link.settle(delivery)
-        link.acknowledge(flight)
+        link.acknowledge(lane.flight)
         return count
 
     def _settle(

@@ -63,7 +63,7 @@ def policy(desks: list[str]) -> Json:
         "dead-letter-strategy": "at-least-once", "overflow": "reject-publish",
     }
     return {
-        "vhost": VHOST, "name": "desks", "pattern": rf"^desk\.({names_of})$", "apply-to": "queues",
+        "vhost": VHOST, "name": "desks", "pattern": rf"^(desk|first)\.({names_of})$", "apply-to": "queues",
         "priority": 1, "definition": definition,
     }
 
@@ -77,14 +77,16 @@ def policy_of_refused() -> Json:
 
 
 def topology(desks: list[str]) -> Json:
-    """Every message goes to the queue of every desk; what is refused goes to one queue."""
+    """Every message goes to every desk, by one of its two queues; what is refused goes to one."""
     queues = [names.queue(desk) for desk in desks]
+    firsts = [names.first_queue(desk) for desk in desks]
     return {
         "vhosts": [{"name": VHOST}],
-        "exchanges": [exchange(names.MESSAGES), exchange(names.REFUSED)],
-        "queues": [quorum(name) for name in [*queues, names.REFUSED]],
+        "exchanges": [exchange(it) for it in (names.MESSAGES, names.FIRST, names.REFUSED)],
+        "queues": [quorum(name) for name in [*queues, *firsts, names.REFUSED]],
         "bindings": [
             *(binding(names.MESSAGES, name) for name in queues),
+            *(binding(names.FIRST, name) for name in firsts),
             binding(names.REFUSED, names.REFUSED),
         ],
         "policies": [policy(desks), policy_of_refused()],
@@ -99,10 +101,12 @@ def rights(user: str, write: str, read: str) -> Json:
 
 
 def permissions(desks: list[str], relays: list[str]) -> list[Json]:
-    """A relay publishes, and a desk's consumer reads its own queue and puts refusals by."""
+    """A relay publishes, and a desk's consumer reads its own queues and puts refusals by."""
+    both = f"({names.MESSAGES}|{names.FIRST})"
+    own = {desk: f"({names.queue(desk)}|{names.first_queue(desk)})" for desk in desks}
     return [
-        *(rights(names.RELAY_USER + relay, names.MESSAGES, "") for relay in relays),
-        *(rights(names.DESK_USER + desk, names.REFUSED, names.queue(desk)) for desk in desks),
+        *(rights(names.RELAY_USER + relay, both, "") for relay in relays),
+        *(rights(names.DESK_USER + desk, names.REFUSED, own[desk]) for desk in desks),
         rights(names.READER, "", names.REFUSED),
     ]
 

@@ -2,12 +2,14 @@
 
 from __future__ import annotations
 
+from steelnewt_client.messages import TAKES_AWAY
 from steelnewt_client.names import is_label
 
-MESSAGES = "desk.messages"  # the exchange that relays publish to; each desk's queue is bound to it
-REFUSED = "desk.refused"  # the exchange, and its one queue, for what a desk refuses for good
-RELAY_USER = "relay-"  # a relay's account at the broker is this and the relay's name
-DESK_USER = "desk-"  # so is that of a desk's consumer
+# The exchanges: of what takes rights away, and of all else that relays publish, each with a queue for
+# each desk; and of what a desk refuses for good, with one queue.
+FIRST, MESSAGES, REFUSED = "first.messages", "desk.messages", "desk.refused"
+# Before the name of a relay, or of a desk, this is an account at the broker.
+RELAY_USER, DESK_USER = "relay-", "desk-"
 READER = "refused-reader"  # the account that may read what was refused
 # Why a consumer puts a message by without asking its desk.
 NO_RELAY = "C1 NoRelay"  # an account published it that is no relay's
@@ -34,10 +36,22 @@ def queue(name: str) -> str:
     return f"desk.{desk(name)}"
 
 
+def first_queue(name: str) -> str:
+    """The queue of a desk for what takes rights away."""
+    return f"first.{desk(name)}"
+
+
+def exchange_of(body: bytes) -> str:
+    """Where a message is published: what takes rights away waits for nothing else. (Order decides
+    nothing at a desk, so whoever writes it otherwise only chooses its place.)"""
+    return FIRST if TAKES_AWAY.search(body) else MESSAGES
+
+
 def desk_of(queue: str) -> str | None:
     """The desk whose queue this is."""
-    name = queue.removeprefix("desk.")
-    return name if queue not in (name, REFUSED) and is_label(name) else None
+    kind, _, name = queue.partition(".")
+    is_of_desk = kind in ("desk", "first") and queue != REFUSED
+    return name if is_of_desk and is_label(name) else None
 
 
 def relay_of(user: str | None) -> str | None:

@@ -8,16 +8,19 @@ import itertools
 import time
 from collections import deque
 
+from desk_broker import names
+
 
 class NotConfirmed(Exception):
     """The broker did not confirm the message in time, or no queue takes it."""
 
 
 class Sent:
-    """A message on its way, and the future that tells when it is confirmed."""
+    """A message on its way, the exchange that it is for, and the future that tells when it is
+    confirmed."""
 
     def __init__(self, body: bytes) -> None:
-        self.body = body
+        self.body, self.exchange = body, names.exchange_of(body)
         self.sent_ms = int(time.time() * 1000)
         self.confirmed: concurrent.futures.Future[None] = concurrent.futures.Future()
 
@@ -31,30 +34,36 @@ class Sent:
 
 
 class Outbox:
-    """At most `window` messages are sent and not confirmed. A connection numbers them from 1.
+    """At most `window` messages are sent and not confirmed. A connection numbers them from 1. What
+    takes rights away is sent before all else.
 
     `give` may be called by any thread, all else by the connection's alone.
     """
 
     def __init__(self, window: int) -> None:
         self._window = window
-        self._given: deque[Sent] = deque()
+        self._first: deque[Sent] = deque()
+        self._rest: deque[Sent] = deque()
         self._open: dict[int, Sent] = {}
         self._number = 0
 
     def give(self, sent: Sent) -> None:
-        self._given.append(sent)
+        self._queue_of(sent).append(sent)
+
+    def _queue_of(self, sent: Sent) -> deque[Sent]:
+        return self._first if sent.exchange == names.FIRST else self._rest
 
     def begin(self) -> None:
         """A new connection: what the last one left unconfirmed is sent again, first."""
-        self._given.extendleft(reversed(self._open.values()))
+        for sent in reversed(self._open.values()):
+            self._queue_of(sent).appendleft(sent)
         self._open.clear()
         self._number = 0
 
     def take(self) -> tuple[int, Sent] | None:
         """The next message to send and its number, where there is one and the window has room."""
-        while self._given and len(self._open) < self._window:
-            sent = self._given.popleft()
+        while (given := self._first or self._rest) and len(self._open) < self._window:
+            sent = given.popleft()
             if sent.confirmed.done():
                 continue  # its caller gave up
             self._number += 1
@@ -69,7 +78,8 @@ class Outbox:
 
     def deny(self, last: int, multiple: bool) -> None:
         """The broker could not keep this message, or all up to it: they are sent again."""
-        self._given.extend(self._leave(last, multiple))
+        for sent in self._leave(last, multiple):
+            self.give(sent)
 
     def unroutable(self, number: int) -> None:
         """No queue takes the message: that it is confirmed promises nothing."""

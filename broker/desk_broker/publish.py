@@ -39,7 +39,7 @@ HEARTBEAT = 20  # seconds
 
 
 class Publisher:
-    """Publishes to the exchange of messages, over one connection at a time, in a thread of its own.
+    """Publishes to the exchanges of messages, over one connection at a time, in a thread of its own.
 
     When a connection breaks, what was not confirmed is published again over the next one.
     """
@@ -143,7 +143,7 @@ class Publisher:
         while self._channel is not None and (taken := self._outbox.take()) is not None:
             number, sent = taken
             properties = self._properties(number, sent)
-            self._channel.basic_publish(names.MESSAGES, "", sent.body, properties, mandatory=True)
+            self._channel.basic_publish(sent.exchange, "", sent.body, properties, mandatory=True)
 
     def _properties(self, number: int, sent: Sent) -> pika.BasicProperties:
         return pika.BasicProperties(

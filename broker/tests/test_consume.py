@@ -11,7 +11,7 @@ from typing import Any, cast
 import pika
 import pytest
 from desk_broker import consume, flight
-from desk_broker.consume import Consumer
+from desk_broker.consume import Consumer, Lane
 from desk_broker.consume import Link as RealLink
 from desk_broker.flight import Acks, Delivery, Flight
 from desk_broker.settings import BadSettings, Broker
@@ -293,7 +293,7 @@ def carried(desk: Told, queue: Queue) -> Consumer:
     queue.stop = consumer.stop
     posts = cast(Desk, desk)
     on_its_way = Flight("a", posts, consumer.tally, consumer.is_stopping)
-    consumer._carry(cast(RealLink, queue), on_its_way)
+    consumer._carry([Lane(cast(RealLink, queue), on_its_way)])
     on_its_way.end()
     return consumer
 
@@ -325,6 +325,25 @@ def test_what_is_not_settled_stays_when_it_is_time_to_stop() -> None:
     desk = Told([TAKEN, BUSY], lambda: len(desk.posted) == 2 and queue.stop())
     consumer = carried(desk, queue)
     assert (queue.acknowledged, consumer.tally.taken) == (1, 1)
+
+
+def test_what_takes_rights_away_waits_for_no_other() -> None:
+    """The desk takes nothing of the one queue; what is in the other is taken all the same."""
+    consumer = Consumer("a", cast(Desk, None), BROKER)
+    firsts, rest = Queue([b"%d" % number for number in range(20)]), Queue([b"1", b"2"])
+    firsts.stop, rest.stop = consumer.stop, lambda: None
+    desks = Told([TAKEN] * 20), Told([BUSY] * 10_000)
+    flights = [
+        Flight("a", cast(Desk, it), consumer.tally, consumer.is_stopping) for it in desks
+    ]
+    lanes = [
+        Lane(cast(RealLink, queue), it) for queue, it in zip((firsts, rest), flights, strict=True)
+    ]
+    consumer._carry(lanes)
+    for each in flights:
+        each.end()
+    assert (firsts.acknowledged, rest.acknowledged) == (20, 0)
+    assert {body for _, body in desks[1].posted} == {b"1"}
 
 
 def test_it_reads_its_settings(tmp_path: Path) -> None:

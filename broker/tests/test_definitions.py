@@ -13,7 +13,9 @@ from typing import Any
 import pytest
 from desk_broker import definitions, names
 
-OWN = ("desk.a", "desk.b", "desk.messages", "desk.refused")
+OWN = (
+    "desk.a", "desk.b", "first.a", "first.b", "desk.messages", "first.messages", "desk.refused",
+)
 EXAMPLE = pathlib.Path(__file__).resolve().parents[2] / "examples" / "broker" / "definitions.json"
 
 
@@ -23,13 +25,16 @@ def test_the_example_is_what_three_desks_need() -> None:
 
 def test_every_queue_is_replicated_and_bound() -> None:
     made: dict[str, Any] = definitions.topology(["a", "b"])
-    assert {queue["name"] for queue in made["queues"]} == {"desk.a", "desk.b", "desk.refused"}
+    assert {queue["name"] for queue in made["queues"]} == {
+        "desk.a", "desk.b", "first.a", "first.b", "desk.refused"
+    }
     for queue in made["queues"]:
         assert queue["durable"]
         assert queue["arguments"]["x-queue-type"] == "quorum"
     pairs = {(each["source"], each["destination"]) for each in made["bindings"]}
     assert pairs == {
-        ("desk.messages", "desk.a"), ("desk.messages", "desk.b"), ("desk.refused", "desk.refused")
+        ("desk.messages", "desk.a"), ("desk.messages", "desk.b"), ("desk.refused", "desk.refused"),
+        ("first.messages", "first.a"), ("first.messages", "first.b"),
     }
 
 
@@ -37,7 +42,7 @@ def test_what_leaves_a_desks_queue_goes_to_the_refused_ones() -> None:
     made: dict[str, Any] = definitions.topology(["a", "b"])
     [policy] = [it for it in made["policies"] if it["name"] == "desks"]
     covered = [name for name in (*OWN, "desk.c", "deskxa") if re.search(policy["pattern"], name)]
-    assert covered == ["desk.a", "desk.b"]
+    assert covered == ["desk.a", "desk.b", "first.a", "first.b"]
     assert policy["definition"]["dead-letter-exchange"] == names.REFUSED
     assert policy["definition"]["dead-letter-strategy"] == "at-least-once"
     # (fewer would put by what a desk that is down cannot take)
@@ -67,9 +72,10 @@ def test_no_account_may_do_more_than_its_part() -> None:
         if may(granted, each["user"], right, name)
     }
     assert allowed == {
-        ("relay-web", "write", "desk.messages"),
+        ("relay-web", "write", "desk.messages"), ("relay-web", "write", "first.messages"),
         ("desk-a", "read", "desk.a"), ("desk-a", "write", "desk.refused"),
         ("desk-b", "read", "desk.b"), ("desk-b", "write", "desk.refused"),
+        ("desk-a", "read", "first.a"), ("desk-b", "read", "first.b"),
         ("refused-reader", "read", "desk.refused"),
     }
 

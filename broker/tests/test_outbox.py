@@ -94,6 +94,24 @@ def test_a_late_confirmation_of_what_was_given_up_is_passed_over() -> None:
     outbox.unroutable(1)
 
 
+def test_what_takes_rights_away_is_sent_first() -> None:
+    """Also what a broken connection left, and what the broker denied."""
+    outbox = Outbox(2)
+    sent = [Sent(b'{"kind":"%s"}' % kind) for kind in (b"request", b"approve", b"revoke", b"refuse")]
+    for each in sent:
+        outbox.give(each)
+    outbox.begin()
+    assert [it for _, it in taken(outbox)] == [sent[2], sent[3]]
+    assert {it.exchange for it in sent[2:]} == {"first.messages"}
+    assert {it.exchange for it in sent[:2]} == {"desk.messages"}
+    outbox.begin()
+    assert [it for _, it in taken(outbox)] == [sent[2], sent[3]]
+    outbox.deny(1, multiple=False)
+    assert [it for _, it in taken(outbox)] == [sent[2]]
+    outbox.confirm(3, multiple=True)
+    assert [it for _, it in taken(outbox)] == [sent[0], sent[1]]
+
+
 class Confirms:
     """A publisher that confirms all but the third."""
 

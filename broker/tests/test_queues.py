@@ -35,6 +35,9 @@ def test_each_fault_has_a_line() -> None:
     assert check(row("desk.a", consumers=0)) == (
         1, ["desk.a: no consumer: its desk gets nothing"]
     )
+    assert check(row("first.a", consumers=0)) == (
+        1, ["first.a: no consumer: its desk gets nothing"]
+    )
     assert check(row("desk.a", consumers=2)) == (1, ["desk.a: 2 consumers: one is enough"])
     assert check(row("desk.a", online=2)) == (1, ["desk.a: 2 of 3 replicas are there"])
     assert check(row("desk.refused", 1, 0)) == (

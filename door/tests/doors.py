@@ -2,6 +2,7 @@
 
 import atexit
 import contextlib
+import hashlib
 import io
 import os
 import re
@@ -19,7 +20,7 @@ from pathlib import Path
 
 from relays.tests.site import PATIENCE, Site
 from steelnewt_client.desk import Desk
-from steelnewt_client.messages import Request, Verdict, Wish
+from steelnewt_client.messages import Request, Verdict, Wish, canonical
 from steelnewt_client.moments import now, stamp
 from steelnewt_client.signed import LIST, NAMESPACE, Signed, digest, list_payload, list_signature
 from steelnewt_door import program as door_program
@@ -44,6 +45,8 @@ listen = "unix:{folder}/door.sock"
 root = "unix:{folder}/root/desk.sock"
 signers = "{folder}/signers"
 journal = "{folder}/journal"
+answers = "unix:{folder}/answers.sock"
+file_key = "{folder}/key"
 late = 3600
 """
 
@@ -249,6 +252,12 @@ class Doored:
     def held(self) -> list[str]:
         """The messages that the desk holds."""
         return [it for it in self.all_held() if self.is_mine(it)]
+
+
+def chained(row: Row) -> str:
+    """The digest of a row, which has the one before it in itself."""
+    told = {name: value for name, value in row.items() if name != "chain"}
+    return hashlib.sha256(canonical(told).encode("utf-8")).hexdigest()
 
 
 def posted(body: bytes, relay: str = "chat") -> bytes:

@@ -14,9 +14,12 @@ from pathlib import Path
 
 import pytest
 
+from door.tests.doors import chained
 from steelnewt_client.signed import Signed
 from steelnewt_door.journal import BadJournal, Full, Journal, Room, files_of, rows_of
-from steelnewt_door.rows import BadRow, Row, answered, came, chained, line_of, read_row
+from steelnewt_door.rows import (
+    BadRow, Last, Row, answered, came, draft_of, following, line_of, read_row,
+)  # fmt: skip
 
 AT, SITE = "20260105090000Z", "desk.example"
 PLACES = int(os.environ.get("PLACES", "12"))
@@ -334,6 +337,23 @@ def test_what_is_no_row() -> None:
     ):  # fmt: skip
         with pytest.raises(BadRow):
             read_row(strange)
+
+
+ODD = ('"no":0,', '"before":""', ',"chain":""', "\\", "\x00\x1f\x7f", "\u00fc\u2028", "a\tb\n")
+
+
+@pytest.mark.parametrize("text", ODD)
+def test_a_rows_text(text: str) -> None:
+    """Any text in a row is written as JSON writes it, and comes back."""
+    signed = Signed(text, text, text, text)
+    drafts = [came(signed, AT, (text, text), text, text, text), answered(3, AT, text, text)]
+    for draft in drafts:
+        last, line = following(Last(6, "f" * 64), draft_of(draft)[0])
+        found = json.loads(line)
+        words = json.dumps(found, sort_keys=True, separators=(",", ":"), ensure_ascii=False)
+        assert line == words.encode() + b"\n" and read_row(line) == found
+        assert (last.no, last.chain) == (7, chained(found)) == (found["no"], found["chain"])
+        assert found == draft | {"no": 7, "before": "f" * 64, "chain": last.chain}
 
 
 def test_a_limit_of_the_system(folder: str) -> None:

@@ -1,6 +1,11 @@
-"""How many messages a second the door takes, and what it asks of the processor for each."""
+"""How many messages a second the door takes, and what it asks of the processor for each.
+
+On a disk that says at once that it has a row, the rate is that of the processors. So the long form
+also measures where each sync takes longer, of the desk and the door alike. (strace is no way to
+make it so: it holds up each call of a thread, or of a process that was forked.)"""
 
 import os
+import subprocess
 import tempfile
 import threading
 import time
@@ -24,6 +29,7 @@ COUNT, AT_ONCE, ROUNDS = (1_000 if IS_LONG else 100), 8, (3 if IS_LONG else 1)
 # What a message may cost the door of a processor, in signatures that are made and judged here: a
 # machine that is slow or busy takes longer for both. (One of GATE.md's does 200 a second then.)
 MOST_SIGNATURES = 20
+SLOW_SYNC = Path(__file__).with_name("slow_sync.c")
 TICKS = os.sysconf("SC_CLK_TCK")
 
 
@@ -63,11 +69,35 @@ def posted(post: Callable[[Signed], str], signed: list[Signed]) -> float:
     return len(signed) / took
 
 
-class Rated:
-    """A site, and somebody whose signatures are made in this process."""
+def of_a_sync(folder: Path) -> float:
+    """The seconds that a disk takes to have a row: the middle of many."""
+    took = []
+    with open(folder / "rows", "ab", buffering=0) as file:
+        for _ in range(101):
+            begins = time.monotonic()
+            file.write(bytes(800))
+            os.fdatasync(file.fileno())
+            took.append(time.monotonic() - begins)
+    return sorted(took)[50]
 
-    def __init__(self, folder: Path) -> None:
+
+def held_up(folder: Path, name: str, more: int) -> list[str]:
+    """The words before a program's own that make each of its syncs take milliseconds more."""
+    if not more:
+        return []
+    shim = folder / "slow_sync.so"
+    subprocess.run(["cc", "-O2", "-shared", "-fPIC", "-o", shim, SLOW_SYNC], check=True)
+    return ["env", f"LD_PRELOAD={shim}", f"SYNC_MORE={more}", f"SYNC_LOG={folder}/{name}.syncs"]
+
+
+class Rated:
+    """A site, and somebody whose signatures are made in this process. Each sync may take so many
+    milliseconds more than it does here."""
+
+    def __init__(self, folder: Path, more: int = 0) -> None:
         self.doored = Doored(folder)
+        self.doored.prefix = held_up(folder, "door", more)
+        self.doored.site.before = held_up(folder, "desk", more)
         self.person = Person("olga", Ed25519PrivateKey.generate())
         form = (Encoding.OpenSSH, PublicFormat.OpenSSH)
         public = self.person.key.public_key().public_bytes(*form)
@@ -129,9 +159,16 @@ def test_how_many_in_memory(in_memory: Rated) -> None:
 
 
 @pytest.mark.skipif(not IS_LONG, reason="the long form alone measures the machine")
-def test_how_many_on_a_disk(tmp_path: Path) -> None:
-    rated = Rated(tmp_path)
+@pytest.mark.parametrize("more", [0, 1, 3])
+def test_how_many_on_a_disk(tmp_path: Path, more: int) -> None:
+    sync, rated = 1000 * of_a_sync(tmp_path), Rated(tmp_path, more)
     alone, behind = rated.rates()
     rated.doored.close()
-    print(f"on the disk: {alone:.0f} a second by the desk alone, {behind:.0f} through the door")
+    if more:
+        for name in ("desk", "door"):
+            assert (tmp_path / f"{name}.syncs").stat().st_size > ROUNDS, name
+    print(
+        f"on a disk whose sync takes {sync:.2f} ms and {more} ms more: {alone:.0f} a second by the"
+        f" desk alone, {behind:.0f} through the door, {behind / alone:.2f} of that"
+    )
     assert behind >= alone / 2

@@ -35,8 +35,9 @@ def test_a_grant_needs_two_signatures(doored: Doored) -> None:
 
 def test_the_journal_has_what_was_refused(doored: Doored) -> None:
     """A refusal of the door's, once; and one of the desk's."""
+    request = doored.request()
     for _ in range(3):
-        assert doored.post(doored.request()) == "P20 NotSigned"
+        assert doored.post(request) == "P20 NotSigned"
     outside = doored.sign("ann", doored.request(no=2, command="/usr/bin/who"))
     assert doored.post(outside) == "A6 CommandOutside"
     assert doored.codes() == ["P20 NotSigned", "A6 CommandOutside"]

@@ -14,7 +14,7 @@ import pytest
 from cryptography.hazmat.primitives.asymmetric.ed25519 import Ed25519PrivateKey
 from cryptography.hazmat.primitives.serialization import Encoding, PublicFormat
 
-from door.tests.doors import SITE, Doored, ran
+from door.tests.doors import SITE, Doored, chained, ran
 from door.tests.security_key import sshsig
 from steelnewt_client.desk import Desk
 from steelnewt_client.messages import Request, Verdict, Wish
@@ -25,7 +25,7 @@ from steelnewt_door.changes import Two
 from steelnewt_door.changing import Changing
 from steelnewt_door.journal import Journal, files_of
 from steelnewt_door.judge import Judge, print_of_blob
-from steelnewt_door.rows import answered, came, chained, line_of, read_row
+from steelnewt_door.rows import answered, came, line_of, read_row
 from steelnewt_door.signers import Signer, Signers
 from steelnewt_door.wire import wire
 

@@ -5,7 +5,8 @@
     check_desk.py --store /var/lib/desk/desk.db           (beside the desk: its size and its disk)
     check_desk.py --certificate /etc/desk/front/server.pem --crl /etc/desk/front/crl.pem
                   --front-pid /run/nginx.pid              (beside the front)
-    check_desk.py --outbox /var/lib/desk-relay/outbox.db  (beside a relay: its oldest message, its disk)
+    check_desk.py --outbox /var/lib/desk-relay/outbox.db  (beside a relay: its oldest message and
+                  notice, who asked most within a day, its disk)
     check_desk.py --program /usr/bin/desk                 (whether this program is proved)
     check_desk.py --file /etc/sudoers.d/desk              (on a host: how old its file is)
     check_desk.py --backup /srv/desk-backup               (the last backup, and the last drill of one)
@@ -56,6 +57,8 @@ FIGURES = {
     "desk_broad": "commands in force that are ALL or a directory",
     "desk_messages": "messages that the desk holds",
     "desk_memory_percent": "how much of its memory the messages may need",
+    "desk_memory_bytes": "the memory that the desk's unit has",
+    "desk_memory_limit_bytes": "the memory that the desk's unit may have",
     "desk_roster_percent": "how much is used of that limit of rosters of which most is used",
     "desk_disputed": "names under which several requests were asked, one of them within a day",
     "desk_parked": "verdicts whose request has not come",
@@ -69,6 +72,11 @@ FIGURES = {
     "desk_crl_seconds": "the time until the first of the lists of revoked certificates ends",
     "desk_outbox_waiting": "messages that a relay keeps and the desk has not answered",
     "desk_outbox_oldest_seconds": "the age of the oldest of them",
+    "desk_notices_waiting": "events that a relay has not told to anybody",
+    "desk_notices_oldest_seconds": "the time since the oldest of them was to be told",
+    "desk_notices_given_up": "events of the last week that could not be told for a day",
+    "desk_notices_looked_seconds": "the time since a relay looked for what is to be told",
+    "desk_asked_most": "messages of the person who sent most of them to a relay within a day",
     "desk_backup_age_seconds": "the age of the last whole backup",
     "desk_drill_age_seconds": "the time since a backup was last tried",
     "desk_host_file_age_seconds": "the age of the host's file since its last fetch",
@@ -79,7 +87,7 @@ LOOKED_AT = ("desk", "store", "certificate", "crl", "outbox", "file", "program",
 LIMITS = (
     ("days", 30, 7, "days that a certificate or a list of revoked ones still holds", True),
     ("free", 15, 5, "percent of the store's or the outbox's disk that are free", True),
-    ("waits", 300, 3600, "seconds for which a relay's message waits", False),
+    ("waits", 300, 3600, "seconds for which a relay's message or notice waits", False),
 )
 # What a message may need of the desk's memory, in bytes.
 A_MESSAGE = 2048
@@ -94,6 +102,8 @@ ROSTER_MOST = {
     "ceilings": 1024,
 }
 PERSON_MOST = 256
+# How many of an outbox's last messages are looked at for who sent most.
+MOST_COUNTED = 50_000
 # From how many percent of one of them on somebody is told.
 NEAR = 90
 # What one clock may be ahead of another, in seconds.
@@ -293,16 +303,19 @@ def last_backup(folder: str) -> str:
     return max(whole)
 
 
-def memory_of(unit: str) -> int:
-    """How many bytes a unit may have, or else the machine."""
-    words = ["systemctl", "show", "--property=LoadState", "--property=MemoryMax", "--", unit]
+def memory_of(unit: str) -> tuple[int, int | None]:
+    """How many bytes a unit may have, or else the machine; and how many it has, where that is
+    known."""
+    names = [f"--property={it}" for it in ("LoadState", "MemoryMax", "MemoryCurrent")]
+    words = ["systemctl", "show", *names, "--", unit]
     ran = subprocess.run(words, capture_output=True, text=True, check=False)
     told = dict(line.partition("=")[::2] for line in ran.stdout.splitlines())
     if told.get("LoadState") != "loaded":
         raise ValueError(ran.stderr.strip() or "systemd has no such unit")
     machine = os.sysconf("SC_PHYS_PAGES") * os.sysconf("SC_PAGE_SIZE")
-    limit = told.get("MemoryMax", "")
-    return min(machine, int(limit)) if limit.isdecimal() else machine
+    limit, has = told.get("MemoryMax", ""), told.get("MemoryCurrent", "")
+    most = min(machine, int(limit)) if limit.isdecimal() else machine
+    return most, int(has) if has.isdecimal() else None
 
 
 def shares(path: str, roster: dict) -> dict[str, int]:
@@ -408,18 +421,64 @@ def front_started(path: str) -> float:
     return min(map(started, workers or [first]))
 
 
-def waiting(path: str, now: float) -> tuple[int, int]:
+def opened(path: str) -> sqlite3.Connection:
+    """An outbox, which nothing is written into."""
+    os.stat(path)
+    return sqlite3.connect(f"file:{urllib.parse.quote(path)}?mode=ro", uri=True, timeout=20)
+
+
+def waiting(base: sqlite3.Connection, now: float) -> tuple[int, int]:
     """How many messages an outbox keeps that the desk has not answered, and the age of the oldest
     one."""
-    os.stat(path)
-    base = sqlite3.connect(f"file:{urllib.parse.quote(path)}?mode=ro", uri=True, timeout=20)
-    try:
-        bodies = [row[0] for row in base.execute("SELECT body FROM messages WHERE state = 'kept'")]
-    finally:
-        base.close()
+    bodies = [row[0] for row in base.execute("SELECT body FROM messages WHERE state = 'kept'")]
     texts = [json.loads(body)["at"] for body in bodies]
     moments = [datetime.datetime.strptime(text, "%Y%m%d%H%M%S%z") for text in texts]
     return len(bodies), max((int(now - it.timestamp()) for it in moments), default=0)
+
+
+def notices(base: sqlite3.Connection, now: float) -> dict[str, int]:
+    """What a relay has to tell, where it tells people of anything: `looked` is made by the first
+    look."""
+    tables = {row[0] for row in base.execute("SELECT name FROM sqlite_schema WHERE type = 'table'")}
+    if not {"notices", "looked"} <= tables:
+        return {}
+    due = base.execute("SELECT count(*), min(began) FROM notices WHERE state = 'due'").fetchone()
+    given_up = "SELECT count(*) FROM notices WHERE state = 'given up' AND began > ?"
+    lost = base.execute(given_up, (now - 8 * DAY,)).fetchone()[0]
+    looked = base.execute("SELECT at FROM looked").fetchone()[0]
+    found = {"desk_notices_waiting": due[0], "desk_notices_given_up": lost}
+    found["desk_notices_oldest_seconds"] = max(0, int(now - (due[1] or now)))
+    return found | {"desk_notices_looked_seconds": max(0, int(now - looked))}
+
+
+def asked_most(base: sqlite3.Connection, now: float) -> tuple[int, int, str]:
+    """How many messages came within a day, and how many of them from whom who sent most."""
+    since = stamp(now - DAY)
+    rows = base.execute(
+        "SELECT by, count(*) FROM messages WHERE body ->> '$.at' > ?"
+        " AND id > (SELECT max(id) FROM messages) - ? GROUP BY by ORDER BY 2 DESC",
+        (since, MOST_COUNTED),
+    ).fetchall()
+    return (sum(row[1] for row in rows), rows[0][1], rows[0][0]) if rows else (0, 0, "")
+
+
+def lagging(path: str, now: float) -> list[tuple[str, int, int, str]]:
+    """Each of several desks that lacks messages of an outbox: how many, for how many seconds one of
+    them, and what it said last."""
+    base = sqlite3.connect(f"file:{urllib.parse.quote(path)}?mode=ro", uri=True, timeout=20)
+    try:
+        # (a relay of before 0.20 posts to one desk)
+        tables = {name for (name,) in base.execute("SELECT name FROM sqlite_master")}
+        if "owed" not in tables or len(base.execute("SELECT 1 FROM desks").fetchall()) < 2:
+            return []
+        rows = base.execute(
+            "SELECT desk, count(*), min(since), (SELECT answer FROM owed AS last WHERE"
+            " last.desk = owed.desk AND answer <> '' ORDER BY tried DESC LIMIT 1)"
+            " FROM owed GROUP BY desk ORDER BY desk"
+        )
+        return [(desk, count, int(now - since), said or "") for desk, count, since, said in rows]
+    finally:
+        base.close()
 
 
 @dataclasses.dataclass
@@ -482,11 +541,14 @@ class Found:
                 self.warning.append(f"{self.figures[name]} {said}")
 
     def unit(self, name: str) -> None:
-        messages, memory = self.figures["desk_messages"], memory_of(name)
+        messages, (memory, has) = self.figures["desk_messages"], memory_of(name)
         self.figures["desk_memory_percent"] = share = 100 * A_MESSAGE * messages // memory
+        self.figures["desk_memory_limit_bytes"] = memory
+        self.figures |= {} if has is None else {"desk_memory_bytes": has}
         if share >= 50:
             said = f"{messages} messages may need {share} % of the memory of {name}"
-            self.warning.append(f"{said}: restart it, or give the machine more")
+            less = "cut its history (desk-change-roster --cut)"
+            self.warning.append(f"{said}: restart it, {less}, or give the machine more")
 
     def roster(self, path: str) -> None:
         roster = roster_of(path)
@@ -537,17 +599,43 @@ class Found:
             self.warning.append(f"{path} is NOT PROVED: it is for trials")
 
     def outbox(self, path: str) -> None:
-        os.stat(path)
+        base = opened(path)
+        try:
+            self.outbox_of(path, base)
+        finally:
+            base.close()
+
+    def outbox_of(self, path: str, base: sqlite3.Connection) -> None:
         left = free(path)
         self.limit("free", left, f"{left} % of the outbox's disk are free")
         if not os.path.exists(os.path.join(os.path.dirname(path), RESERVE)):
             self.critical.append(f"the disk of {path} is full: {ALONE}")
-        count, age = waiting(path, self.now)
+        count, age = waiting(base, self.now)
         self.figures |= {"desk_outbox_waiting": count, "desk_outbox_oldest_seconds": max(0, age)}
         self.figures["desk_outbox_free_percent"] = left
         if age < -AHEAD:
             raise ValueError("it has a message from the future: look at the clock")
         self.limit("waits", age, f"{count} messages wait in {path}, one for {age} seconds")
+        for desk, count, age, said in lagging(path, self.now):
+            why = f": {said}" if said else ""
+            self.limit("waits", age, f"{desk} lacks {count} messages, one for {age} seconds{why}")
+        every, most, person = asked_most(base, self.now)
+        self.figures["desk_asked_most"] = most
+        if most:
+            self.remarks.append(f"within a day {person} sent {most} of {every} messages")
+        self.figures |= (told := notices(base, self.now))
+        if told:
+            self.notices(told)
+
+    def notices(self, told: dict[str, int]) -> None:
+        """Whether anybody is told of what happens."""
+        count, age = told["desk_notices_waiting"], told["desk_notices_oldest_seconds"]
+        self.limit("waits", age, f"{count} events are not told to anybody, one for {age} seconds")
+        age = told["desk_notices_looked_seconds"]
+        said = f"nobody looked for {age} seconds at what is to be told: look at desk-relay-notify"
+        self.limit("waits", age, said)
+        if lost := told["desk_notices_given_up"]:
+            self.warning.append(f"{lost} events could not be told for a day, and are given up")
 
     def backup(self, path: str) -> None:
         age = int(self.now - moment_of(last_backup(path)))

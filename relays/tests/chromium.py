@@ -1,10 +1,11 @@
 """A browser for tests: Debian's chromium, driven by selenium. It needs nothing else of this folder:
 tests/documents/check_team.py puts it on a machine that has the packages alone."""
 
+from collections.abc import Callable
 from pathlib import Path
 
 from selenium import webdriver
-from selenium.common.exceptions import NoSuchElementException, StaleElementReferenceException
+from selenium.common.exceptions import WebDriverException
 from selenium.webdriver.chrome.service import Service
 from selenium.webdriver.common.by import By
 from selenium.webdriver.support.wait import WebDriverWait
@@ -38,6 +39,17 @@ def browser(
     return found
 
 
+def wait_until(
+    driver: webdriver.Chrome,
+    check: Callable[[webdriver.Chrome], bool],
+    said: str,
+    seconds: float = 90,
+) -> None:
+    """Waits until a check holds. While one page makes way for another its elements are gone, and
+    chromedriver says so in several ways, one of which has no name of its own."""
+    WebDriverWait(driver, seconds, ignored_exceptions=[WebDriverException]).until(check, said)
+
+
 def see(driver: webdriver.Chrome, *pieces: str) -> None:
     """Waits until the page has these texts."""
 
@@ -45,8 +57,7 @@ def see(driver: webdriver.Chrome, *pieces: str) -> None:
         text = each.find_element(By.TAG_NAME, "body").text
         return all(piece in text for piece in pieces)
 
-    faults = [NoSuchElementException, StaleElementReferenceException]
-    WebDriverWait(driver, 90, ignored_exceptions=faults).until(is_there, str(pieces))
+    wait_until(driver, is_there, str(pieces))
 
 
 def press(driver: webdriver.Chrome, selector: str) -> None:

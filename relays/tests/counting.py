@@ -35,7 +35,7 @@ class Counter:
             given = peer.recv(65536)
             line = given.partition(b"\r\n")[0].decode("ascii").removesuffix(" HTTP/1.1")
             self.lines.append(line)
-            if self.is_old and "/v1/requests" in line:
+            if self.is_old and ("/v1/requests" in line or "/v1/open" in line):
                 peer.sendall(NO_ROUTE)
                 return
             desk.connect(self.desk)

@@ -63,6 +63,7 @@ class Front:
         shipped = shipped.replace("/run/desk-relay/page.sock", str(site.socket))
         shipped = shipped.replace("/etc/desk/front/", f"{self.folder}/ca/")
         shipped = shipped.replace("/etc/desk", str(self.folder))
+        shipped = shipped.replace("/var/log/nginx", str(self.folder))
         servers = "".join(
             SERVER.format(port=port, person=person, **values) for person, port in self.ports.items()
         )

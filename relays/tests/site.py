@@ -23,6 +23,7 @@ ROSTER = ROOT / "examples" / "roster.toml"
 BASE = ROOT / "examples" / "site.sudo"
 SETTINGS = """\
 desk = "unix:{folder}/desk.sock"
+patience = 20
 relay = "chat"
 roster = "{folder}/site.roster"
 outbox = "{folder}/outbox.db"
@@ -82,6 +83,7 @@ class Site:
     def __init__(self, folder: Path) -> None:
         self.folder = folder
         self.desk: subprocess.Popen[str] | None = None
+        self.before: list[str] = []  # what starts it
         self.started: list[subprocess.Popen[bytes]] = []
         (folder / "site.roster").write_bytes(ROSTER.read_bytes())
         for name, key in (("page.secret", SECRET), ("page.key", SIGNING_KEY)):
@@ -100,7 +102,8 @@ class Site:
         return self.folder / "desk.db"
 
     def start_desk(self, *more: str) -> None:
-        words = [DESK, "serve", str(self.folder / "site.roster"), str(BASE), str(self.store)]
+        words = [*self.before, DESK, "serve", str(self.folder / "site.roster"), str(BASE)]
+        words.append(str(self.store))
         words += [self.url, *more]
         self.desk = subprocess.Popen(words, stdout=subprocess.PIPE, text=True)
         assert self.desk.stdout

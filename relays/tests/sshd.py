@@ -19,7 +19,7 @@ UsePAM no
 PasswordAuthentication no
 KbdInteractiveAuthentication no
 AuthorizedKeysFile {folder}/authorized_keys
-TrustedUserCAKeys {folder}/ca.pub
+TrustedUserCAKeys {folder}/people-ca.pub
 AuthorizedPrincipalsFile {folder}/authorized_principals
 RevokedKeys {folder}/revoked
 ExposeAuthInfo yes
@@ -38,10 +38,10 @@ class Sshd:
 
     def __init__(self, site: Site, keys: list[str], certified: str) -> None:
         self.folder, self.port, self.config = site.folder, free_port(), site.config
-        for name in ("host", "ca", "stranger", certified, *keys):
+        for name in ("host", "people-ca", "stranger", certified, *keys):
             keygen("-t", "ed25519", "-N", "", "-C", name, "-f", str(self.folder / name))
         public = self.folder / f"{certified}.pub"
-        keygen("-s", str(self.folder / "ca"), "-I", "id", "-n", certified, str(public))
+        keygen("-s", str(self.folder / "people-ca"), "-I", "id", "-n", certified, str(public))
         for name in keys:
             self.person("add", "--config", str(self.config), name, str(self.folder / f"{name}.pub"))
         principal = f"{self.options(certified)} {certified}\n"

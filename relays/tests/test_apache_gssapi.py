@@ -181,7 +181,7 @@ def test_what_the_page_gets(fronted: Fronted) -> None:
             it = Fronted(fronted.site, front, fronted.kerberos).get("ann", "/", *given)
             assert it == (200, "kept")
             assert recorder.fields("X-Desk-Front") == [SECRET], recorder.heads
-            assert recorder.fields("X-Desk-Person") == ["ann"], recorder.heads
+            assert recorder.fields("X-Desk-Person") == ["ann; kerberos from 127.0.0.1"], recorder.heads
             assert not recorder.fields("Authorization")
     assert len(recorder.heads) == len(FORGED) + 1
 

@@ -206,7 +206,7 @@ def test_what_the_page_gets(fronted: Fronted) -> None:
             reply = requests.get(reply.url, headers=given, verify=fronted.authority, timeout=60)
             assert reply.text == "kept"
             assert recorder.fields("X-Desk-Front") == [FRONT_SECRET], recorder.heads
-            assert recorder.fields("X-Desk-Person") == ["ann"], recorder.heads
+            assert recorder.fields("X-Desk-Person") == ["ann; openid from 127.0.0.1"], recorder.heads
             told = [line for line in recorder.heads[-1].splitlines() if "oidc" in line.lower()]
             assert not recorder.fields("Cookie") and all("bob" in line for line in told), told
     assert len(recorder.heads) == len(FORGED) + 2

@@ -59,7 +59,7 @@ def wide(quiet_site: Site) -> Site:
 def test_no_row_of_the_askers_looks_like_the_relays(wide: Site) -> None:
     asks(wide, "ALL", LINES_OF_ITS_OWN)
     rows = screen(said(wide, "bob", "approve ann 1"))
-    forged = [it for it in rows if re.match(r" *(ticket|NOTE|It needs) ", it)]
+    forged = [it for it in rows if re.match(r" *(ticket|NOTE|It waits|It needs) ", it)]
     assert forged == []
     quoted = [it for it in rows if it.startswith("  why       | ")]
     assert len(quoted) >= 3 and all(columns(it) <= COLUMNS for it in quoted), rows

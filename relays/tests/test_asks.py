@@ -23,7 +23,7 @@ from steelnewt_relay.events import Finder
 from steelnewt_relay.notices import Notices, look
 from steelnewt_relay.outbox import Kept
 from steelnewt_relay.sharing import Shared
-from steelnewt_relay.standing import Knowledge, State
+from steelnewt_relay.standing import Knowledge
 
 ASK = "ask db-care --on db1 --as root --for 1h --yes --again /usr/bin/id"
 
@@ -71,7 +71,7 @@ def page(site: Site, person: str, path: str = "/") -> str:
 
 # What people write, and how many of the 20 requests it shows.
 WORDS = [
-    ("bob", "waiting", 13), ("ann", "mine", 20), ("ann", "mine --all", 20), ("ann", "live", 7),
+    ("bob", "waiting", 6), ("ann", "mine", 20), ("ann", "mine --all", 20), ("ann", "live", 7),
     ("bob", "history", 20), ("bob", "history --all --on db1", 20), ("bob", "show ann 1", 1),
 ]  # fmt: skip
 
@@ -86,7 +86,9 @@ def test_each_word_asks_once(asking: tuple[Site, Counter]) -> None:
         asked = counter.asked()
         assert len(asked) == 1, (line, asked)
     assert site.run("bob", "approve ann 3 --yes").returncode == 0
-    assert counter.asked() == ["/v1/requests/ann/3"] * 2  # (before the yes, and after it)
+    # (before the yes also who may approve what waits, and after it what became of it)
+    asked = [it for it in counter.asked() if not it.startswith("/v1/open/")]
+    assert asked == ["/v1/requests/ann/3"] * 2
 
 
 def test_the_page_asks_once(asking: tuple[Site, Counter]) -> None:
@@ -97,12 +99,12 @@ def test_the_page_asks_once(asking: tuple[Site, Counter]) -> None:
     for person, path in (("bob", "/"), ("ann", "/"), ("ann", "/?all=1"), ("bob", "/history")):
         page(site, person, path)
         asked = counter.asked()
-        assert len(asked) == 1 and asked[0].startswith("/v1/requests/after/"), (path, asked)
+        assert len(asked) == 1 and asked[0].startswith("/v1/open/"), (path, asked)
     assert page(site, "bob").count('id="waits-ann-') == 6
     counter.asked()
     # (the findings are the desk's report)
     assert "Findings" in page(site, "dave")
-    assert [it.split("/")[2] for it in counter.asked()] == ["requests", "reviews"]
+    assert [it.split("/")[2] for it in counter.asked()] == ["open", "reviews"]
 
 
 def test_who_comes_at_once_shares_a_question(asking: tuple[Site, Counter]) -> None:
@@ -219,9 +221,10 @@ def test_who_tells_people_asks_once(asking: tuple[Site, Counter]) -> None:
     def finder() -> Finder:
         return Finder(Knowledge(outbox, desk, config.read_roster(), now()))
 
-    for _ in range(2):
+    # (who may approve is asked while something that waits is told)
+    for asked in (["requests", "open", "parked"], ["requests", "parked"]):
         assert look(notices, finder) == ""
-        assert len(counter.asked()) == 1
+        assert [it.split("/")[2] for it in counter.asked()] == asked
     kinds = [it[0] for it in outbox.base.execute("SELECT kind FROM notices ORDER BY kind")]
     # (an approval that is the last one needed is told as the grant)
     assert kinds == ["approved"] * 7 + ["asked"] * 20 + ["granted"] * 7 + ["refused"] * 7
@@ -240,11 +243,11 @@ def test_what_was_revoked_long_before_its_end(quiet_site: Site) -> None:
             brought(site, wish(begins, timedelta(days=21)), *revoked)
             mine = site.data("ann", "mine")
             assert isinstance(mine, list)
-            states = ["over"] * count + ["waiting", "objected", "in-force"]
-            assert [it["state"] for it in mine] == states
-            assert mine[0]["grant"]["until"] == stamp(begins + timedelta(minutes=59, seconds=59))
+            words = [*[("granted", "over")] * count, ("waiting", None), ("refused", None)]
+            assert [(it["status"], it["state"]) for it in mine] == [*words, ("granted", None)]
+            assert mine[0]["window"]["until"] == stamp(begins + timedelta(minutes=59, seconds=59))
             asked = counter.asked()
-            assert len(asked) == 2 and asked[0].startswith("/v1/requests/after/"), asked
+            assert len(asked) == 2 and asked[0].startswith("/v1/open/"), asked
             is_one = asked[1] == "/v1/requests/ann/4"
             assert is_one or asked[1] == f"/v1/requests/after/{stamp(begins)}", asked
 
@@ -260,8 +263,8 @@ def test_what_the_desk_does_not_have(asking: tuple[Site, Counter]) -> None:
     counter.asked()
     mine = site.data("ann", "mine")
     assert isinstance(mine, list)
-    assert {it["state"] for it in mine} == {"waiting", "objected"} and len(mine) == 6
-    assert len(counter.asked()) == 1
+    assert {(it["status"], it["state"]) for it in mine} == {(None, "unknown")} and len(mine) == 6
+    assert len(counter.asked()) == 2
 
 
 def test_a_person_who_is_named_as_a_route(quiet_site: Site) -> None:
@@ -273,7 +276,7 @@ def test_a_person_who_is_named_as_a_route(quiet_site: Site) -> None:
     with counted(site) as counter:
         mine = site.data("after", "mine")
         assert isinstance(mine, list)
-        assert [(it["state"], it["no"]) for it in mine] == [("in-force", kept.request.no)]
+        assert [(it["status"], it["no"]) for it in mine] == [("granted", kept.request.no)]
         assert len(counter.asked()) == 1
 
 
@@ -323,8 +326,8 @@ def test_a_grant_is_the_desks(site: Site) -> None:
         brought(site, wish(begins), *said)
     outbox, desk = config.open_outbox(), config.open_desk()
     found = Knowledge(outbox, desk, config.read_roster(), at).mine("ann")
-    states = {it.state for it in found}
-    assert {State.IN_FORCE, State.WAITING, State.OBJECTED} <= states, states
+    words = {it.word for it in found}
+    assert {"granted", "waiting", "refused"} <= words, words
     barred = {(who, int(no), by): why for who, no, by, why in desk.review(at).parts["BARRED"]}
     for it in found:
         moments = {it.request.wish.begins, it.request.wish.ends, *(v.verdict.at for v in it.said)}

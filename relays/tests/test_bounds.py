@@ -121,7 +121,7 @@ def test_who_could_answer_in_the_desks_place(
     text = quiet_site.config.read_text().replace(quiet_site.url, address)
     Path(quiet_site.config).write_text(f"{text}[tls]\n{tls}\n")
     if not why:
-        assert read_config(str(quiet_site.config)).desk == address
+        assert read_config(str(quiet_site.config)).desks == (address,)
         return
     with pytest.raises(BadConfig, match=why):
         read_config(str(quiet_site.config))

@@ -64,7 +64,7 @@ def test_a_grants_life_in_two_browsers(
     see(ann, "Ask for this?", "1 hour", "UTC (")
     shoot(ann, "2-ask-confirm")
     press(ann, "#yes")
-    see(ann, "ann 1: It needs 1 approval; nobody approved it yet; bob, carol may approve it.")
+    see(ann, "ann 1: It waits for approval. It needs 1 approval; nobody approved it yet; bob, carol")
     bob.get(front.url("bob"))
     shoot(bob, "3-waits")
     press(bob, "#waits-ann-1 button.approve")

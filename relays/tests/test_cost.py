@@ -138,7 +138,7 @@ def test_kept_for_nobody_else_and_no_longer(site: Site) -> None:
     assert site.run("ann", "mine").returncode == 0
     begins = now() + timedelta(seconds=12 + 10 * int(time.monotonic() - began))
     try:
-        assert "ann 1</a>: It needs 1 approval" in ask(front, begins=stamp(begins))
+        assert "ann 1</a>: It waits for approval. It needs 1 approval" in ask(front, begins=stamp(begins))
         assert site.run("bob", "approve ann 1 --yes").returncode == 0
         early = late = 0
         while now() < begins + timedelta(seconds=2):

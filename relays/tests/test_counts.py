@@ -43,14 +43,14 @@ def asked(site: Site, ceiling: str = "db-care", command: str = "/usr/bin/id") ->
 def state(site: Site, no: int) -> str:
     found = site.data("ann", "mine --all")
     assert isinstance(found, list)
-    return str(next(it["state"] for it in found if it["no"] == no))
+    return str(next(it["status"] or it["state"] for it in found if it["no"] == no))
 
 
 def waits_for_bob(site: Site, front: Front, no: int) -> tuple[bool, bool]:
     """Whether bob is shown the request, with a button, by ssh and on the page."""
     found = site.data("bob", "waiting")
     assert isinstance(found, list)
-    listed = [it["state"] for it in found if it["no"] == no]
+    listed = [it["status"] for it in found if it["no"] == no]
     shown = f'id="waits-ann-{no}"' in get(front.url("bob")).text
     return listed == ["waiting"], shown
 
@@ -74,18 +74,28 @@ def test_nobody_hides_a_request_without_a_right(
     assert f"ann {no} " in site.ask(f"/v1/grants/{stamp(now())}")
 
 
-@pytest.mark.parametrize(("person", "kind"), [("bob", "refuse"), ("eve", "revoke")])
-def test_who_may_object_ends_it(fronted: tuple[Site, Front], person: str, kind: str) -> None:
+# What the desk says then, and what the next approver reads. (What was revoked before anybody
+# approved it waits at the desk, and for nobody here.)
+ENDS = [
+    ("bob", "refuse", "refused", "the desk grants nothing of it any more"),
+    ("eve", "revoke", "waiting", "it was revoked"),
+]
+
+
+@pytest.mark.parametrize(("person", "kind", "status", "why"), ENDS)
+def test_who_may_object_ends_it(
+    fronted: tuple[Site, Front], person: str, kind: str, status: str, why: str
+) -> None:
     site, front = fronted
     no = asked(site)
     ran = site.run(person, f"{kind} ann {no} --yes")
     assert ran.returncode == 0 and "count" not in ran.stdout, ran
     assert waits_for_bob(site, front, no) == (False, False)
-    assert state(site, no) == "objected"
+    assert state(site, no) == status
     ran = site.run("bob", f"approve ann {no} --yes --again")
     assert ran.returncode == 2, ran
-    assert "Your approval will not count: the desk grants nothing of it any more." in ran.stdout
-    assert state(site, no) == "objected"
+    assert f"Your approval will not count: {why}." in ran.stdout
+    assert state(site, no) == status
 
 
 def test_a_refusal_after_enough_approvals(fronted: tuple[Site, Front]) -> None:
@@ -96,20 +106,22 @@ def test_a_refusal_after_enough_approvals(fronted: tuple[Site, Front]) -> None:
     ran = site.run("carol", f"refuse ann {no} --yes")
     assert ran.returncode == 2, ran
     assert "Your refusal will not count: enough people have approved it: revoke it" in ran.stdout
-    assert state(site, no) == "in-force"
+    assert state(site, no) == "granted"
 
 
-# Whose approval does not count, and why.
+# Whose approval does not count: what is said before it is sent, as far as the desk tells by then,
+# and why it did not count.
+OTHERS = "the desk does not name you among those who may approve it now"
 BARRED = [
-    ("eve", "conflicts with approving"),
-    ("dave", "do not hold the duty to approve"),
-    ("ann", "asked for it yourself"),
+    ("eve", OTHERS, "a duty that conflicts with approving was held then"),
+    ("dave", OTHERS, "the duty to approve was not held then"),
+    ("ann", "asked for it yourself", "nobody approves what they asked for themselves"),
 ]
 
 
-@pytest.mark.parametrize(("person", "why"), BARRED)
+@pytest.mark.parametrize(("person", "why", "after"), BARRED)
 def test_it_is_said_before_and_after(
-    fronted: tuple[Site, Front], person: str, why: str
+    fronted: tuple[Site, Front], person: str, why: str, after: str
 ) -> None:
     site, front = fronted
     no = asked(site)
@@ -119,10 +131,10 @@ def test_it_is_said_before_and_after(
     page = get(f"{front.url(person)}/verdict?kind=approve&of=ann&no={no}").text
     assert "Your approval will not count: " in page and why in page
     ran = site.run(person, f"approve ann {no} --yes --anyway")
-    assert "The desk has your approval. But it does not count: " in ran.stdout, ran
+    assert f"The desk has your approval. But it does not count: {after}." in ran.stdout, ran
     again = get(f"{front.url(person)}/verdict?kind=approve&of=ann&no={no}").text
     done = post(f"{front.url(person)}/send", {"token": token(again), "what": "verdict"}).text
-    assert "The desk has your approval. But it does not count: " in done
+    assert f"The desk has your approval. But it does not count: {after}." in done
     # (also once somebody else's approval counts)
     assert site.run("bob", f"approve ann {no} --yes").returncode == 0
     [told] = [it for it in site.data("ann", "mine --all") if it["no"] == no]  # type: ignore
@@ -152,13 +164,13 @@ def test_a_duty_that_has_days(quiet_site: Site) -> None:
     assert quiet_site.run("bob", f"refuse ann {no} --yes --anyway").returncode == 1
     assert state(quiet_site, no) == "waiting"
     ran = quiet_site.run("bob", f"approve ann {no} --yes")
-    assert "Your approval will not count: you do not hold the duty" in ran.stdout, ran
+    assert f"Your approval will not count: {OTHERS}" in ran.stdout, ran
 
 
 def test_what_the_desk_refused_is_not_approved(fronted: tuple[Site, Front]) -> None:
     site, front = fronted
     no = asked(site, "db-care", "/usr/sbin/reboot")
-    assert state(site, no) == "refused"
+    assert state(site, no) == "rejected"
     before = site.kept()
     ran = site.run("bob", f"approve ann {no} --yes")
     assert ran.returncode == 2 and "the desk refused ann" in ran.stderr, ran

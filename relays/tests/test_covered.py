@@ -134,7 +134,9 @@ def test_each_thing_that_the_page_takes_has_a_test(quiet_site: Site) -> None:
 
 
 # The modules that speak to whoever runs the relay, and words that are theirs alone.
-OPERATORS = ("caller.py", "config.py", "demo.py", "keys.py", "person.py", "program.py", "sent.py")
+OPERATORS = (
+    "archive.py", "caller.py", "config.py", "demo.py", "keys.py", "person.py", "program.py", "sent.py",
+)  # fmt: skip
 THEIRS = re.compile(r"(?<!desk-)\b(relay|roster|outbox|acknowledged)s?\b")
 
 

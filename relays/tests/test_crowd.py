@@ -198,8 +198,8 @@ def test_a_crowd(quiet_site: Site) -> None:
             site.wait_until_posted()
         finally:
             front.stop()
-    lines = (site.folder / "desk.log").read_text().splitlines()
-    log = [json.loads(it) for it in lines]
+    logs = [(site.folder / f"{it}.log").read_text() for it in ("desk", "desk-fetches")]
+    log = [json.loads(it) for text in logs for it in text.splitlines()]
     line = told(seen, sum(it["request"].startswith("GET ") for it in log), seconds, busy, slow)
     print(line)
     assert {it["status"] for it in log} == {"200"}, line

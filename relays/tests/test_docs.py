@@ -40,8 +40,11 @@ def test_a_new_reader_follows_it(tmp_path: Path) -> None:
     assert said.count("thief takes nothing: PermissionError") == 3, said
     assert "thief took" not in said and "thief has" not in said, said
     secrets = ("page.secret", "page.key", "page.front", "page.apache", "ca.key", "person-ann.key")
-    for secret in (*secrets, "outbox.db", "outbox.db-wal"):
+    for secret in (*secrets, "outbox.db"):
         assert re.search(rf"^-rw------- .* {re.escape(secret)}$", said, re.MULTILINE), said
+    # (the outbox's log is there only while somebody has the outbox open)
+    logs = [it for it in said.splitlines() if it.endswith(" outbox.db-wal")]
+    assert all(it.startswith("-rw------- ") for it in logs), logs
 
 
 def test_the_document_has_each_word() -> None:

@@ -256,7 +256,8 @@ def test_several_are_decided_by_one_yes(people: People, asked: Callable[..., int
     assert len(people.site.kept()) == before + 2
     told = people.text("carol", where)
     for no in (first, second):
-        assert re.search(rf"ann {no} : The desk has your approval\. It is in force", told), told
+        done = rf"ann {no} : The desk has your approval\. The desk grants it\. It is in force"
+        assert re.search(done, told), told
         assert "all of the migration" in people.text("ann", f"/r/ann/{no}")
     assert "Yes, approve" not in people.get("carol", f"/r/ann/{first}").text
 

@@ -288,7 +288,7 @@ def test_replies_of_any_kind(config: Config) -> None:
     for _ in range(max(20, COUNT // 5)):
         body = chance.choice(REPLIES)(chance)
         with answering(chance.choice([200, 200, 200, 302, 403, 500]), body) as url:
-            told = replace(config, desk=url)
+            told = replace(config, desks=(url,))
             for said in ("mine --all", "live", "waiting", "approve ann 1 --yes --again"):
                 status, printed = answer(told, chance.choice(["ann", "bob"]), said)
                 assert status in (0, 1, 2, 3) and "Traceback" not in printed, (body, printed)

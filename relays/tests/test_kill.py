@@ -133,7 +133,8 @@ def test_the_page_is_killed(site: Site) -> None:
 def test_the_desk_is_down_for_a_minute(down: tuple[Site, float, str]) -> None:
     site, began, said = down
     assert "Kept as ann 1." in said
-    assert "It is kept here and not yet at the desk: the desk cannot be reached" in said
+    assert "It is kept here and not yet at the desk." in said
+    assert "The last time: the desk cannot be reached" in said
     assert "It is kept here" in site.run("ann", "mine -l").stdout
     assert "does not answer" in site.run("ann", "live").stderr
     time.sleep(max(0.0, began + DOWN_SECONDS - time.monotonic()))

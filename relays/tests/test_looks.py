@@ -11,7 +11,7 @@ from selenium import webdriver
 from selenium.webdriver.common.by import By
 from selenium.webdriver.common.keys import Keys
 
-from relays.tests.chromium import browser
+from relays.tests.chromium import browser, wait_until
 from relays.tests.everything import Everything
 from relays.tests.front import Front
 from relays.tests.site import ROOT
@@ -163,6 +163,12 @@ class Looking:
         for word in sorted(self.everything.numbers, key=len, reverse=True):
             path = path.replace(word.upper(), str(self.everything.numbers[word]))
         self.driver.get(self.front.url(person) + path)
+
+    def wait_for(self, heading: str) -> None:
+        """Until the next page is there: the one that is left has a heading, too."""
+        wait_until(
+            self.driver, lambda it: it.find_element(By.TAG_NAME, "h1").text == heading, heading, 20
+        )
 
     def screen(self, width: int, height: int, scheme: str = "light") -> None:
         size = {"width": width, "height": height, "deviceScaleFactor": 1, "mobile": width < 500}
@@ -336,7 +342,7 @@ def test_ticked_and_decided_by_keyboard(looking: Looking) -> None:
     looking.ask("document.querySelector('.tick :checked').scrollIntoView({block: 'center'})")
     assert looking.ask(bar) is True
     driver.find_element(By.CSS_SELECTOR, ".bar.several button").send_keys(Keys.ENTER)
-    assert driver.find_element(By.TAG_NAME, "h1").text == "Approve 2 requests?"
+    looking.wait_for("Approve 2 requests?")
     assert len(driver.find_elements(By.CSS_SELECTOR, "main article")) == 2
     assert driver.find_element(By.ID, "yes").text == "Yes, approve 2"
 
@@ -367,4 +373,4 @@ def test_a_tap_reaches_what_it_shows(looking: Looking) -> None:
     for field, text in (("hosts", "db1"), ("commands", "/usr/bin/id"), ("length", "1h")):
         driver.find_element(By.ID, field).send_keys(text)
     driver.find_element(By.ID, "show").click()
-    assert driver.find_element(By.TAG_NAME, "h1").text == "Ask for this?"
+    looking.wait_for("Ask for this?")

@@ -1,5 +1,6 @@
 """The outbox, and what posts it: numbers, repeats, and each answer that a desk may give."""
 
+import subprocess
 import threading
 from collections.abc import Iterator
 from concurrent.futures import ThreadPoolExecutor
@@ -9,7 +10,8 @@ from pathlib import Path
 
 import pytest
 
-from relays.tests.site import Site
+from relays.tests.site import ROOT, Site
+from steelnewt_client.codes import Answer, Fate
 from steelnewt_client.desk import Desk
 from steelnewt_client.messages import Verdict, Wish, read
 from steelnewt_relay.outbox import Outbox, OutOfNumbers
@@ -73,6 +75,26 @@ def test_each_answer(tmp_path: Path, status: int, body: str, state: str, answer:
     assert answer in posted[0].answer
 
 
+def test_the_bytes_that_were_kept_are_posted(
+    tmp_path: Path, monkeypatch: pytest.MonkeyPatch
+) -> None:
+    """Also where this version would write the message otherwise, as a later one did."""
+    outbox, posted = Outbox(str(tmp_path / "outbox.db")), list[bytes]()
+
+    def post(_: Desk, __: str, line: bytes) -> Answer:
+        posted.append(line)
+        return Answer(Fate.TAKEN, "ack")
+
+    verdict = Verdict("bob", "refuse", "ann", 1, AT)
+    kept = [outbox.keep_request("ann", WISH, AT), outbox.keep_verdict(verdict)]
+    bodies = [f'{it.message.text()[:-1]},"zone":"UTC"}}' for it in kept]
+    for it, body in zip(kept, bodies, strict=True):
+        outbox.base.execute("UPDATE messages SET body = ? WHERE id = ?", (body, it.id))
+    monkeypatch.setattr(Desk, "post", post)
+    assert [it.state for it in post_kept(outbox, Desk("unix:/desk", "chat"))] == ["acked"] * 2
+    assert sorted(posted) == sorted(it.encode() for it in bodies)
+
+
 def test_an_answer_stays(tmp_path: Path) -> None:
     outbox = Outbox(str(tmp_path / "outbox.db"))
     kept = outbox.keep_request("ann", WISH, AT)
@@ -123,6 +145,24 @@ def test_the_same_word_once(tmp_path: Path) -> None:
     assert read(first.message.text()) == first.message
 
 
+def test_two_in_one_process(tmp_path: Path) -> None:
+    """As the page's threads do: to open and close it ends no locks of another thread's. Without
+    them the next program takes the log away into which that thread writes."""
+    path = str(tmp_path / "outbox.db")
+    first = Outbox(path)
+    first.keep_request("ann", WISH, AT)
+    Outbox(path).close()
+    program = "import sqlite3, sys; base = sqlite3.connect(sys.argv[1])"
+    program += "; print(base.execute('SELECT count(*) FROM messages').fetchone()[0]); base.close()"
+    for count in (1, 2):
+        words = ["/usr/bin/python3", "-c", program, path]
+        ran = subprocess.run(words, capture_output=True, text=True, check=True)
+        assert ran.stdout == f"{count}\n", ran
+        first.keep_request("ann", WISH, AT)
+    first.close()
+    assert len(Outbox(path).requests()) == 3
+
+
 def test_only_its_owner_reads_it(tmp_path: Path) -> None:
     Outbox(str(tmp_path / "outbox.db")).keep_request("ann", WISH, AT)
     assert {it.stat().st_mode & 0o777 for it in tmp_path.iterdir()} == {0o600}
@@ -146,3 +186,24 @@ def test_an_outbox_that_cannot_be_written(site: Site) -> None:
     (site.folder / "outbox.db").mkdir()
     ran = site.run("ann", "ask db-care --on db1 --as root --for 1h --yes /usr/bin/id")
     assert ran.returncode == 2 and "Nothing was sent: what is kept here fails" in ran.stderr, ran
+
+
+def test_what_is_kept_beside_others_of_a_process_is_kept(tmp_path: Path) -> None:
+    """The page has the outbox open for each of several people at a time, and others close theirs
+    meanwhile: what is kept then is there for everybody."""
+    path = str(tmp_path / "outbox.db")
+    text = f"import sys; sys.path[:0] = [{str(ROOT)!r}]\n"
+    text += "from steelnewt_relay.outbox import Outbox; box = Outbox(sys.argv[1])\n"
+    text += "print(len(box.unposted())); box.close()"
+
+    def elsewhere() -> int:
+        words = ["/usr/bin/python3", "-c", text, path]
+        return int(subprocess.run(words, capture_output=True, text=True, check=True).stdout)
+
+    first = Outbox(path)
+    for number in range(1, 4):
+        second = Outbox(path)
+        assert elsewhere() == number - 1
+        first.keep_request("ann", WISH, AT)
+        assert elsewhere() == number
+        second.close()

@@ -152,7 +152,7 @@ def test_asking_on_the_page(fronted: tuple[Site, Front]) -> None:
 def test_a_grant_to_come_is_in_the_picture(fronted: tuple[Site, Front]) -> None:
     site, front = fronted
     told = ask(front, hosts="db2", begins="+30m")
-    found = re.search(r"ann ([0-9]+)</a>: It needs", told)
+    found = re.search(r"ann ([0-9]+)</a>: It waits for approval. It needs", told)
     assert found
     assert site.run("bob", f"approve ann {found[1]} --yes").returncode == 0
     page = get(front.url("bob")).text

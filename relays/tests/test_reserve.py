@@ -131,16 +131,24 @@ def test_a_call_on_a_full_disk(small: Path) -> None:
         site.close()
 
 
+def due(outbox: Outbox, desk: Desk) -> list[int]:
+    """What is posted to a desk in the next round, in its order."""
+    outbox.owed.know([desk.label])
+    queues = ", ".join(map(str, posting.queues_at(outbox, desk)))
+    order = f"WHERE queue IN ({queues}) ORDER BY queue, tried, message"
+    return [id for (id,) in outbox.base.execute(f"SELECT message FROM owed {order}")]
+
+
 def test_nothing_else_is_posted_meanwhile(small: Path) -> None:
     outbox = Outbox(str(small / "outbox.db"))
     request = outbox.keep_request("ann", WISH, AT)
     revoked = outbox.keep_verdict(verdict("revoke", 7))
     desk = Desk(f"unix:{small}/none.sock", "chat")
-    assert [it.id for it in posting.to_post(outbox, desk)] == [request.id, revoked.id]
+    assert due(outbox, desk) == [revoked.id, request.id]
     filler = fill(small)
-    assert [it.id for it in posting.to_post(outbox, desk)] == [revoked.id]
+    assert due(outbox, desk) == [revoked.id]
     filler.unlink()
-    assert [it.id for it in posting.to_post(outbox, desk)] == [request.id, revoked.id]
+    assert due(outbox, desk) == [revoked.id, request.id]
     outbox.close()
 
 
@@ -151,13 +159,13 @@ def test_what_others_write_meanwhile_is_posted(small: Path) -> None:
     desk = Desk(f"unix:{small}/none.sock", "chat")
     filler = fill(small)
     poster = Outbox(path)
-    assert posting.to_post(poster, desk) == []
+    assert due(poster, desk) == []
     other = Outbox(path)
     revoked = other.keep_verdict(verdict("revoke", 7))
-    assert [it.id for it in posting.to_post(poster, desk)] == [revoked.id]
+    assert due(poster, desk) == [revoked.id]
     filler.unlink()
     request = other.keep_request("ann", WISH, AT)
-    assert [it.id for it in posting.to_post(poster, desk)] == [revoked.id, request.id]
+    assert due(poster, desk) == [revoked.id, request.id]
     poster.close()
     other.close()
 

@@ -12,6 +12,7 @@ import pytest
 
 from relays.tests.site import PATIENCE, ROOT, Site, wait_for_next_second
 from relays.tests.sshd import USER, Sshd
+from steelnewt_client.moments import now, stamp
 from steelnewt_relay.telling import FETCHED
 
 ASK = "ask db-care --on db1 --as root --for 2h /usr/bin/id".split()
@@ -85,7 +86,7 @@ def test_a_refusal_is_told(both: tuple[Site, Sshd]) -> None:
     no = asked(sshd)
     assert sshd.ssh("carol", f"refuse ann {no} --yes").returncode == 0
     found = [it for it in json.loads(sshd.ssh("ann", "mine --json").stdout) if it["no"] == no]
-    assert found[0]["state"] == "objected" and found[0]["verdicts"][0]["by"] == "carol"
+    assert found[0]["status"] == "refused" and found[0]["verdicts"][0]["by"] == "carol"
     assert "carol refused it" in sshd.ssh("ann", "mine -l").stdout
 
 
@@ -122,7 +123,8 @@ def test_a_grant_to_come(both: tuple[Site, Sshd]) -> None:
     assert f"ann {no}" not in sshd.ssh("bob", "live").stdout
     assert f"ann {no}" in sshd.ssh("bob", "live --at +45m").stdout
     found = [it for it in json.loads(sshd.ssh("ann", "mine --json").stdout) if it["no"] == no]
-    assert found[0]["state"] == "coming" and found[0]["grant"]["until"] == found[0]["until"]
+    assert found[0]["status"] == "granted" and found[0]["window"]["until"] == found[0]["until"]
+    assert found[0]["window"]["from"] > stamp(now())
     assert "revoked it" in sshd.ssh("ann", f"revoke ann {no} --yes").stdout
 
 

@@ -137,7 +137,7 @@ def in_a_made_list(folder: Path) -> None:
 
 
 def with_its_authority(folder: Path) -> None:
-    (folder / "revoked").write_bytes((folder / "ca.pub").read_bytes())
+    (folder / "revoked").write_bytes((folder / "people-ca.pub").read_bytes())
 
 
 def by_no_list(folder: Path) -> None:
@@ -170,7 +170,7 @@ def test_a_key_in_the_list_of_revoked_keys(sshd: Sshd) -> None:
 def outlived(sshd: Sshd, seconds: int) -> bool:
     """A connection outlives the certificate that it was made with, which holds for some seconds;
     False where it was over before eve came with it."""
-    signed = ["-s", str(sshd.folder / "ca"), "-I", "id", "-n", "eve", "-V", f"-5m:+{seconds}s"]
+    signed = ["-s", str(sshd.folder / "people-ca"), "-I", "id", "-n", "eve", "-V", f"-5m:+{seconds}s"]
     begun = time.monotonic()
     keygen(*signed, str(sshd.folder / "eve.pub"))
     with master(sshd, "eve") as over:

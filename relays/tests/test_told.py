@@ -170,7 +170,7 @@ def test_the_whole_length_is_one_word_away(telling: Site) -> None:
     assert f"To ask for it: ssh desk again {telling.no()}" in str(event["text"])
     assert len(telling.kept()) == 1
     status, text = said(telling, "dave", f"let ann {telling.no()}")
-    assert status == 2 and "do not hold the duty" in text
+    assert status == 2 and "does not name you among those who may approve it now" in text
 
 
 def test_an_end_leads_to_the_next(site: Site) -> None:

@@ -70,7 +70,7 @@ class Far:
         os.chmod(folder / "other.sock", 0o666)
         for server in (self.other, self.beside):
             answering(server)
-        for name in ("host", "ca", "key"):
+        for name in ("host", "people-ca", "key"):
             keygen("-t", "ed25519", "-N", "", "-C", name, "-f", str(folder / name))
         (folder / "authorized_principals").write_text("")
         config = CONFIG.format(port=self.port, folder=folder)

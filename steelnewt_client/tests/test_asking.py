@@ -138,7 +138,7 @@ def test_what_cannot_be_reached(tmp_path: Path) -> None:
             desk.count()
         assert not told.value.is_reached
         answer = desk.post("chat", b"{}")
-        assert answer.fate is Fate.AGAIN and not answer.is_reached and said in answer.why
+        assert answer.fate is Fate.AGAIN and answer.is_away and said in answer.why
 
 
 def test_a_certificate_that_is_not_there(front: Front, tmp_path: Path) -> None:

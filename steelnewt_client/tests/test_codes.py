@@ -58,7 +58,7 @@ def test_the_fate_of_each_code(status: int, code: str) -> None:
 
 
 def test_the_document_says_the_same() -> None:
-    """The rows of docs/HTTP.md, 'Post a message', by what they say of codes."""
+    """The rows of docs/HTTP.md, 'What a relay owes', by what they say of codes."""
     text = (DOCS / "HTTP.md").read_text(encoding="utf-8")
     rows = dict(re.findall(r"^\| ((?:[0-9, ]+|or )+ with .+) \| (.+) \|$", text, re.MULTILINE))
     [final] = [what for said, what in rows.items() if "an `A` or `M` code" in said]

@@ -20,7 +20,7 @@ from collections.abc import Callable, Iterator
 
 from steelnewt_backup.backup import expired
 from steelnewt_relay.outbox import Outbox
-from tests.backup import history
+from tests.backup import cuts, history
 from tests.backup.room import BASE, DAY, HISTORY, OUTBOX, PATIENCE, PROGRAM, ROSTER, SECRETS
 from tests.backup.room import STORE, Room, Row, made, said, tried, wish
 from tests.common import desk
@@ -42,7 +42,7 @@ def round_trip(folder: str) -> Iterator[Row]:
     yield "what was there", other <= {OUTBOX, f"{OUTBOX}-wal", f"{STORE}-wal", STORE}, other
     yield "each message", room.held() == held and len(held) == 12, held
     outbox = Outbox(room.path(OUTBOX))
-    at = "20260105060000Z"
+    at = desk.stamp(time.time() - 60)
     numbers = [outbox.keep_request(it, wish(1, time.time()), at) for it in ("ann", "eve")]
     outbox.close()
     yield "no number twice", [it.request.no for it in numbers] == [11001, 11001], numbers
@@ -464,7 +464,7 @@ def checked(folder: str) -> Iterator[Row]:
 PARTS: tuple[Callable[[str], Iterator[Row]], ...] = (
     round_trip, grows, history.changes_meanwhile, history.at_its_most, unmounted,
     lambda _: bounded(), sealed, filled, followed, not_admitted, heard, bad_backups, bad_machines,
-    upgraded, drills, checked,
+    upgraded, drills, checked, cuts.cut_out,
 )  # fmt: skip
 
 

@@ -56,7 +56,7 @@ def thinned(found: list[tuple[str, int]], most: int) -> list[tuple[str, int]]:
 
 class Tally:
     def __init__(self) -> None:
-        self.checks = self.wrong = self.killed = 0
+        self.checks = self.wrong = self.killed = self.refused = 0
 
     def check(self, what: str, is_right: bool, found: object = "") -> None:
         self.checks += 1

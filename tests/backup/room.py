@@ -16,7 +16,7 @@ from collections.abc import Iterable
 from steelnewt_backup.manifest import MOMENT
 from steelnewt_client.messages import Verdict, Wish
 from steelnewt_client.signed import Signed
-from steelnewt_door.rows import Last, answered, came, following, line_of
+from steelnewt_door.rows import Last, answered, came, draft_of, following
 from steelnewt_relay.outbox import Outbox
 from tests.common import desk
 
@@ -130,9 +130,8 @@ class Room:
                 came(Signed(text, "", "", ""), at, ("chat", "peer"), "unsigned"),
                 answered(last.no + 1, at, "ack", "desk"),
             ):
-                made = following(last, row)
-                last = Last(made["no"], made["chain"])
-                lines.append(line_of(made))
+                last, line = following(last, draft_of(row)[0])
+                lines.append(line)
         self.write(JOURNAL, b"".join(lines), 0o600)
 
     def held(self) -> set[str]:

@@ -45,8 +45,9 @@ def spoken(outbox: Outbox, at: int) -> list[Kept]:
 
 def main() -> int:
     config = read_config(CONFIG)
-    outbox = config.open_outbox()
-    hear(outbox, config.open_desk())
+    outbox, desk = config.open_outbox(), config.open_desk()
+    for person in ("ann", "carol"):
+        hear(outbox, config, desk, person)
     found = spoken(outbox, int(sys.argv[1]))
     until = time.monotonic() + PATIENCE
     while any(outbox.entry(it.id).state == "kept" for it in found) and time.monotonic() < until:

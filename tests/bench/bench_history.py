@@ -17,6 +17,8 @@
   read the messages alone (`deliver` of them over a roster that lists nobody, which keeps none); and
   of a million messages the processor time, and the most memory, less what a desk without messages
   takes.
+- **A cut** by desk-cut, where half of the messages have ended, beside such an opening: of 100,000
+  messages in instructions, and of a million in time.
 
 Instructions are counted by valgrind's callgrind: they do not depend on the machine's load. While
 a desk opens a long history its instructions are not counted, so that this takes no quarter of an
@@ -282,8 +284,16 @@ def waiting(site: Site, count: int) -> bool:
     return judged(what, longest, 1.0)
 
 
-def opening_counted(site: Site, count: int) -> bool:
-    """An opening and the first file, beside reading the messages, in instructions."""
+def cutting(site: Site, store: str) -> list[str]:
+    """The words that cut a store's history at the moment."""
+    folder, name = os.path.split(site.program[-1])
+    cutter = os.path.join(folder, name.replace("desk", "desk-cut", 1))
+    return [cutter, store, f"{store}.cut.db", MOMENT, "--archive", f"{store}.archive"]
+
+
+def opening_counted(site: Site, count: int) -> int:
+    """An opening and the first file, beside reading the messages, and a cut beside that, in
+    instructions."""
     bodies = [*granted(0, 2 * LIVE, "db1"), *others(count - 2 * LIVE)]
     store = site.store("counted", iter(bodies))
     given = desk.write(site.folder, "given", "".join(body + "\n" for body in bodies))
@@ -295,7 +305,10 @@ def opening_counted(site: Site, count: int) -> bool:
         f" {opened / 1e6:,.0f}, reading the messages {read / 1e6:,.0f}"
     )
     what = f"opening {count:,} messages and the first file, beside reading them"
-    return judged(what, opened / read, MOST_BESIDE_READING)
+    wrong = judged(what, opened / read, MOST_BESIDE_READING)
+    cut = desk.instructions(cutting(site, store))
+    print(f"in millions of instructions: a cut of {count:,} messages {cut / 1e6:,.0f}")
+    return wrong + judged(f"a cut of {count:,} messages, beside their opening", cut / opened, 2.0)
 
 
 def opening(site: Site, count: int) -> bool:
@@ -324,6 +337,10 @@ def opening(site: Site, count: int) -> bool:
                 f" {peaks[name] / 2**20:,.0f} MiB, of which {peaks['none'] / 2**20:.0f} for a desk"
                 " without messages"
             )
+            begun = time.perf_counter()
+            subprocess.run(cutting(site, store), check=True)
+            cut = time.perf_counter() - begun
+            print(f"{count:,} messages: a cut {cut:.2f} s, {cut / opened:.1f} times the opening")
     each = (peaks["opened"] - peaks["none"]) / count
     return judged(f"opening {count:,} messages and the first file, bytes a message", each, 1_000)
 

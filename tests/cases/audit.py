@@ -1,8 +1,9 @@
 #!/usr/bin/env python3
 """Runs desk-audit on each row of cases/audit.toml, over the standard input and over a store.
 
-Asks it also of stores that are read-only, missing, empty, of another roster, damaged, and written
-to meanwhile; compares the example of docs/AUDITING.md, and runs those of its commands that need jq.
+Asks it also of stores that are read-only, missing, empty, of another roster, damaged, written to
+meanwhile, and rebuilt for a roster that lacks somebody; compares the example of docs/AUDITING.md,
+and runs those of its commands that need jq.
 `python3 -m tests.cases.audit DESK AUDIT` takes other programs than build/desk and build/desk-audit.
 The last line has the counts.
 """
@@ -206,6 +207,26 @@ def stores(table: Table, folder: str, cases: Cases) -> None:
     cases.compare("another roster's", ran, "", "K1 RosterChanged\n", 2)
 
 
+def struck_out(table: Table, folder: str, cases: Cases) -> None:
+    """Who is not in the roster any more is known by what they gave; who never was, is not."""
+    run(DESK, ["deliver", "ROSTER", "BASE", "old.db", "web"], folder, lines_of(table, ["Q7", "V7"]))
+    desk.write(folder, "LATER", "".join(people_but(table["roster"], "bob")))
+    words = ["LATER", "BASE", "old.db"]
+    run(DESK, ["rebuild", *words], folder)
+    for name in ("bob", "ann"):
+        ran = run(AUDIT, [*words, "--person", name], folder)
+        cases.compare(f"by {name}, whom a later roster lacks", ran, lambda it: "ann 7" in it)
+    ran = run(AUDIT, [*words, "--person", "bod"], folder)
+    cases.compare("by bod, who never was", ran, "", "nobody is named bod\n", 2)
+
+
+def people_but(roster: str, name: str) -> list[str]:
+    """The roster's lines, without that person's."""
+    lines = [it for it in roster.splitlines(keepends=True) if not it.startswith(f"{name} = ")]
+    assert len(lines) < len(roster.splitlines())
+    return lines
+
+
 def while_written(table: Table, folder: str, cases: Cases) -> None:
     """A desk takes messages into the store while it is asked: each answer is of a set that the
     store had."""
@@ -271,7 +292,7 @@ def commands(cases: Cases) -> None:
 def main() -> None:
     cases = Cases()
     table = tomllib.loads(desk.read("cases", "audit.toml"))
-    for part in (rows, stores, while_written):
+    for part in (rows, stores, struck_out, while_written):
         with tempfile.TemporaryDirectory() as folder:
             os.chmod(folder, 0o755)
             desk.write(folder, "BASE", "")

@@ -57,6 +57,12 @@ def audit_beside() -> str:
     return os.path.join(folder, name.replace("desk", "desk-audit", 1))
 
 
+def cut_beside() -> str:
+    """The desk-cut beside the desk that the command line names, or the one of build/."""
+    folder, name = os.path.split(named()[-1])
+    return os.path.join(folder, name.replace("desk", "desk-cut", 1))
+
+
 def check_built() -> None:
     if not os.path.exists(PROGRAM[0]):
         sys.exit("build/desk is missing: run make desk")

@@ -77,10 +77,10 @@ def pour(source: socket.socket, target: socket.socket) -> None:
         target.shutdown(socket.SHUT_RDWR)
 
 
-def placed(text: str, folder: str, port: int, address: str, questions: str = "") -> str:
+def placed(text: str, folder: str, port: int, address: str, others: tuple[str, ...] = ()) -> str:
     """A configuration of examples/ with its files, its port and the desk's address put in place,
-    that for questions if it is another one, and less patience with a body that stops. The accounts
-    of a package's machine are not here."""
+    those for questions and for what a door answers if they are others, and less patience with a
+    body that stops. The accounts of a package's machine are not here."""
     text = text.replace("/etc/desk/front", os.path.join(folder, "ca")).replace(
         "/var/log/nginx", folder
     )
@@ -88,23 +88,25 @@ def placed(text: str, folder: str, port: int, address: str, questions: str = "")
     text = re.sub(r"(client_body_timeout +)10s", r"\g<1>2s", text)
     text = re.sub(r"(?m)^    (user|group) .*\n", "", text)
 
-    def at(found: re.Match[str]) -> str:
-        place = address if found[2] else questions or address
-        return place.replace("unix:", f"unix{found[1]}", 1)
+    questions, answers = others or (address, address)
+    places = {"messages": address, "answers": answers, None: questions}
 
-    text, count = re.subn(rf"unix([:@]){SOCKET}(?=(.*# messages)?)", at, text)
-    assert count == 2, text
+    def at(found: re.Match[str]) -> str:
+        return places[found[2]].replace("unix:", f"unix{found[1]}", 1)
+
+    text, count = re.subn(rf"unix([:@]){SOCKET}(?=(?:.*# (messages|answers))?)", at, text)
+    assert count == 3, text
     return text
 
 
-def nginx_words(folder: str, port: int, address: str, questions: str = "") -> list[str]:
+def nginx_words(folder: str, port: int, address: str, *others: str) -> list[str]:
     """Writes the whole configuration of an nginx that has the example's."""
     temp = "".join(
         f"{name}_temp_path {folder}/{name};"
         for name in ("client_body", "proxy", "fastcgi", "uwsgi", "scgi")
     )
     with open(NGINX, encoding="utf-8") as file:
-        example = placed(file.read(), folder, port, address, questions)
+        example = placed(file.read(), folder, port, address, others)
     head = f"user root; worker_processes 2; daemon off; pid {folder}/pid;"
     head += f" error_log {folder}/error.log;"
     with open(os.path.join(folder, "nginx.conf"), "w", encoding="utf-8") as file:
@@ -120,9 +122,9 @@ def nginx_words(folder: str, port: int, address: str, questions: str = "") -> li
     ]
 
 
-def haproxy_words(folder: str, port: int, address: str, questions: str = "") -> list[str]:
+def haproxy_words(folder: str, port: int, address: str, *others: str) -> list[str]:
     with open(HAPROXY, encoding="utf-8") as file:
-        example = placed(file.read(), folder, port, address, questions)
+        example = placed(file.read(), folder, port, address, others)
     path = os.path.join(folder, "haproxy.cfg")
     with open(path, "w", encoding="utf-8") as file:
         file.write(example)
@@ -198,6 +200,13 @@ def answers(whole: bytes) -> int:
     return len(re.findall(rb"(?m)^HTTP/1\.[01] [2-5]", whole))
 
 
-def log_lines(folder: str) -> list[dict[str, str]]:
-    with open(os.path.join(folder, "desk.log"), encoding="utf-8", errors="surrogateescape") as file:
-        return [json.loads(line, strict=False) for line in file]
+def log_lines(folder: str, name: str = "") -> list[dict[str, str]]:
+    """The lines of the front's log (nginx has what is fetched apart), or of the one of this name,
+    in the order of their moments."""
+    names = [name] if name else ["desk.log", "desk-fetches.log"]
+    lines: list[dict[str, str]] = []
+    for each in [os.path.join(folder, it) for it in names]:
+        if name or os.path.exists(each):
+            with open(each, encoding="utf-8", errors="surrogateescape") as log:
+                lines += [json.loads(line, strict=False) for line in log]
+    return sorted(lines, key=lambda it: it["time"])

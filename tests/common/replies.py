@@ -1,6 +1,7 @@
 """A server on loopback that is no desk: it gives each target the bytes that a test says."""
 
 import contextlib
+import datetime
 import hashlib
 import re
 import socket
@@ -31,14 +32,19 @@ def counted(text: bytes, messages: int = 1, roster: str = "a", base: bytes = b""
     return f"{messages} {roster * 64} {digest(base)}\n".encode() + base + text
 
 
-def history(rosters: str = "a", bases: Sequence[bytes] = (b"",)) -> bytes:
-    """The states of a site, a day for each: those rosters, and those bases, the last of which stay
-    until the end."""
+def history(
+    rosters: str = "a", bases: Sequence[bytes] = (b"",), cuts: Sequence[int] = (0,)
+) -> bytes:
+    """The states of a site, a day for each: those rosters and bases, and how many messages were
+    taken out of the store before, the last of which stay until the end."""
     lines = []
-    for at in range(max(len(rosters), len(bases))):
+    for at in range(max(len(rosters), len(bases), len(cuts))):
         roster = rosters[min(at, len(rosters) - 1)] * 64
         base = digest(bases[min(at, len(bases) - 1)])
-        lines.append(f"202601{at + 1:02}000000Z {roster} {base}\n")
+        archived = cuts[min(at, len(cuts) - 1)]
+        cut = f"cut 20251201000000Z {archived} " if archived else ""
+        day = datetime.date(2026, 1, 1) + datetime.timedelta(at)
+        lines.append(f"{day:%Y%m%d}000000Z {cut}{roster} {base}\n")
     return "".join(lines).encode()
 
 
@@ -55,7 +61,11 @@ def of_a_host(file: bytes, past: bytes | None = None) -> Callable[[str], bytes]:
 
 
 def desk_of(
-    text: bytes, messages: int = 1, rosters: str = "a", bases: Sequence[bytes] = (b"",)
+    text: bytes,
+    messages: int = 1,
+    rosters: str = "a",
+    bases: Sequence[bytes] = (b"",),
+    cuts: Sequence[int] = (0,),
 ) -> Callable[[str], bytes]:
     """What a desk answers of one state: the joined file, the history, and the questions of before,
     the count and the file alone."""
@@ -67,7 +77,7 @@ def desk_of(
             return reply(line + b"\n")
         if re.fullmatch("/v1/hosts/[a-z0-9-]+/sudoers(/[0-9]+Z)?", target):
             return reply(file)
-        return of_a_host(reply(whole), reply(history(rosters, bases)))(target)
+        return of_a_host(reply(whole), reply(history(rosters, bases, cuts)))(target)
 
     return answer
 

@@ -38,8 +38,9 @@ class Page:
         os.mkdir(os.path.join(folder, "build"))
         os.symlink(PROGRAM, os.path.join(folder, "build", "desk"))
         folder_of, name_of = os.path.split(PROGRAM)
-        audit = os.path.join(folder_of, name_of.replace("desk", "desk-audit", 1))
-        os.symlink(audit, os.path.join(folder, "build", "desk-audit"))
+        for name in ("desk-audit", "desk-cut"):
+            beside = os.path.join(folder_of, name_of.replace("desk", name, 1))
+            os.symlink(beside, os.path.join(folder, "build", name))
 
     def blocks(self, kind: str = "sh") -> list[str]:
         found = re.findall(r"^```(\w*)\n(.*?)^```$", self.text, re.MULTILINE | re.DOTALL)
@@ -95,7 +96,7 @@ def told(request: int) -> list[str]:
 
 
 def store(page: Page) -> None:
-    from_log, first, inside, backup, tried, joined, rebuilt, older = page.blocks()
+    from_log, first, inside, backup, tried, joined, rebuilt, cut, older = page.blocks()
     said = page.out(first)
     is_right = said.startswith("ack\nack\n") and "build/db1.sudo: parsed OK\nREVIEW " in said
     page.holds("a first desk", is_right, said)
@@ -108,6 +109,10 @@ def store(page: Page) -> None:
     page.run(backup)
     page.holds("the file of a backup", page.out(tried) == host_file, page.run(tried))
     page.holds("stores joined", page.out(joined) == "ack\nack\n", page.run(joined))
+    whole = page.out(f"build/desk-audit examples/roster.toml examples/site.sudo {STORE}")
+    said = page.out(cut)
+    counts = "1 messages stay, 1 archived\n"
+    page.holds("a history that is cut", said == counts + whole and whole != "", said)
     said = page.out(rebuilt)
     page.holds("rebuilt", said == "ok\ndba ALL = (postgres) ALL\n", said)
     old_store(page, older)

@@ -144,11 +144,12 @@ def check_tools(tools: list[dict]) -> tuple[int, list[str]]:
     """The table's options of each program that has a page of its entry, beside its own help."""
     wrong = []
     for tool in (each for each in tools if "says" in each):
-        folders = (os.path.join(desk.ROOT, it) for it in ("broker", "relays", "tools"))
+        folders = (os.path.join(desk.ROOT, it) for it in ("broker", "relays", "tools", "build"))
         path = shutil.which(tool["name"], path=":".join(folders)) or tool["name"]
         words = [[path, *word, "--help"] for word in ([], *([it] for it in tool.get("words", [])))]
         texts = [subprocess.run(each, capture_output=True, text=True).stdout for each in words]
-        found = set(re.findall(r"^  (?:-h, )?(--[a-z][a-z0-9-]*)", "\n".join(texts), re.MULTILINE))
+        option = re.compile(r"^ {2}(?: {4})?(?:-h, )?(--[a-z][a-z0-9-]*)", re.MULTILINE)
+        found = set(option.findall("\n".join(texts)))
         if found != {name for name, _ in tool["options"]}:
             wrong.append(f"packaging/commands.toml: {tool['name']} has the options {found}")
     return sum("says" in each for each in tools), wrong

@@ -178,7 +178,10 @@ def on_the_page(room: Room) -> None:
     room.holds("it answers", is_there, room.run("tail -n 5 /var/log/apache2/error.log"))
     done = in_a_browser(room, "ann")
     room.holds("before the yes", "deploy at noon" in done.stdout and "UTC" in done.stdout, done)
-    waits = "ann 2: It needs 1 approval; nobody approved it yet; ben, carol may approve it."
+    waits = (
+        "ann 2: It waits for approval. It needs 1 approval; nobody approved it yet; ben, carol may"
+        " approve it."
+    )
     room.holds("and after it", waits in done.stdout, done)
     mailed = until(room, "grep -rqs 'Subject: .*ann: .*deploy at noon' /tmp/mails/new")
     mails = room.run("cat /tmp/mails/new/*").stdout

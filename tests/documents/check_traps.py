@@ -70,7 +70,7 @@ def stores_that_are_cut(folder: str) -> Iterator[Row]:
     text = page("change/SCALE.md")
     trap = re.search(r"begin a new store[^.]*windows are not over; today that is", text)
     yield "SCALE.md does not tell to cut it", trap is None, trap[0] if trap else ""
-    for said in ("Do not cut a store", "grants what nobody approved", "each host refuses"):
+    for said in ("Requests stay for ever", "grant what nobody approved"):
         yield f"SCALE.md says: {said}", said in text, ""
 
 

@@ -66,6 +66,21 @@ HOSTILE = {
     "IFS": "x",
     "BASH_ENV": "/nonexistent",
 }
+# leaves a process behind that ends by itself, and waits until it is gone
+ORPHAN = """
+import os, time
+reading, writing = os.pipe()
+if (child := os.fork()) == 0:
+    if (orphan := os.fork()):
+        os.write(writing, str(orphan).encode())
+    os._exit(0)
+os.waitpid(child, 0)
+orphan = int(os.read(reading, 20))
+until = time.monotonic() + 20
+while os.path.exists(f"/proc/{orphan}") and time.monotonic() < until:
+    time.sleep(0.02)
+raise SystemExit(os.path.exists(f"/proc/{orphan}"))
+"""
 STARTS = {
     "as it is": (),
     "under nohup": ("nohup",),
@@ -160,6 +175,8 @@ def ends(count: Count) -> None:
     status, said = started((), [*APART, "bash", "-c", f"{script} disown -a; exit 7"], 60)
     count.same("its own status", status, 7)
     count.holds("what it left", "left behind, and ended: " in said and "sleep" in said, said)
+    status, _ = started((), [*APART, sys.executable, "-c", ORPHAN], 60)
+    count.same("what it left and has ended is gone", status, 0)
     status, _ = started((), [*APART, "bash", "-c", "kill -HUP $$"], 60)
     count.same("a signal ends it", status, 128 + signal.SIGHUP)
     with subprocess.Popen([*APART, "bash", "-c", f"{script} echo; wait"], stdout=-1) as process:

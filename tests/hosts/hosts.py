@@ -29,7 +29,7 @@ from collections.abc import Callable
 
 from tests.common import desk
 from tests.hosts import beside, checked, crowd, faulty, fetch, kept, newer, plugged, prompt
-from tests.hosts import sessions, sudo, whole
+from tests.hosts import sessions, signed, sudo, whole
 from tests.hosts.root import HAS_PLUGIN, PLUGIN, TREE, Host, own_program
 from tests.packages.package_test import furnish
 
@@ -38,10 +38,11 @@ MIRROR = os.environ.get("MIRROR", "http://deb.debian.org/debian")
 SUITES = {"11": "bullseye", "12": "bookworm", "13": "trixie", "sid": "sid"}
 NARROW = "12-i386"  # 32 bits, for the moments of its own alone
 OWN = "this machine"
-PACKAGES = "sudo,python3,faketime,procps,tmux"
+PACKAGES = "sudo,python3,faketime,procps,tmux,openssh-client"
 PARTS = (
     *fetch.PARTS,
     *newer.PARTS,
+    *signed.PARTS,
     *sudo.PARTS,
     *prompt.PARTS,
     *sessions.PARTS,

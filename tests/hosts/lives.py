@@ -1,7 +1,7 @@
 #!/usr/bin/env python3
-"""Random lives of sites: three desks, which lag, answer nothing, come back from a backup, or keep
-no history, and five hosts, which fetch, and are killed at any moment. A site's roster and base
-change, also back to what they were. After each fetch a host's file is none that a newer sound
+"""Random lives of sites: three desks, which lag, answer nothing, come back from a backup, keep no
+history, or are cut, and five hosts, which fetch, and are killed at any moment. A site's roster and
+base change, also back to what they were. After each fetch a host's file is none that a newer sound
 answer had ended, and once all desks answer and are level, each host has the newest file.
 
 As root: `python3 -m tests.hosts.lives 300`. The fetch is the host's own, but for the questions and
@@ -17,7 +17,7 @@ import random
 import signal
 import sys
 import tempfile
-from collections.abc import Callable
+from collections.abc import Callable, Iterator
 from typing import Any
 from unittest import mock
 
@@ -30,6 +30,7 @@ from tests.common.replies import digest
 BASES = [b"", b"dba ALL = (root) !/usr/bin/env\n", b"dba ALL = (root) /usr/bin/id\n"]
 CALLS = ("replace", "rename", "unlink", "fsync", "fchmod", "utime")  # where a fetch is killed
 STEPS = 60
+OLD = 1000  # messages that give nothing any more
 
 
 @dataclasses.dataclass
@@ -56,6 +57,19 @@ class Desk:
     state: int = 0
     is_up: bool = True
     has_history: bool = True
+    cuts: list[tuple[int, int]] = dataclasses.field(default_factory=list)
+
+    @property
+    def archived(self) -> int:
+        return self.cuts[-1][1] if self.cuts else 0
+
+    def history(self, states: list[tuple[str, str]]) -> Iterator[str]:
+        """A line for each state, and for each cut, from which on they say what was taken out."""
+        archived = 0
+        for at, (roster, base) in enumerate(states[: self.state + 1]):
+            for out in (archived, *(it[1] for it in self.cuts if it[0] == at)):
+                archived, cut = out, f"cut 20251101000000Z {out} " if out else ""
+                yield f"{20260101000000 + at}Z {cut}{roster} {base}\n"
 
     def file(self) -> bytes:
         lines = [f"ann db1 = (root) /usr/bin/g{it}\n" for it in self.site.grants(self.seen)]
@@ -68,11 +82,10 @@ class Desk:
         if route == "/v1/history":
             if not self.has_history:
                 return Reply(404, b"T3 NoRoute", "")
-            past = states[: self.state + 1]
-            lines = [f"{20260101000000 + at}Z {it[0]} {it[1]}\n" for at, it in enumerate(past)]
-            return Reply(200, "".join(lines).encode(), "")
+            return Reply(200, "".join(self.history(states)).encode(), "")
         roster, base = states[self.state]
-        return Reply(200, f"{self.seen} {roster} {base}\n".encode() + self.file(), "")
+        held = OLD + self.seen - self.archived
+        return Reply(200, f"{held} {roster} {base}\n".encode() + self.file(), "")
 
 
 @dataclasses.dataclass
@@ -103,7 +116,7 @@ class Life:
         self.site = Site([("a", 0)])
         self.desks = [Desk(self.site, has_history=rng.random() < 0.5) for _ in range(3)]
         self.hosts = [Host(os.path.join(folder, f"host{at}")) for at in range(5)]
-        self.backups = {at: (0, 0) for at in range(3)}
+        self.backups = {at: Desk(self.site) for at in range(3)}
         self.wrong: list[str] = []
         self.kills = 0
         for host in self.hosts:
@@ -116,7 +129,7 @@ class Life:
         """One thing that happens."""
         at = self.rng.randrange(3)
         desk = self.desks[at]
-        what = self.rng.randrange(20)
+        what = self.rng.randrange(21)
         if what < 3:
             self.site.messages.append(self.message())
         elif what < 6:
@@ -129,11 +142,15 @@ class Life:
         elif what == 8:
             desk.is_up = not desk.is_up
         elif what == 9:
-            self.backups[at] = (desk.seen, desk.state)
+            self.backups[at] = dataclasses.replace(desk, cuts=[*desk.cuts])
         elif what == 10:
-            desk.seen, desk.state = self.backups[at]
+            held = self.backups[at]
+            desk.seen, desk.state, desk.cuts = held.seen, held.state, [*held.cuts]
         elif what == 11:
             desk.has_history = not desk.has_history
+        elif what == 12:
+            out = desk.archived + self.rng.choice((200, 300))
+            desk.cuts += [(desk.state, out)] if out <= OLD else []
         else:
             self.fetch(self.rng.choice(self.hosts), self.rng.random() < 0.4)
 

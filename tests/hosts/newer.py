@@ -128,6 +128,76 @@ def newer(host: Host) -> None:
         host.check("the record's mode", mode == 0o600, oct(mode))
 
 
+def cut(host: Host) -> None:
+    """A desk whose history was cut holds fewer messages, and says how many it took out: it counts
+    as before. One that lags does not, whether it was cut or not, or came back from a backup of
+    before and has the roster of today."""
+    if not host.is_fit:
+        return
+    begin(host)
+    lags = "and this host's file is made of "
+    with desks(host, desk_of(MORE, 300)) as (desk,):
+        expect(host, "the first", 0, MORE)
+        for what, held, rosters, cuts, status, says in (
+            ("fewer, and nothing of a cut", 100, "a", (0,), 1, f"it holds 100 messages, {lags}300"),
+            ("cut", 100, "a", (0, 200), 0, ""),
+            ("cut, and more", 102, "a", (0, 200), 0, ""),
+            ("cut, and behind", 101, "a", (0, 200), 1, f"101 messages and archived 200, {lags}302"),
+            ("uncut, and behind", 301, "a", (0,), 1, f"it holds 301 messages, {lags}302"),
+            ("uncut, and as far", 302, "a", (0,), 0, ""),
+            ("cut as by none", 102, "a", (0, 199), 1, f"102 messages and archived 199, {lags}302"),
+            ("cut again", 12, "a", (0, 200, 290), 0, ""),
+            ("a lower cut, behind", 101, "a", (0, 200), 1, f"archived 200, {lags}302"),
+            ("another roster, behind", 11, "ab", (0, 290), 1, f"archived 290, {lags}302"),
+            ("another roster", 13, "ab", (0, 290), 0, "the roster is another"),
+            ("a roster that was left, uncut", 400, "a", (0,), 1, "that this host has left"),
+            ("back to it, cut", 13, "aba", (0, 290), 0, "the roster is another"),
+            ("then uncut, and behind", 302, "a", (0,), 1, f"it holds 302 messages, {lags}303"),
+            ("a new roster", 13, "abac", (0, 290), 0, "the roster is another"),
+            ("a restored desk with it", 302, "ac", (0,), 1, f"it holds 302 messages, {lags}303"),
+        ):
+            desk.answer = desk_of(GOOD, held, rosters, cuts=cuts)
+            expect(host, what, status, host.held() if status else GOOD, says)
+        kept = json.loads(host.read(RECORD))["installed"][-1]
+        host.check("the record", kept == [303, "c" * 64, digest(b""), 290], str(kept))
+
+
+def cut_one_by_one(host: Host) -> None:
+    """One of three desks is cut, while a revocation comes to one of them: the host takes the file
+    of the desk that has the revocation, whether that one is cut or not."""
+    if not host.is_fit:
+        return
+    for held in ((102, 301, 301), (101, 302, 301)):
+        begin(host)
+        with desks(host, *(desk_of(MORE, 300) for _ in held)) as made:
+            expect(host, "the first", 0, MORE)
+            for it, count in zip(made, held):
+                text = GOOD if count in (102, 302) else MORE
+                it.answer = desk_of(text, count, cuts=(0, 200) if count < 200 else (0,))
+            expect(host, f"the newest of {held}", 0, GOOD)
+            best = next(it for it, count in zip(made, held) if count in (102, 302))
+            best.answer = away
+            said = expect(host, f"none of the others of {held}", 1, GOOD)
+            host.check("each is behind", said.count("made of 302") == 2, said)
+
+
+def away_meanwhile(host: Host) -> None:
+    """A host that was away while its desk was cut, and until the desk held as many messages as
+    before: it asks what was taken out, so that it knows what an uncut desk lacks."""
+    if not host.is_fit:
+        return
+    begin(host)
+    with desks(host, desk_of(MORE, 300)) as (desk,):
+        expect(host, "the first", 0, MORE)
+        host.drop(HEARD)
+        os.utime(host.path(FILE), (1, 1))
+        desk.answer = desk_of(GOOD, 310, cuts=(0, 200))
+        expect(host, "after the cut", 0, GOOD)
+        desk.answer = desk_of(MORE, 509)
+        says = "it holds 509 messages, and this host's file is made of 510"
+        expect(host, "one that was never cut", 1, GOOD, says)
+
+
 def first_contact(host: Host) -> None:
     """A host without a record takes the desk that knows the others' as left, in whatever order
     they stand; and where one says nothing, it keeps what it has."""
@@ -493,6 +563,9 @@ PARTS = (
     unseen,
     unknown,
     newer,
+    cut,
+    cut_one_by_one,
+    away_meanwhile,
     first_contact,
     furthest,
     same_count,

@@ -407,6 +407,16 @@ def the_disk_is_full(books: Books) -> None:
     large_disk(books, folders[:1])
 
 
+def memory_or_history_ends(books: Books) -> None:
+    """The page's one command. Nothing here is a month old: that is said, and the desk serves on."""
+    before, page = books.life.pid("desk.service"), section("Memory or history ends")
+    words = re.search(r"^desk-change-roster --cut .*$", page, re.MULTILINE)
+    done = books.desk.run(words[0] if words else "false", given="y\n")
+    is_said = done.returncode == 2 and "0 messages would be taken out" in done.stdout + done.stderr
+    books.holds("nothing is that old", is_said, done)
+    books.holds("the desk serves on", books.life.pid("desk.service") == before != "0", before)
+
+
 def an_upgrade(books: Books) -> None:
     before = {it: books.life.pid(it) for it in SERVED}
     done = books.follow("An upgrade", 0)
@@ -474,6 +484,7 @@ BOOKS: tuple[Callable[[Books], None], ...] = (
     nobody_can_approve,
     a_key_is_lost,
     the_disk_is_full,
+    memory_or_history_ends,
     an_upgrade,
     a_backup,
     a_restore,

@@ -37,8 +37,8 @@ cp desk-reserve@.service desk-reserve@a.service
 for unit in desk.service desk-reserve{.socket,@a.service} desk-watch.{service,timer} \
     desk-fetch@db1.service desk-fetch@db1.timer desk-sessions.{service,timer} \
     desk-check.{service,timer} desk-starts.{service,path} desk-{end@1,failed@a}.service \
-    desk-relay-{post,page,notify}.service desk-door.service desk-consume@a.service \
-    desk-{backup,drill,follow}.service desk-{backup,drill}.timer; do
+    desk-relay-{post,page,notify}.service desk-{door,answers}.service desk-consume@a.service \
+    desk-{backup,drill,follow,auditor}.service desk-{backup,drill,auditor}.timer; do
     status=0
     said=$(SYSTEMD_LOG_LEVEL=warning systemd-analyze verify --man=no "./$unit" 2>&1) || status=1
     # what the machine's own units say is not ours
@@ -47,7 +47,8 @@ for unit in desk.service desk-reserve{.socket,@a.service} desk-watch.{service,ti
     verdict "systemd-analyze verify $unit" $status
 done
 for unit in desk.service desk-reserve@a.service desk-fetch@db1.service \
-    desk-relay-{post,page,notify}.service desk-door.service desk-consume@a.service; do
+    desk-relay-{post,page,notify}.service desk-{door,answers,auditor}.service \
+    desk-consume@a.service; do
     line=$(systemd-analyze security --offline=yes --no-pager "./$unit" | grep 'Overall exposure')
     echo "$line" | sed 's/[^ -~]//g; s/^ *//'
     figure=$(printf '%s\n' "$line" | sed 's/.*: \([0-9.]*\) .*/\1/')

@@ -85,7 +85,7 @@ def published(trial: "Trial", cluster: Cluster) -> None:
     told = "desk.refused: 1 messages were refused"
     until_so(trial, "the check tells of it", lambda: queues(trial, cluster), told)
     trial.does("it is taken off", *reader, "--take", says='"code"')
-    told = "2 queues, nothing is wrong"
+    told = "3 queues, nothing is wrong"
     until_so(trial, "the check is content", lambda: queues(trial, cluster), told)
 
 

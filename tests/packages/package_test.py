@@ -142,7 +142,7 @@ def install(trial: Trial) -> None:
     words = ["stat", "-c", "%U:%G %a", "/var/lib/desk-door"]
     trial.does("the door's folder", *words, says="^desk-door:desk-door 700$")
     more = ("desk-backup", "desk-restore")
-    for name in ("desk-door", "desk-signer", "desk-verify", "mydesk", *more):
+    for name in ("desk-door", "desk-signer", "desk-verify", "desk-auditor", "mydesk", *more):
         trial.does(f"{name} --help", name, "--help", says=f"^usage: {name} ")
     trial.does(
         "the account's folder", "stat", "-c", "%U:%G %a", "/var/lib/desk", says="^desk:desk 700$"

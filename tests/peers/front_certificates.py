@@ -120,7 +120,10 @@ class Behind(http.server.BaseHTTPRequestHandler):
     protocol_version = "HTTP/1.1"
 
     def do_GET(self) -> None:
-        body = f"person={self.headers.get('X-Desk-Person', '')}\n".encode()
+        # (behind the name the front says by which certificate)
+        person, _, key = self.headers.get("X-Desk-Person", "").partition("; ")
+        is_told = re.fullmatch("certificate [0-9A-F]+ from 127.0.0.1", key)
+        body = f"person={person if is_told else ''}\n".encode()
         self.send_response(200)
         self.send_header("Content-Length", str(len(body)))
         self.end_headers()
@@ -177,6 +180,7 @@ def page_words(folder: str, port: int, address: str) -> list[str]:
     text = desk.read("relays", "front.example.conf").replace("listen 8443", f"listen {port}")
     text = re.sub(r"proxy_pass [^;]+;", f"proxy_pass http://{address};", text)
     text = text.replace("/etc/desk/front/", f"{ca}/").replace("/etc/desk", folder)
+    text = text.replace("/var/log/nginx", folder)
     desk.write(folder, "page.front", "proxy_set_header X-Desk-Front secret;\n")
     temp = "".join(
         f"{name}_temp_path {folder}/{name};"

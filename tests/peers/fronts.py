@@ -65,6 +65,8 @@ SOUND = {
     "auditor-carol": ("auditor", "carol"),
 }
 UNSOUND = ["old/relay-chat", "early/relay-chat", "other/relay-chat", "gone/host-db1", "bare", None]
+SIGNED = f"signed/{'0123456789abcdef' * 2}"
+OF_A_DOOR = re.compile("/signed/|/v1/journal|/v1/signers")
 # The method, the target, a body or None, and whose it is.
 ROUTES = [
     ("POST", "/v1/relays/chat/messages", message(1), ("relay", "chat")),
@@ -78,6 +80,13 @@ ROUTES = [
     ("GET", "/v1/hosts/db1/at/20260105110000Z", None, ("host", "db1")),
     ("HEAD", "/v1/hosts/db1/at/20260105110000Z", None, ("host", "db1")),
     ("GET", "/v1/hosts/db2/at/20260105110000Z", None, ("host", "db2")),
+    # (as a door answers them: here is none, and the desk knows no such route)
+    ("GET", f"/v1/hosts/db1/at/20260105110000Z/{SIGNED}", None, ("host", "db1")),
+    ("HEAD", f"/v1/hosts/db1/history/{SIGNED}", None, ("host", "db1")),
+    ("GET", f"/v1/hosts/db2/at/20260105110000Z/{SIGNED}", None, ("host", "db2")),
+    ("GET", f"/v1/hosts/db2/history/{SIGNED}", None, ("host", "db2")),
+    ("GET", "/v1/journal/after/0", None, ("auditor", None)),
+    ("HEAD", "/v1/signers/after/20260105110000Z", None, ("auditor", None)),
     ("GET", "/v1/count", None, ("host auditor", None)),
     ("HEAD", "/v1/count", None, ("host auditor", None)),
     ("GET", "/v1/reviews/20260105093000Z", None, ("auditor", None)),
@@ -107,6 +116,21 @@ ROUTES = [
     ("GET", "/v1/hosts/db1/at/20260105110000Z/", None, None),
     ("GET", "/v1/hosts/db1/at/1Z/20260105110000Z", None, None),
     ("POST", "/v1/hosts/db1/at/20260105110000Z", message(3), None),
+    ("POST", f"/v1/hosts/db1/at/20260105110000Z/{SIGNED}", message(3), None),
+    ("GET", f"/v1/hosts/db1/at/{SIGNED}", None, None),
+    ("GET", f"/v1/hosts/db1/{SIGNED}", None, None),
+    ("GET", f"/v1/hosts/db1/sudoers/20260105110000Z/{SIGNED}", None, None),
+    ("GET", f"/v1/hosts/db1/history/20260105110000Z/{SIGNED}", None, None),
+    ("GET", f"/v1/hosts/db1/at/20260105110000Z/{SIGNED}/{SIGNED}", None, None),
+    ("GET", f"/v1/hosts/db2/at/1Z/../../db1/history/{SIGNED}", None, None),
+    ("GET", f"/v1/history/{SIGNED}", None, None),
+    ("GET", "/v1/hosts/db1/history", None, None),
+    ("POST", "/v1/journal/after/0", message(3), None),
+    ("GET", "/v1/journal/after/", None, None),
+    ("GET", "/v1/journal", None, None),
+    ("GET", "/v1/journal/after/0/../../messages", None, None),
+    ("GET", "/v1/signers/after/0", None, None),
+    ("GET", "/v1/signers/now/allowed_signers", None, None),
     ("GET", "/v1/open/20260105093000Z?x", None, None),
     ("GET", "/v1/relays/chat/messages", None, None),
     ("PUT", "/v1/relays/chat/messages", message(3), None),
@@ -243,7 +267,8 @@ def ask_routes(folder: str, port: int) -> tuple[int, int]:
             )
             got = status(front.exchange(client, port, request(method, target, body)))
             asked += 1
-            if got != ("200" if is_right else "403"):
+            taken = "404" if OF_A_DOOR.search(target) else "200"
+            if got != (taken if is_right else "403"):
                 wrong += 1
                 print(f"{name}: {method} {target}: {got}")
     return asked, wrong
@@ -640,26 +665,35 @@ def passed_on(folder: str, port: int, recorder: front.Recorder) -> tuple[int, in
 
 
 def apart(folder: str, words_of: Callable[..., list[str]]) -> tuple[int, int]:
-    """Messages go to one socket, and questions to another: nothing comes to the wrong one."""
+    """Messages go to one socket, questions to another, and those that a door answers to a third:
+    nothing comes to the wrong one."""
     port, found = free_port(), []
+    signed = f"/v1/hosts/db1/history/{SIGNED}"
+    asked: list[tuple[str, str, str, bytes | None, int]] = [
+        ("relay-chat", "POST", "/v1/relays/chat/messages", desk.approval().encode(), 0),
+        ("host-db1", "GET", "/v1/hosts/db1/sudoers", None, 1),
+        ("host-db1", "HEAD", "/v1/count", None, 1),
+        ("auditor-carol", "GET", "/v1/messages", None, 1),
+        ("host-db1", "GET", signed, None, 2),
+        ("auditor-carol", "GET", "/v1/journal/after/7", None, 2),
+        ("auditor-carol", "GET", "/v1/signers/after/20260105110000Z", None, 2),
+    ]
     with served(folder) as server, tempfile.TemporaryDirectory() as places:
-        at = [front.Recorder(server.address, os.path.join(places, it)) for it in ("post", "ask")]
-        with front.front(words_of(folder, port, at[0].address, at[1].address), port):
-            for name, method, route, body in (
-                ("relay-chat", "POST", "/v1/relays/chat/messages", desk.approval().encode()),
-                ("host-db1", "GET", "/v1/hosts/db1/sudoers", None),
-                ("host-db1", "HEAD", "/v1/count", None),
-                ("auditor-carol", "GET", "/v1/messages", None),
-            ):
+        names = ("post", "ask", "door")
+        at = [front.Recorder(server.address, os.path.join(places, it)) for it in names]
+        with front.front(words_of(folder, port, *(it.address for it in at)), port):
+            for name, method, route, body, where in asked:
                 given = request(method, route, body)
                 reply = front.exchange(front.context(folder, name), port, given)
-                found.append((route, status(reply) == "200", reply))
+                is_right = status(reply) == ("404" if where == 2 else "200")
+                found.append((route, is_right, reply))
         until = time.monotonic() + 60
-        while sum(len(it.requests) for it in at) < 4 and time.monotonic() < until:
+        while sum(len(it.requests) for it in at) < len(asked) and time.monotonic() < until:
             time.sleep(0.05)
-        for recorder, methods in zip(at, ({b"POST"}, {b"GET", b"HEAD"}), strict=True):
-            heard = {it.partition(b" ")[0] for it in recorder.requests if it}
-            found.append((recorder.address, heard == methods, heard))
+        for recorder, place in zip(at, range(3), strict=True):
+            routes = {route for _, _, route, _, where in asked if where == place}
+            heard = {it.split(b" ")[1].decode() for it in recorder.requests if it}
+            found.append((recorder.address, heard == routes, heard))
     wrong = [(what, said) for what, is_right, said in found if not is_right]
     for what, said in wrong:
         print(f"messages and questions apart, {what}: {said!r}")

@@ -1,6 +1,7 @@
 #!/usr/bin/env python3
 """The memory that the desk's unit gets: it follows the messages of the store at each start, and the
-log of the desk warns where they may need half of it.
+log of the desk warns where they may need half of it. The desk itself may have all of that but a
+rest: so it answers K5, and goes on.
 
 `python3 -m tests.peers.memory WORDS..` runs another program than build/desk. As root it also looks
 at who reads the store.
@@ -13,6 +14,7 @@ import sys
 import tempfile
 from collections.abc import Iterator
 
+from steelnewt_client.desk import Desk
 from tests.common import desk
 
 Row = tuple[str, bool, str]
@@ -26,6 +28,18 @@ SYSTEMCTL = """#!/bin/bash
 case $1 in
     show) cat "$ROOM/has" ;;
     set-property) echo "${*:2}" > "$ROOM/set" ;;
+esac
+"""
+# what a unit needs beside its desk, and what a limit leaves of a desk that is served
+REST, ROOM, MANY = 64 << 20, 3 << 20, 20_000
+# a program that says what it may have
+FAKE = """#!/bin/bash
+case $1 in
+    --version) echo "$SAID" ;;
+    serve)
+        ulimit -S -d > "$ROOM/limit"
+        echo "listening $5"
+        exec sleep 600 ;;
 esac
 """
 HOSTILE = "CREATE VIEW messages AS SELECT 'x' AS body WHERE edit('x', 'touch {room}/ran #') <> '';"
@@ -136,6 +150,71 @@ def warned(room: str) -> Iterator[Row]:
         yield f"{a_message} bytes a message", bool(warning) == is_said, "".join(lines)
 
 
+def most_data() -> int:
+    """What the desk itself may have here, in KiB."""
+    memory = MACHINE // 10 * 9
+    with open("/proc/self/cgroup", encoding="ascii") as file:
+        own = next((it[3:].strip() for it in file if it.startswith("0::")), "")
+    path = f"/sys/fs/cgroup{own}/memory.max"
+    limit = desk.read(path).strip() if os.path.exists(path) else ""
+    return (min(memory, int(limit) if limit.isdecimal() else memory) - REST) // 1024
+
+
+def limited(room: str) -> Iterator[Row]:
+    """A proved desk may have so much; one that is not proved has checks that ask for more."""
+    os.chmod(desk.write(f"{room}/bin", "desk", FAKE), 0o755)
+    roster, base = (desk.write(room, f"{it}.text", "") for it in ("roster", "base"))
+    words = {"ROSTER": roster, "BASE": base, "STORE": f"{room}/none/desk.db", "ROOM": room}
+    words |= {"ADDR": f"unix:{room}/fake.sock", "DESK": f"{room}/bin/desk"}
+    os.mkdir(f"{room}/none")
+    for said, wanted in (("desk 1.0", f"{most_data()}\n"), ("NOT PROVED", "unlimited\n")):
+        job = subprocess.Popen(
+            [SERVE], env=os.environ | words | {"SAID": said}, stdout=subprocess.PIPE, text=True
+        )
+        assert job.stdout is not None
+        lines = []
+        for line in job.stdout:
+            lines.append(line)
+            if "listening at" in line:
+                job.terminate()
+        job.wait()
+        found = desk.read(room, "limit")
+        yield f"the limit of {said}", found == wanted, f"{found!r} {wanted!r} {''.join(lines)}"
+
+
+def answers(room: str) -> Iterator[Row]:
+    """A desk whose limit is reached answers K5, and then goes on. (The checks of one that is not
+    proved ask for more memory than there is, and end it: that is tried with a proved one alone.)"""
+    program = desk.named()
+    if "NOT PROVED" in desk.run([*program, "--version"]).stdout:
+        print("the program is not proved: that it answers K5 at its limit is not tried")
+        return
+    files = [f"{room}/roster.toml", f"{room}/base.sudo", f"{room}/many.db"]
+    told = "".join(f"{desk.approval(number)}\n" for number in range(1, MANY + 1))
+    desk.run([*program, "deliver", *files, "chat"], told)
+    address = f"unix:{room}/many.sock"
+    with subprocess.Popen([*program, "serve", *files, address], stdout=subprocess.PIPE) as job:
+        assert job.stdout is not None
+        job.stdout.readline()
+        peer = Desk(address)
+        limit = data_of(job.pid) + ROOM
+        subprocess.run(["prlimit", "--pid", str(job.pid), f"--data={limit}"], check=True)
+        for what, route, wanted in (
+            ("all messages", "/v1/messages", (503, "K5 NoMemory\n")),
+            ("its count", "/v1/count", (200, f"{MANY} ")),
+        ):
+            found = peer.exchange("GET", route)
+            is_right = found.status == wanted[0] and found.text.startswith(wanted[1])
+            yield f"past the limit: {what}", is_right, f"{found.status} {found.text[:80]}"
+        job.terminate()
+
+
+def data_of(process: int) -> int:
+    """The memory that a process has asked for, in bytes."""
+    status = desk.read(f"/proc/{process}/status")
+    return 1024 * int(next(it.split()[1] for it in status.splitlines() if "VmData" in it))
+
+
 def main() -> None:
     checks, wrong = 0, 0
     with tempfile.TemporaryDirectory() as room:
@@ -143,7 +222,7 @@ def main() -> None:
         for name in ("bin", "store"):
             os.mkdir(f"{room}/{name}")
         os.chmod(desk.write(f"{room}/bin", "systemctl", SYSTEMCTL), 0o755)
-        for part in (follows, unread, warned):
+        for part in (follows, unread, warned, limited, answers):
             for what, is_right, said in part(room):
                 checks += 1
                 if not is_right:

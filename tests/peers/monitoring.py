@@ -22,6 +22,8 @@ import urllib.request
 from collections.abc import Callable, Iterator
 
 from steelnewt_client.messages import Verdict
+from steelnewt_relay.events import Event
+from steelnewt_relay.notices import Notices
 from steelnewt_relay.outbox import Outbox
 from tests.common import desk, front, outsider
 from tests.common.ports import free_port
@@ -254,12 +256,16 @@ def long_lived(folder: str) -> Iterator[Row]:
         words = ("--desk", address, "--unit", "desk")
         for limit, status, says in (
             (8192 + 1, 0, "desk_memory_percent=49"),
-            (8192, 1, "WARNING - 2 messages may need 50 % of the memory of desk: restart it, or"),
+            (8192, 1, "WARNING - 2 messages may need 50 % of the memory of desk: restart it, cut"),
+            (8192, 1, "cut its history (desk-change-roster --cut), or give the machine more"),
+            (8192, 1, "desk_memory_bytes=4242"),
+            (8192, 1, "desk_memory_limit_bytes=8192"),
             (4096, 1, "desk_memory_percent=100"),
             ("infinity", 0, "desk_memory_percent=0"),
             (machine * 2, 0, "desk_memory_percent=0"),
         ):
-            before = telling(folder, f"LoadState=loaded\nMemoryMax={limit}\n")
+            told = f"LoadState=loaded\\nMemoryMax={limit}\\nMemoryCurrent=4242\\n"
+            before = telling(folder, told)
             found = check(*words, before=before)
             yield f"a unit of {limit} bytes", *is_said(found, status, says)
         before = telling(folder, "LoadState=not-found\nMemoryMax=infinity\n")
@@ -377,6 +383,30 @@ def box_check(path: str, *words: str) -> tuple[int, str]:
     return check("--outbox", path, "--free-warning", "0", "--free-critical", "0", *words)
 
 
+def notices(box: Outbox, path: str) -> Iterator[Row]:
+    """What is to be told: one that waits, one that was given up, and nobody who looks."""
+    yield "who sent most", *is_said(box_check(path), 0, "within a day bob sent 4 of 4 messages")
+    yield "nobody is told anything", "desk_notices" not in box_check(path)[1], ""
+    found = Notices(box)
+    found.untold()
+    found.record([Event("asked", 1, {"by": "ann", "to": []})])
+    for age, status, says in (
+        (60, 0, "desk_notices_waiting=1 desk_notices_given_up=0 desk_notices_oldest_seconds=6"),
+        (400, 1, "1 events are not told to anybody, one for 40"),
+        (2 * HOUR, 2, "DESK CRITICAL - 1 events are not told to anybody"),
+    ):
+        box.base.execute("UPDATE notices SET began = ?", (time.time() - age,))
+        yield f"an event waits for {age} s", *is_said(box_check(path), status, says)
+    box.base.execute("UPDATE notices SET state = 'given up'")
+    yield "it is given up", *is_said(box_check(path), 1, "1 events could not be told for a day")
+    box.base.execute("UPDATE notices SET began = 0")
+    yield "long ago", *is_said(box_check(path), 0, "desk_notices_given_up=0 ")
+    for age, status in ((400, 1), (2 * HOUR, 2)):
+        box.base.execute("UPDATE looked SET at = ?", (time.time() - age,))
+        yield f"nobody looked for {age} s", *is_said(box_check(path), status, "nobody looked for ")
+    box.base.execute("UPDATE looked SET at = ?", (time.time(),))
+
+
 def outboxes(folder: str) -> Iterator[Row]:
     """A relay's outbox, written by the relay's own program."""
     path = os.path.join(folder, "outbox.db")
@@ -398,6 +428,7 @@ def outboxes(folder: str) -> Iterator[Row]:
     box.answered(1, "acked")
     yield "one of tomorrow", *is_said(box_check(path), 2, "it has a message from the fut")
     box.answered(4, "acked")
+    yield from notices(box, path)
     os.rename(f"{folder}/reserve", f"{folder}/given-up")
     given_up = box_check(path)
     yield "its reserve is given up", *is_said(given_up, 2, "refusals and revocations alone are")

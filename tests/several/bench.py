@@ -103,6 +103,13 @@ class Bench:
         self.checks.same(f"desk {name} is filled: {said} {ran.stderr[-200:]!r}", ran.returncode, 0)
         return said
 
+    def publish(self, words: list[str], bodies: list[bytes]) -> set[str]:
+        """What a relay's program says of these messages."""
+        given = b"".join(body + b"\n" for body in bodies)
+        account = self.account(f"relay-{RELAYS[0]}")
+        ran = subprocess.run(words, env=account, input=given, capture_output=True, check=False)
+        return set(ran.stdout.decode().splitlines())
+
     def compare(self, *words: str) -> tuple[int, str]:
         ran = self.run(str(COMPARE), *words)
         return ran.returncode, (ran.stdout + ran.stderr).decode()

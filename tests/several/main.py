@@ -23,7 +23,7 @@ import tempfile
 import time
 
 from tests.common.desk import PROGRAM
-from tests.several import faults, poison, rates, verdict
+from tests.several import faults, first, packaged, poison, rates, verdict
 from tests.several.bench import Bench
 from tests.several.desks import Desk, wait_for_stores
 from tests.several.nodes import ROOT
@@ -44,9 +44,10 @@ def start(bench: Bench) -> None:
     bench.tell("three brokers make a cluster")
 
 
-def disturb(bench: Bench, seed: int) -> None:
+def disturb(bench: Bench, seed: int, relays: packaged.Relays) -> None:
     """All faults, some at the same time; what a thread raises is raised here."""
     kinds = (
+        relays.kill,
         faults.kill_nodes,
         faults.kill_programs,
         faults.kill_in_flight,
@@ -60,12 +61,14 @@ def disturb(bench: Bench, seed: int) -> None:
             each.result()
 
 
-def publish(bench: Bench, posts: list[Post], seed: int) -> list[Post]:
+def publish(
+    bench: Bench, posts: list[Post], seed: int, relays: packaged.Relays
+) -> list[Post]:
     """Publishes them at their pace while things go wrong; those that the broker confirmed."""
     accounts = {relay: bench.account(f"relay-{relay}") for relay in [*RELAYS, GHOST]}
     traffic = Traffic(posts, bench.plan.pace, accounts, bench.folder)
     traffic.start()
-    disturb(bench, seed)
+    disturb(bench, seed, relays)
     bench.tell("all faults are over" + (", messages go on" if traffic.is_going() else ""))
     traffic.join(PATIENCE)
     bench.tell(f"{len(posts)} messages are published")
@@ -127,11 +130,20 @@ def run(words: argparse.Namespace, folder: pathlib.Path, started: Programs) -> i
         starting = pool.submit(start, bench)
         rated = bench.site.accepted(3 * plan.rated)
         by_hand = bench.site.accepted(poison.COUNT)
-        oracle, wanted = verdict.by_one_deliver(bench, [*rated, *by_hand, *posts])
+        behind = bench.site.accepted(first.COUNT)
+        kept = bench.site.accepted(packaged.COUNT)
+        given = [*rated, *by_hand, *behind, *kept, *posts]
+        oracle, wanted = verdict.by_one_deliver(bench, given)
         starting.result()
     rates.measure(bench, rated)
     poison.publish(bench, by_hand)
-    confirmed = publish(bench, posts, words.seed)
+    first.publish(bench, behind)
+    relays = packaged.Relays(bench, kept)
+    confirmed = publish(bench, posts, words.seed, relays)
+    # (what no packaged relay would have asked is not missed)
+    left = relays.end(bench)
+    bench.fill("b", b"".join(post.body + b"\n" for post in kept if post.body not in left))
+    bench.fill("c", b"".join(post.body + b"\n" for post in kept if post.body not in left))
     drain(bench, wanted)
     judge(bench, posts, confirmed, oracle, wanted)
     print(f"{bench.checks.made} checks, {bench.checks.wrong} wrong")

@@ -64,6 +64,12 @@ class Program:
     def is_running(self) -> bool:
         return self._process is not None and self._process.poll() is None
 
+    def hears(self, what: signal.Signals) -> bool:
+        """Whether it handles a signal by itself by now."""
+        status = pathlib.Path(f"/proc/{self._process.pid}/status").read_text(encoding="utf-8")
+        caught = next(it.split()[1] for it in status.splitlines() if it.startswith("SigCgt:"))
+        return bool(int(caught, 16) >> (what - 1) & 1)
+
     def end(self, how: signal.Signals, patience: float = 120.0) -> int:
         """Sends its process the signal, and gives the status that it ended with."""
         if self._process is None:

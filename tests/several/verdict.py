@@ -123,7 +123,8 @@ def wait_for_queues(bench: Bench) -> None:
 
     def are_empty() -> bool:
         queues = bench.cluster.queues()
-        return not any(queues[f"desk.{name}"].messages for name in bench.desks)
+        kinds = ("desk", "first")
+        return not any(queues[f"{kind}.{it}"].messages for kind in kinds for it in bench.desks)
 
     wait_until("the queues of all desks are empty", are_empty, 300, 0.5)
 

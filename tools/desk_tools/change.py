@@ -206,7 +206,7 @@ def enough_room(desk: Desk, new: bytes) -> None:
 def settle(desk: Desk, count: Count) -> Line:
     """What is served is the last line of the history, also after a change that was cut off."""
     last = desk.history.last()
-    if last is not None and last[1:] == count[1:]:
+    if last is not None and last.served == count[1:]:
         return last
     return write_served(desk, Line("", count.roster, count.base), "what the desk serves")
 
@@ -257,7 +257,7 @@ def wait(desk: Desk, kind: str, wanted: str, line: Line) -> None:
         if count is not None and getattr(count, kind) == wanted:
             return
         last = desk.history.last() or line
-        if last.moment > line.moment and count is not None and count[1:] == last[1:]:
+        if last.moment > line.moment and count is not None and count[1:] == last.served:
             raise Failed(f"the {kind} stays: {desk.history.reason(last.moment)}")
         if time.monotonic() > until:
             said = f"the desk does not say that it has the new {kind}"
@@ -270,7 +270,7 @@ def go_back(desk: Desk, kind: str, old: bytes, before: Line, why: str) -> None:
     count = served.counted(desk.settings.address)
     if count is None:
         raise Halfway(f"{why}; and the desk does not answer")
-    if count[1:] != before[1:]:
+    if count[1:] != before.served:
         raise Halfway(f"{why}; and the desk serves another {kind} than before")
     try:
         desk.put(kind, old)

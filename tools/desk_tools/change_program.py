@@ -10,18 +10,18 @@ import sys
 import time
 from contextlib import nullcontext
 
-from desk_tools import base_words, change, changes, desks, evidence, lint, renaming
+from desk_tools import base_words, change, changes, cutting, desks, evidence, lint, renaming
 from desk_tools import roster_words, served
 from desk_tools.adding import added
 from desk_tools.change import Compared, Desk, Halfway
-from desk_tools.desks import Machines
+from desk_tools.desks import Cuts, Machines
 from desk_tools.found import Parser, visible
 from desk_tools.history import Line
 from desk_tools.judge import NoDesk, program
 from desk_tools.roster_text import CannotEdit
 from desk_tools.schema import NoJsonschema
 from desk_tools.served import Failed
-from steelnewt_client.moments import stamp_of
+from steelnewt_client.moments import of_stamp, stamp, stamp_of
 
 DONE, NOT_CHANGED, REFUSED, HALFWAY = 0, 1, 2, 3
 # what a roster or a base may have at most, with room for a fault to be named
@@ -34,6 +34,14 @@ def text_word(said: str) -> str:
     if not TEXT.fullmatch(said):
         raise argparse.ArgumentTypeError("it has to be one line of at most 500 characters")
     return said
+
+
+def moment_word(said: str) -> str:
+    """A moment, as the desk writes it."""
+    try:
+        return stamp(of_stamp(said))
+    except ValueError:
+        raise argparse.ArgumentTypeError("a moment is yyyymmddhhmmssZ") from None
 
 
 def parser(kind: str) -> argparse.ArgumentParser:
@@ -72,6 +80,9 @@ def add_new(found: argparse.ArgumentParser, kind: str) -> None:
     found.add_argument(kind, metavar="NEW_ROSTER", nargs="?", help=said)
     said = "the new roster is the old one with what it lacks of this file's entries"
     found.add_argument("--add", metavar="FILE", help=said)
+    said = "no new roster: verdicts on requests that ended before it go to an archive"
+    found.add_argument("--cut", type=moment_word, metavar="MOMENT", help=said)
+    found.add_argument("--expect", default="", help=argparse.SUPPRESS)
 
 
 def add_reasons(found: argparse.ArgumentParser) -> None:
@@ -150,7 +161,7 @@ def agreed(said: argparse.Namespace, kind: str, is_back: bool) -> bool:
         return False
     if said.yes:
         return True
-    if "-" in (getattr(said, kind), getattr(said, "add", None)):
+    if "-" in (getattr(said, kind, None), getattr(said, "add", None)):
         raise Failed(f"the new {kind} is the input, so nobody is asked: add --yes")
     asks = f"Rights come back. Change the {kind}" if is_back else f"Change the {kind}"
     print(f"{asks}? [y/N] ", end="", flush=True)
@@ -222,6 +233,44 @@ def on_each(said: argparse.Namespace, kind: str) -> int:
     return DONE
 
 
+def cut(said: argparse.Namespace, desk: Desk) -> int:
+    """The history, from what a cut takes out on."""
+    if not said.show:
+        cutting.ended(desk)
+    if cutting.is_cut(desk, said.cut, print):
+        print("The desk is cut there.")
+        return DONE
+    found = cutting.looked(desk, said.cut)
+    print("\n".join(found.lines), flush=True)
+    if said.show or not agreed(said, "history", False):
+        print("Nothing was changed.")
+        return DONE if said.show else NOT_CHANGED
+    words = reasons(said) + ([] if said.why else [f"why=the history is cut at {said.cut}"])
+    found = cutting.cut(desk, said.cut, words, said.expect)
+    print(f"The desk serves {found.kept} messages, and its archive has {found.archived}.")
+    return DONE
+
+
+def cut_each(said: argparse.Namespace) -> int:
+    """On each of several desks, which have to be cut alike."""
+    there = Cuts(said, reasons(said))
+    found = there.ask_all()
+    for name, it in found.items():
+        desks.show(name, it)
+    alike = there.alike(found)
+    lacking = [name for name, it in found.items() if not there.has(it)]
+    if not lacking:
+        print("Each desk is cut there.")
+        return DONE
+    if said.show or not agreed(said, "history", False):
+        print("Nothing was changed.")
+        return DONE if said.show else NOT_CHANGED
+    sys.stdout.flush()
+    there.change_all(lacking, f"--expect={alike}")
+    print("Each desk is cut there.")
+    return DONE
+
+
 CHANGED = {"roster": changed_roster, "base": changed_base}
 
 
@@ -233,6 +282,8 @@ def followed(said: argparse.Namespace, kind: str) -> int:
 
 
 def changed(said: argparse.Namespace, kind: str, desk: Desk) -> int:
+    if kind == "roster" and said.cut:
+        return cut(said, desk)
     new = new_text(said, kind)
     if kind == "roster":
         checked(said.roster or desk.settings.roster, new)
@@ -250,10 +301,12 @@ def changing(kind: str) -> int:
     """The program that changes a roster, or a base."""
     takes = parser(kind)
     said = takes.parse_args()
-    if kind == "roster" and (said.roster is None) == (said.add is None):
-        takes.error("name a NEW_ROSTER, or --add a file, and not both")
+    if kind == "roster" and sum(it is not None for it in (said.roster, said.add, said.cut)) != 1:
+        takes.error("name a NEW_ROSTER, or --add a file, or --cut a moment, and one alone")
     status = REFUSED
     try:
+        if said.desks and kind == "roster" and said.cut:
+            return cut_each(said)
         return on_each(said, kind) if said.desks else followed(said, kind)
     except Halfway as fault:
         why, status = f"{fault}: run it again", HALFWAY

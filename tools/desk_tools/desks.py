@@ -3,6 +3,7 @@
 from __future__ import annotations
 
 import argparse
+import re
 import shlex
 import subprocess
 from typing import NamedTuple
@@ -14,6 +15,9 @@ from desk_tools.served import Failed
 # (the machine that is asked is that of a desk, and maybe far away)
 ASKED_IN = 600.0
 
+
+# what a machine says that it has taken out of its store
+TAKEN = re.compile(r"^Taken out so far: (\d+) messages, sha256 ([0-9a-f]{64})$", re.MULTILINE)
 
 # the status of a machine that does not know which one its desk has; ssh's own is 255
 HALFWAY, NO_SSH = 3, 255
@@ -35,11 +39,15 @@ class Machines:
     ) -> None:
         self.names, self.kind, self.reasons, self.new = said.desks, kind, reasons, new
         self.ssh = shlex.split(said.ssh)
-        self.said = said
+        self.said, self.done = said, f"has the new {kind}"
+
+    def what(self) -> list[str]:
+        """What it is changed to: the input."""
+        return ["-"]
 
     def words(self, *more: str) -> str:
         """The same command, on one machine."""
-        found = [f"desk-change-{self.kind}", "-", "--conf", self.said.conf]
+        found = [f"desk-change-{self.kind}", *self.what(), "--conf", self.said.conf]
         found += ["--service", self.said.service]
         found += ["--desk", self.said.desk] if self.said.desk else []
         for word in self.reasons:
@@ -83,7 +91,35 @@ class Machines:
                 told = " (which one it has is not known)" if is_unknown else ""
                 old = f"; the old one is still at {rest}" if rest else ""
                 raise Halfway(f"{name}: {last(said.err)}{told}{old}")
-            print(f"{name} has the new {self.kind}.")
+            print(f"{name} {self.done}.")
+
+
+class Cuts(Machines):
+    """The same, where the history of each is cut."""
+
+    def __init__(self, said: argparse.Namespace, reasons: list[str]) -> None:
+        super().__init__(said, "roster", reasons, b"")
+        self.done = "is cut"
+
+    def what(self) -> list[str]:
+        return ["--cut", self.said.cut]
+
+    def has(self, said: Said) -> bool:
+        return said.out.endswith("The desk is cut there.\n")
+
+    def alike(self, found: dict[str, Said]) -> str:
+        """The digest of what is taken out, with all that was before: on each desk the same, or none
+        is begun with."""
+        digests = {name: TAKEN.search(it.out) for name, it in found.items()}
+        told = {name: (it[1], it[2]) for name, it in digests.items() if it}
+        if len(told) < len(found) or len(set(told.values())) > 1:
+            each = ", ".join(f"{name} {it[0]}" for name, it in told.items())
+            raise Failed(
+                f"the desks do not take out the same messages ({each}): compare them"
+                " (desk-compare messages), fill what lacks, and see when each was cut;"
+                " no desk was begun with"
+            )
+        return next(iter(told.values()))[1]
 
 
 def last(text: str) -> str:

@@ -23,6 +23,8 @@ from desk_tools.pieces import Name, Piece, Reasons
 from desk_tools.report_html import page
 from desk_tools.rights import Base, Right, Standing
 from desk_tools.served import Failed, digest, file_digest
+from desk_tools.signed import Door
+from desk_tools.signed import told as told_by_signers
 from desk_tools.summary import Data, Summary, Told
 from desk_tools.toml_text import read as read_toml
 from desk_tools.touched import Touched, wider
@@ -67,6 +69,13 @@ MOMENT/         for each roster and base of that time, by the moment since which
   used.json     what `desk-used` tells of the logs, by these names and by what earlier rosters
                 granted them
 second-reading.jq  the second reading itself
+
+Where a door's journal was given:
+
+verified        what desk-verify says: which messages nobody signed, whether each approval that
+                counts was given over the very request, which rows are missing or were changed
+journal         the files of the journal, and their SHA-256
+signers/        whose key was whose, by the moment since which it held
 
 Each answer is that of one roster, and MOMENT says of which: ask about a day by the roster of it.
 
@@ -114,6 +123,7 @@ class Evidence:
     reasons: Reasons | None
     sample: tuple[int, str] | None  # how many, and the seed
     key: str | None
+    door: Door | None = None
     used_by: Used | None = None  # the logs, once they are read
     pieces: list[Piece] = field(default_factory=list)
     # what desk-audit tells of the names that a roster granted so far
@@ -123,6 +133,8 @@ class Evidence:
     touched: Touched = field(default_factory=Touched)
     numbers: dict[str, list[int]] = field(default_factory=dict)
     gaps: list[Gap] = field(default_factory=list)
+    names: list[Data] = field(default_factory=list)  # what all rosters tell of names
+    signed: Data | None = None  # what desk-verify told
 
     @property
     def margin(self) -> int:
@@ -161,7 +173,24 @@ class Evidence:
             for it in found:
                 summary.take(self.period(it, before))
                 before = it
+            self.verify(room)
         self.hand_on(summary, found)
+
+    def verify(self, room: str) -> None:
+        """Has a door's files looked at: what it comes to is no fault of this run."""
+        if self.door is None:
+            return
+        listed = "".join(f"{mark}  {name}\n" for mark, name in self.door.files())
+        self.put("journal", listed)
+        for name, data in self.door.versions():
+            self.put(f"signers/{name}", data)
+        requests = os.path.join(room, "requests")
+        with open(requests, "w", encoding="utf-8") as file:
+            json.dump({"names": self.names}, file)
+        words = self.door.words(os.path.join(self.folder, "messages"), requests)
+        said, _ = self.run(*words, ok=(0, 1))
+        self.put("verified", said)
+        self.signed = told_by_signers(said.decode(), self.first, self.last)
 
     def looked_through(self) -> Iterator[Data]:
         """The messages. The request and the moment of each line are kept."""
@@ -212,6 +241,7 @@ class Evidence:
         self.put(f"{it.name}/refused", joined(lines))
         self.made(it, part, len(refused))
         audit, kept = json.loads(whole), part.without(refused)
+        self.names += audit["names"]
         # (desk-audit has read it: it has no faults)
         document = read_toml(it.text).value
         with ThreadPoolExecutor(os.cpu_count()) as pool:
@@ -332,7 +362,7 @@ class Evidence:
         reasons = self.reasons or {}
         table = self.put("grants.csv", pieces.table_of(self.pieces, lasts, reasons))
         rights, unknown = self.standing()
-        told = summary.data(rights, self.gaps)
+        told = summary.data(rights, self.gaps, self.signed)
         told["standing_unknown"] = unknown
         told["begins"] = [{"by": by, "no": no} for by, no in begins(self.numbers)]
         files, rows = {"grants.csv": file_digest(table)}, list[dict[str, str]]()
@@ -357,6 +387,8 @@ class Evidence:
         files += [(f"base of {it.name}", digest(it.base)) for it in found]
         logs = log_files(self.logs)
         files += [(f"log {path}", file_digest(path)) for path in logs]
+        if self.door is not None:
+            files += [(f"journal {name}", mark) for mark, name in self.door.files()]
         more = {"messages": len(self.messages), "from": self.first, "until": self.last}
         return made(NAMESPACE, self.said, files, **more)
 
@@ -416,11 +448,11 @@ def sign(path: str, key: str) -> None:
         raise Failed(f"ssh-keygen: {ran.stderr.strip()}")
 
 
-def program_beside(desk: str) -> str:
-    """The program desk-audit that belongs to a desk."""
+def program_beside(desk: str, wanted: str = "desk-audit") -> str:
+    """The program desk-audit, or another one, that belongs to a desk."""
     folder, name = os.path.split(desk)
-    path = os.path.join(folder, name.replace("desk", "desk-audit", 1))
-    found = path if os.path.exists(path) else shutil.which("desk-audit")
+    path = os.path.join(folder, name.replace("desk", wanted, 1))
+    found = path if os.path.exists(path) else shutil.which(wanted)
     if found is None:
-        raise Failed("it needs the program desk-audit beside desk")
+        raise Failed(f"it needs the program {wanted} beside desk")
     return found

@@ -18,6 +18,7 @@ from desk_tools.periods import Period, periods, read
 from desk_tools.pieces import Reasons
 from desk_tools.rights import Base
 from desk_tools.served import Failed
+from desk_tools.signed import Door
 from desk_tools.written_out import BadText
 from steelnewt_client.places import place
 
@@ -48,6 +49,12 @@ def parser() -> argparse.ArgumentParser:
     found.add_argument("--log", action="append", default=[], metavar="[HOST=]LOG", help=said)
     for name in ("--skew", "--zone", "--year", "--peers"):
         found.add_argument(name, metavar=name[2:].upper(), help="of the logs, as for desk-used")
+    said = "a door's journal, a folder: say who signed what (needs --signers and --site)"
+    found.add_argument("--journal", metavar="DIR", help=said)
+    found.add_argument("--signers", metavar="DIR", help="all versions of the signers")
+    found.add_argument("--site", metavar="NAME", help="the site's name, as door.toml has it")
+    said = "how many people have to say yes to the signers (1)"
+    found.add_argument("--changes-by", metavar="NUMBER", default="1", help=said)
     said = "what desk-relay reasons printed"
     found.add_argument("--reasons", metavar="FILE", help=said)
     found.add_argument("--sample", type=int, metavar="N", help="draw so many requests")
@@ -85,22 +92,35 @@ def check(said: argparse.Namespace) -> None:
         raise Failed("UNTIL is before FROM")
     if said.sample is not None and not (said.sample > 0 and said.seed):
         raise Failed("a sample has at least one request, and a seed: --sample N --seed TEXT")
+    if len({said.journal is None, said.signers is None, said.site is None}) > 1:
+        raise Failed("--journal, --signers and --site belong together")
     if os.path.lexists(said.folder):
         raise Failed(f"{said.folder}: it is there already")
 
 
 def reasons_of(path: str | None) -> Reasons | None:
-    """Why people asked, by the names of requests."""
+    """Why people asked, by the names of requests, and what the relay knows of the verdicts on
+    each."""
     if path is None:
         return None
     found: Reasons = {}
     for line in read(path).splitlines():
         try:
             row = json.loads(line)
-            found[str(row["who"]), int(row["no"])] = row
+            if "kind" in row:
+                about = found.get((str(row["of"]), int(row["no"])), {})
+                about.setdefault("verdicts", []).append(row)
+            else:
+                found[str(row["who"]), int(row["no"])] = row
         except (ValueError, KeyError, TypeError):
             raise Failed(f"{path}: it is not what desk-relay reasons prints") from None
     return found
+
+
+def door_of(said: argparse.Namespace) -> Door | None:
+    if said.journal is None:
+        return None
+    return Door(said.site, said.journal, said.signers, said.changes_by)
 
 
 def options(said: argparse.Namespace) -> list[str]:
@@ -133,6 +153,7 @@ def made(said: argparse.Namespace) -> None:
             reasons=reasons_of(said.reasons),
             sample=None if said.sample is None else (said.sample, said.seed),
             key=said.key,
+            door=door_of(said),
         ).fill(found)
         with open(os.path.join(room, "manifest"), "w", encoding="utf-8") as file:
             file.write(evidence.manifest(folder))

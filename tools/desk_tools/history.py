@@ -13,17 +13,24 @@ from desk_tools import served
 from desk_tools.served import Failed, Settings
 from steelnewt_client.places import place
 
-LINE = re.compile(r"([0-9]{14}Z) ([0-9a-f]{64}) ([0-9a-f]{64})")
+CUT = r"cut [0-9]{14}Z [0-9]{1,18}"
+LINE = re.compile(rf"([0-9]{{14}}Z) (?:({CUT}) )?([0-9a-f]{{64}}) ([0-9a-f]{{64}})")
 FILES = {"roster": "roster.toml", "base": "base.sudo"}
 CHANGE = "change"
 
 
 class Line(NamedTuple):
-    """A moment, and the digests of the roster and of the base since then."""
+    """A moment, and the digests of the roster and of the base since then; and where the store was
+    cut before, up to which moment, and how many messages were taken out of it so far."""
 
     moment: str
     roster: str
     base: str
+    cut: str = ""
+
+    @property
+    def served(self) -> tuple[str, str]:
+        return self.roster, self.base
 
 
 def read(path: str) -> bytes:
@@ -40,7 +47,7 @@ def lines(folder: str) -> list[Line]:
     found = [LINE.fullmatch(it) for it in text.splitlines()]
     if None in found:
         raise Failed(f"{folder}/moments: a line is no moment with two digests")
-    return [Line(*it.groups()) for it in found if it]
+    return [Line(it[1], it[3], it[4], it[2] or "") for it in found if it]
 
 
 def path_of(folder: str, kind: str, wanted: str) -> str | None:
@@ -81,10 +88,12 @@ class History:
         """Why it was changed then."""
         return "".join(text for word, text in said(self.folder, moment) if word == "why")
 
-    def write(self, roster: str, base: str, words: list[str]) -> Line:
-        """Has it written, as the desk's account, that these are served from now on."""
+    def write(self, roster: str, base: str, words: list[str], cut: str | None = None) -> Line:
+        """Has it written, as the desk's account, that these are served from now on, over a store
+        that was cut so; without that as the last line says."""
         run = [self.program, self.folder, roster, base, *words]
-        told = served.run(run, owner=self.store, DESK=self.desk)
+        more = {} if cut is None else {"CUT": cut}
+        told = served.run(run, owner=self.store, DESK=self.desk, **more)
         for warning in told.splitlines()[:-1]:
             print(warning)
         found = self.last()

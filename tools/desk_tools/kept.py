@@ -21,7 +21,7 @@ class Kept:
         self.folder, self.desk, self.room = folder, desk, room
         found = history.lines(folder)
         # (what was carried away is written down once more, as it was)
-        again = {it for one, it in pairwise(found) if it[1:] == one[1:]}
+        again = {it for one, it in pairwise(found) if it.served == one.served}
         self.lines = [it for it in found if it not in again]
         self.known: dict[str, bytes] = {}
 

@@ -6,7 +6,7 @@ import sys
 from datetime import datetime, timezone
 from typing import Any
 
-from desk_tools import admission, explain, message_faults, roster_faults
+from desk_tools import admission, explain, message_faults, near, roster_faults
 from desk_tools.base_faults import Base, warnings_of
 from desk_tools.found import Fault, Parser, Warning, coded, first_code, visible
 from desk_tools.judge import NoDesk, program
@@ -69,22 +69,28 @@ def kind_of(name: str, data: bytes) -> str:
     return "messages" if data.lstrip().startswith(b"{") else "roster"
 
 
-def look_at_roster(name: str, data: bytes, today: str) -> Looked:
+def look_at_roster(name: str, data: bytes, today: str, percent: int | None = None) -> Looked:
     looked, roster = Looked(name, "roster"), roster_faults.Roster(data)
     looked.faults = roster.look()
     code = first_code(looked.faults)
     looked.answer = coded(code) if code else None
     if not looked.faults:
         looked.warnings = Warnings(roster.document, today).look()
+    if not looked.faults and percent is not None:
+        used = near.of_roster(roster.document, len(data))
+        looked.warnings += near.warnings_of(used, percent, roster.document)
     return looked
 
 
-def look_at_base(name: str, data: bytes, desk: str) -> Looked:
+def look_at_base(name: str, data: bytes, desk: str, percent: int | None = None) -> Looked:
     looked, base = Looked(name, "base"), Base(desk, data)
     looked.faults = base.look()
     looked.answer, looked.is_cut = base.answer, base.is_cut
     if not looked.faults:
         looked.warnings = warnings_of(data)
+    if not looked.faults and percent is not None:
+        used = near.of_base(near.canonical_of(desk, data))
+        looked.warnings += near.warnings_of(used, percent, None)
     return looked
 
 
@@ -131,6 +137,13 @@ def site_of(name: str) -> Site:
     return Site(roster.document.value)
 
 
+def percent_word(said: str) -> int:
+    """A share of a limit. (A file behind the word is none of it.)"""
+    if not said.isdecimal() or not 1 <= int(said) <= 100:
+        raise argparse.ArgumentTypeError("say how many percent, from 1 to 100, or put --near behind the files")
+    return int(said)
+
+
 def parser() -> argparse.ArgumentParser:
     found = Parser(
         "desk-lint",
@@ -143,6 +156,8 @@ def parser() -> argparse.ArgumentParser:
     found.add_argument("--base", action="store_true", help="each FILE is a base policy, whatever its name")
     found.add_argument("--desk", metavar="PROGRAM", help="the program desk, which judges bases (the one on the path)")
     found.add_argument("--on", metavar="DAY", help="warn as on this day, yyyymmdd, in UTC (today)")
+    told = "warn of each limit of which so many percent are used (90)"
+    found.add_argument("--near", nargs="?", type=percent_word, const=near.NEAR, metavar="PERCENT", help=told)
     found.add_argument("--explain", metavar="CODE", help="print what a code means and what to do, and nothing else")
     found.add_argument("files", metavar="FILE", nargs="*", help="a roster (*.toml), a base (*.sudo), or messages, one a line (*.messages, *.json); - is the input")
     return found
@@ -164,9 +179,9 @@ def lint(said: argparse.Namespace) -> int:
         data = read(name)
         kind = "base" if said.base else kind_of(name, data)
         if kind == "base":
-            looked.append(look_at_base(name, data, program(said.desk)))
+            looked.append(look_at_base(name, data, program(said.desk), said.near))
         elif kind == "roster":
-            looked.append(look_at_roster(name, data, today))
+            looked.append(look_at_roster(name, data, today, said.near))
         else:
             looked.append(look_at_messages(name, data, grants))
     for it in looked:

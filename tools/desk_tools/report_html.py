@@ -99,6 +99,27 @@ def whole(told: Data) -> str:
     )
 
 
+def signed(told: Data) -> str:
+    if "signatures" not in told:
+        return section("Who signed it?", "No door's journal was given: nothing is said.")
+    found, others = told["signatures"]["found"], told["signatures"]["of_other_times"]
+    messages: list[Row] = [
+        (it["kind"], spread(said["at"]), said["kind"], said["by"], said["of"], said["no"], it["why"])
+        for it in found
+        if (said := it.get("message"))
+    ]
+    rows: list[Row] = [(it["kind"], it["why"]) for it in found if "message" not in it]
+    more = f" Of other times there are {others:,} more: the file `verified` has them."
+    return section(
+        "Who signed it?",
+        "What desk-verify found in the door's journal, its signers and the messages: messages that "
+        f"nobody signed, and rows that are missing or were changed.{more if others else ''}",
+        Table("What|When|Kind|By|Of|No|Why", messages, "Each message of this time was signed."),
+        Table("What|Why", rows, "The journal is whole."),
+        Table("It counted", [(it,) for it in told["signatures"]["counts"]]),
+    )
+
+
 def span(first: int, last: int) -> str:
     return f"{first}" if first == last else f"{first} to {last}"
 
@@ -262,7 +283,7 @@ def cannot(told: Data) -> str:
 def page(told: Data, rows: list[dict[str, str]], made: Iterable[str], has_logs: bool) -> str:
     """The page as one text."""
     title = f"Privileged access, {spread(told['from'])} to {spread(told['until'])} (UTC)"
-    parts = [became(told), whole(told), not_accepted(told), careful(told)]
+    parts = [became(told), whole(told), signed(told), not_accepted(told), careful(told)]
     parts += [without(told, has_logs), use(told, has_logs), changes(told), idle(told)]
     parts += [standing(told), reasons(told)]
     if "sample" in told:

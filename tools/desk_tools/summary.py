@@ -27,12 +27,14 @@ WHY_NOT = {
     "duty": "did not hold the duty",
     "conflict": "held a duty that conflicts",
 }
-CANNOT = (
+CANNOT_UNSIGNED = (
     "when a message reached the desk: an approval may have been written afterwards",
+    "who really typed an approval: a relay vouches for its author",
+)
+CANNOT = (
     "whether the last requests of somebody, or verdicts, were left out before this was made",
     "when a host took its file, and so how long a right still worked after its revocation",
     "what was run below a shell, an editor or a script, and what root did with a log",
-    "who really typed an approval, unless messages are signed: a relay vouches for its author",
 )
 
 
@@ -257,7 +259,9 @@ class Summary:
             if it.get("state") == "refused" and self.first <= it.get("at", "") <= self.last
         ]
 
-    def data(self, rights: Iterable[Right], gaps: Iterable[Gap]) -> Data:
+    def data(
+        self, rights: Iterable[Right], gaps: Iterable[Gap], signed: Data | None = None
+    ) -> Data:
         """The whole document, but for what made it and for the sample."""
         shown: Data = {
             "from": self.first,
@@ -276,8 +280,10 @@ class Summary:
             "standing": by_hosts(rights),
             "left_out": self.left_out,
             "gaps": [{"by": it.by, "first": it.first, "last": it.last} for it in gaps],
-            "cannot_tell": list(CANNOT),
+            "cannot_tell": list(CANNOT if signed else (*CANNOT_UNSIGNED, *CANNOT)),
         }
+        if signed:
+            shown["signatures"] = signed
         if self.reasons is not None:
             shown |= {"without_reason": self.unreasoned(), "attempts": self.attempts()}
         return shown

@@ -7,7 +7,7 @@ import shutil
 import sqlite3
 import subprocess
 import time
-from collections.abc import Callable
+from collections.abc import Callable, Sequence
 from contextlib import closing
 from pathlib import Path
 from typing import Any
@@ -55,7 +55,8 @@ class Running:
         shutil.copy(os.path.join(ROOT, "tools", "tests", "systemctl.sh"), folder / "bin/systemctl")
         self.desk = folder / "bin" / "desk"
         self.desk.symlink_to(desk)
-        (folder / "bin" / "desk-audit").symlink_to(program_beside(desk))
+        for name in ("desk-audit", "desk-cut"):
+            (folder / "bin" / name).symlink_to(program_beside(desk, name))
         for name in ("desk-change-roster", "desk-change-base"):
             (folder / "bin" / name).symlink_to(os.path.join(ROOT, "tools", name))
         (folder / "bin" / "systemctl").chmod(0o755)
@@ -146,6 +147,22 @@ class Running:
         words.insert(words.index("--add") + 1, path)
         return subprocess.run(
             words, env=self.environment, capture_output=True, text=True, timeout=PATIENCE, check=False
+        )
+
+    def cut(
+        self, before: str, *more: str, given: str = "", words: Sequence[str] = ()
+    ) -> subprocess.CompletedProcess[str]:
+        """Cuts its history; with `words` by a program that they name."""
+        found = [*self.words(Path("--cut"), *more)]
+        found.insert(2, before)
+        return subprocess.run(
+            [*words, *found[bool(words) :]],
+            env=self.environment,
+            input=given,
+            capture_output=True,
+            text=True,
+            timeout=PATIENCE,
+            check=False,
         )
 
     def moments(self) -> list[history.Line]:

@@ -361,7 +361,7 @@ def page(it: Audit) -> None:
     tags = Tags()
     text = it.read("report.html")
     tags.feed(text)
-    assert not tags.open and len(tags.titles) == 13, tags.titles
+    assert not tags.open and len(tags.titles) == 14, tags.titles
     assert "url(" not in text and "@import" not in text
     said_there = ("hal.p is struck out", "olga.dba", "it was their own request", "ticket: OPS-31")
     for said in (*said_there, SEED):

@@ -1,13 +1,15 @@
 //! Asking a desk over its files.
 
-use crate::copies::copy_of;
-use crate::sources::take_lines;
+use crate::archives::{bytes_of, with_archives};
+use crate::known::known;
+use crate::sources::{input, take_lines};
 use crate::trouble::Trouble;
 use desk::{Desk, Keeper, MemoryKeeper};
 use desk_audit::{Question, audit, document, text};
 use desk_commands::{JobRefusal, open_over};
 use desk_process::{MOST_POLICY, MOST_ROSTER, read_file};
 use roster::RosterFault;
+use store_copies::{copy_of, there};
 
 /// The bytes of a file, but at most one byte more than `most`.
 fn file(rt: &HostRuntime, path: &str, most: u64) -> Result<Vec<u8>, Trouble> {
@@ -34,6 +36,7 @@ fn told_by<K: Keeper>(
     desk: &mut Desk<K>,
 ) -> Result<String, Trouble> {
     let pick = &question.pick;
+    known(desk, pick)?;
     if question.as_json {
         return Ok(document(desk, pick)?);
     }
@@ -55,10 +58,32 @@ fn desk_over<K: Keeper + Drop>(
     }
 }
 
-/// What is told about the messages on the standard input.
-fn told_of_input(rt: &HostRuntime, question: &Question) -> Result<String, Trouble> {
+/// Delivers the messages on the standard input and those of the archives.
+fn take_all(
+    rt: &HostRuntime,
+    desk: &mut Desk<MemoryKeeper>,
+    archives: &[String],
+) -> Result<(), Trouble> {
+    take_lines(rt, desk, "", input(rt)?.as_slice())?;
+    for path in archives {
+        take_lines(
+            rt,
+            desk,
+            path.as_str(),
+            bytes_of(rt, path.as_str())?.as_slice(),
+        )?;
+    }
+    Ok(())
+}
+
+/// What is told about the messages on the standard input and those of the archives.
+fn told_of_input(
+    rt: &HostRuntime,
+    question: &Question,
+    archives: &[String],
+) -> Result<String, Trouble> {
     let mut desk = desk_over(rt, question, MemoryKeeper::new(rt.alloc()))?;
-    let told = match take_lines(rt, &mut desk) {
+    let told = match take_all(rt, &mut desk, archives) {
         Ok(()) => told_by(rt, question, &mut desk),
         Err(trouble) => Err(trouble),
     };
@@ -66,20 +91,48 @@ fn told_of_input(rt: &HostRuntime, question: &Question) -> Result<String, Troubl
     told
 }
 
-/// What is told about the messages in a store.
-fn told_of_store(rt: &HostRuntime, question: &Question) -> Result<String, Trouble> {
-    let keeper = copy_of(rt, question.store.as_str())?;
+/// What is told about the messages that the keeper keeps.
+fn told_of<K: Keeper + Drop>(
+    rt: &HostRuntime,
+    question: &Question,
+    keeper: K,
+) -> Result<String, Trouble> {
     let mut desk = desk_over(rt, question, keeper)?;
     let told = told_by(rt, question, &mut desk);
     let _ = desk.into_keeper();
     told
 }
 
-/// The answer to the question.
-pub(crate) fn told(rt: &HostRuntime, question: &Question) -> Result<String, Trouble> {
+/// What is told about the messages in a store and those of the archives. Something that is no desk
+/// of today's form is left to the opening, which refuses it.
+fn told_of_store(
+    rt: &HostRuntime,
+    question: &Question,
+    archives: &[String],
+) -> Result<String, Trouble> {
+    let path = question.store.as_str();
+    let mut keeper = there(rt, path, copy_of(rt, path)?)?;
+    if archives.is_empty() {
+        return told_of(rt, question, keeper);
+    }
+    match with_archives(rt, &mut keeper, archives)? {
+        Some(whole) => {
+            drop(keeper);
+            told_of(rt, question, whole)
+        }
+        None => told_of(rt, question, keeper),
+    }
+}
+
+/// The answer to the question, over the archives too.
+pub(crate) fn told(
+    rt: &HostRuntime,
+    question: &Question,
+    archives: &[String],
+) -> Result<String, Trouble> {
     if question.store.as_str() == "-" {
-        told_of_input(rt, question)
+        told_of_input(rt, question, archives)
     } else {
-        told_of_store(rt, question)
+        told_of_store(rt, question, archives)
     }
 }

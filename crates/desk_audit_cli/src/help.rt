@@ -4,12 +4,13 @@
 pub(crate) fn usage() -> &'static str {
     "Tell what became of each request that a desk holds
 
-Usage: desk-audit [OPTIONS] <ROSTER> <BASE> <STORE>
+Usage: desk-audit [OPTIONS] <ROSTER> <BASE> <STORE> [ARCHIVE]...
 
 Arguments:
   <ROSTER>  The roster's file
   <BASE>    The base policy's file
   <STORE>   The database of the messages, which is only read; `-`: standard input
+  [ARCHIVE]...  What desk-cut took from the store: all is told as before the cut
 
 Options:
       --from <AT>       Only windows that do not end before this moment

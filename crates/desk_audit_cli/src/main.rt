@@ -2,14 +2,17 @@
 //! holds.
 #![tactic(auto)]
 
+mod archives;
 mod asking;
-mod copies;
 mod help;
+mod known;
+mod places;
 mod sources;
 mod trouble;
 
 use crate::asking::told;
 use crate::help::usage;
+use crate::places::apart;
 use crate::trouble::Trouble;
 use desk_audit::{WordsFault, asked_by};
 use desk_process::hold_streams;
@@ -49,9 +52,9 @@ fn write_out(rt: &HostRuntime, text: &str) -> Result<(), Trouble> {
 
 /// Does what the words say.
 fn answered(rt: &HostRuntime) -> Result<(), Trouble> {
-    let words = words(rt)?;
+    let (words, archives) = apart(rt.alloc(), words(rt)?)?;
     match asked_by(rt.alloc(), words.as_slice()) {
-        Ok(question) => write_out(rt, told(rt, &question)?.as_str()),
+        Ok(question) => write_out(rt, told(rt, &question, archives.as_slice())?.as_str()),
         Err(WordsFault::Help) => write_out(rt, usage()),
         Err(fault) => Err(fault.into()),
     }

@@ -1,4 +1,4 @@
-//! The messages on the standard input.
+//! The messages on the standard input, and of archives beside it.
 
 use crate::trouble::Trouble;
 use desk::{Desk, MemoryKeeper, Refusal};
@@ -9,7 +9,7 @@ use std::mem;
 
 /// The bytes of the standard input. A line that is too long for a message is cut short, but is
 /// still too long.
-fn whole(rt: &HostRuntime) -> Result<Vec<u8>, Trouble> {
+pub(crate) fn input(rt: &HostRuntime) -> Result<Vec<u8>, Trouble> {
     let Ok(reader) = BufReader::new(rt.alloc(), rt.stdin()) else {
         return Err(Trouble::NoMemory);
     };
@@ -21,7 +21,7 @@ fn whole(rt: &HostRuntime) -> Result<Vec<u8>, Trouble> {
 }
 
 /// The lines of the bytes, and what comes after the last newline, unless that is empty.
-fn lines(alloc: Global, bytes: &[u8]) -> Result<Vec<Vec<u8>>, Trouble> {
+pub(crate) fn lines(alloc: Global, bytes: &[u8]) -> Result<Vec<Vec<u8>>, Trouble> {
     let mut lines = Vec::new(alloc);
     let mut line = Vec::new(alloc);
     for byte in bytes {
@@ -37,40 +37,51 @@ fn lines(alloc: Global, bytes: &[u8]) -> Result<Vec<Vec<u8>>, Trouble> {
     Ok(lines)
 }
 
-/// Says on the standard error why the desk does not take a line.
-fn complain(rt: &HostRuntime, number: usize, refusal: Refusal) -> Result<(), Trouble> {
+/// Says on the standard error why the desk does not take a line. An archive is named before it.
+fn complain(
+    rt: &HostRuntime,
+    archive: &str,
+    number: usize,
+    refusal: Refusal,
+) -> Result<(), Trouble> {
+    let gap = if archive.is_empty() { "" } else { " " };
     let mut err = rt.stderr();
-    match writeln!(err, "line {number}: {refusal}") {
+    match writeln!(err, "{archive}{gap}line {number}: {refusal}") {
         Ok(()) => Ok(()),
         Err(error) => Err(Trouble::of_system(rt.alloc(), "standard error", error)),
     }
 }
 
-/// Delivers a line to the desk. A line that the desk does not take is named on the standard error;
-/// without memory or storage there is no answer.
+/// Delivers a line to the desk. The answer is why the desk does not take it; without memory or
+/// storage there is none.
 fn take(
-    rt: &HostRuntime,
     desk: &mut Desk<MemoryKeeper>,
     relay: &str,
-    number: usize,
     line: &[u8],
-) -> Result<(), Trouble> {
+) -> Result<Option<Refusal>, Trouble> {
     match desk.deliver(relay, line) {
-        Ok(_) => Ok(()),
+        Ok(_) => Ok(None),
         Err(refusal) => match refusal {
             Refusal::NoMemory | Refusal::Storage => Err(refusal.into()),
-            _ => complain(rt, number, refusal),
+            _ => Ok(Some(refusal)),
         },
     }
 }
 
-/// Delivers the lines of the standard input to the desk, as those of the roster's first relay.
-pub(crate) fn take_lines(rt: &HostRuntime, desk: &mut Desk<MemoryKeeper>) -> Result<(), Trouble> {
+/// Delivers the lines of an archive, or of the standard input where none is named, to the desk, as
+/// those of the roster's first relay.
+pub(crate) fn take_lines(
+    rt: &HostRuntime,
+    desk: &mut Desk<MemoryKeeper>,
+    archive: &str,
+    bytes: &[u8],
+) -> Result<(), Trouble> {
     let relay = String::from_str(rt.alloc(), desk.roster().first_relay().as_str())?;
-    let bytes = whole(rt)?;
-    let lines = lines(rt.alloc(), bytes.as_slice())?;
+    let lines = lines(rt.alloc(), bytes)?;
     for (index, line) in lines.iter().enumerate() {
-        take(rt, desk, relay.as_str(), index.saturating_add(1), line)?;
+        if let Some(refusal) = take(desk, relay.as_str(), line)? {
+            complain(rt, archive, index.saturating_add(1), refusal)?;
+        }
     }
     Ok(())
 }

@@ -2,9 +2,12 @@
 
 use desk_audit::WordsFault;
 use desk_commands::JobRefusal;
+use desk_cut::CutRefusal;
+use desk_store::KeeperError;
 use std::alloc::{AllocError, AllocFailed, Global};
 use std::{fmt, io};
-use sudo_words::NoMemory;
+use store_copies::CopyFault;
+use sudo_words::{HostName, Name, NoMemory};
 
 /// Why there is no answer.
 #[derive(Drop)]
@@ -19,6 +22,10 @@ pub(crate) enum Trouble {
     FileFailed(String),
     /// There is no store at this path.
     NoStore(String),
+    /// Neither the roster nor a request has this host.
+    NoHost(HostName),
+    /// The roster does not list this person, and no message is theirs.
+    NoPerson(Name),
     /// The store at this path changed each time that it was read.
     Busy(String),
     /// What `desk` would refuse as well.
@@ -29,7 +36,7 @@ impl fmt::Display for Trouble {
     fn fmt<W: fmt::Write>(&self, f: &mut fmt::Formatter<W>) -> fmt::Result {
         match self {
             Trouble::Usage => f.write_str(
-                "usage: desk-audit ROSTER BASE STORE [--from AT] [--until AT] [--host H] [--person P] [--json]",
+                "usage: desk-audit ROSTER BASE STORE [ARCHIVE..] [--from AT] [--until AT] [--host H] [--person P] [--json]",
             ),
             Trouble::BadWord => JobRefusal::BadWord.fmt(f),
             Trouble::NoMemory => JobRefusal::NoMemory.fmt(f),
@@ -39,6 +46,8 @@ impl fmt::Display for Trouble {
                 f,
                 "the store is written to: {path}\ntry again, or stop what writes to it (fuser {path}), or ask a backup (man desk-store)"
             ),
+            Trouble::NoHost(host) => write!(f, "no host is named {}", host.as_str()),
+            Trouble::NoPerson(person) => write!(f, "nobody is named {}", person.as_str()),
             Trouble::Refused(refusal) => write!(f, "{refusal}"),
         }
     }
@@ -68,6 +77,37 @@ impl From<WordsFault> for Trouble {
             WordsFault::Help | WordsFault::Usage => Trouble::Usage,
             WordsFault::BadWord => Trouble::BadWord,
             WordsFault::NoMemory => Trouble::NoMemory,
+        }
+    }
+}
+
+impl From<CopyFault> for Trouble {
+    fn from(e: CopyFault) -> Trouble {
+        match e {
+            CopyFault::NoMemory => Trouble::NoMemory,
+            CopyFault::Storage => desk::Refusal::Storage.into(),
+            CopyFault::Failed(cause) => Trouble::FileFailed(cause),
+            CopyFault::NoStore(path) => Trouble::NoStore(path),
+            CopyFault::Busy(path) => Trouble::Busy(path),
+        }
+    }
+}
+
+impl From<KeeperError> for Trouble {
+    fn from(e: KeeperError) -> Trouble {
+        match e {
+            KeeperError::NoMemory => Trouble::NoMemory,
+            KeeperError::Storage => desk::Refusal::Storage.into(),
+        }
+    }
+}
+
+/// Archives are added to a desk alone, so that want of memory and of storage are all that comes.
+impl From<CutRefusal> for Trouble {
+    fn from(e: CutRefusal) -> Trouble {
+        match e {
+            CutRefusal::NoMemory => Trouble::NoMemory,
+            _ => desk::Refusal::Storage.into(),
         }
     }
 }

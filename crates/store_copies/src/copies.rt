@@ -1,14 +1,12 @@
 //! A store, copied into memory: the store is only read, by anybody who may read its files, and also
 //! while a desk has the store open.
 
-ghost use Rattle.std.specs.Prelude.{IfOk, IsTrue};
-ghost use Rattle.sqlite_disk.specs.Memory.{memory_is_usable};
-
-use crate::trouble::Trouble;
+use crate::fault::CopyFault;
+use crate::sheet::Sheet;
 use desk_process::read_file;
 use desk_store::{Found, Keeper, KeeperError, SqliteKeeper};
 use sqlite::{Connection, Error, ErrorCode};
-use sqlite_disk::{Disk, Files, Memory};
+use sqlite_disk::Files;
 use sqlite_pager::Options;
 use sqlite_store::FileStore;
 use std::alloc::Global;
@@ -21,7 +19,7 @@ const TRIES: u32 = 20;
 const HEADER_LEN: u64 = 32;
 
 /// A keeper over a store's copy in memory.
-pub(crate) type Copied = SqliteKeeper<FileStore<Memory>>;
+pub type Copied = SqliteKeeper<FileStore<Sheet>>;
 
 /// The bytes of a store's two files.
 #[derive(Drop)]
@@ -39,18 +37,18 @@ fn read(rt: &HostRuntime, path: &str) -> io::Result<Vec<u8>> {
 }
 
 /// The bytes of a file, or none if there is no such file.
-fn bytes_of(rt: &HostRuntime, path: &str) -> Result<Option<Vec<u8>>, Trouble> {
+fn bytes_of(rt: &HostRuntime, path: &str) -> Result<Option<Vec<u8>>, CopyFault> {
     match read(rt, path) {
         Ok(bytes) => Ok(Some(bytes)),
         Err(error) if error.kind() == io::ErrorKind::NotFound => Ok(None),
-        Err(error) => Err(Trouble::of_system(rt.alloc(), path, error)),
+        Err(error) => Err(CopyFault::of_system(rt.alloc(), path, error)),
     }
 }
 
 /// The bytes of the file and then of the log beside it, which may be missing.
-fn read_pair(rt: &HostRuntime, path: &str, log_path: &str) -> Result<Pair, Trouble> {
+fn read_pair(rt: &HostRuntime, path: &str, log_path: &str) -> Result<Pair, CopyFault> {
     let Some(db) = bytes_of(rt, path)? else {
-        return Err(Trouble::NoStore(String::from_str(rt.alloc(), path)?));
+        return Err(CopyFault::NoStore(String::from_str(rt.alloc(), path)?));
     };
     let log = match bytes_of(rt, log_path)? {
         Some(log) => log,
@@ -61,11 +59,11 @@ fn read_pair(rt: &HostRuntime, path: &str, log_path: &str) -> Result<Pair, Troub
 
 /// The header of a log, or as many bytes as the log has: each use of the log begins with another
 /// header (`SQLite`'s file format, section 4.1, 'WAL File Format').
-fn log_header(rt: &HostRuntime, log_path: &str) -> Result<Vec<u8>, Trouble> {
+fn log_header(rt: &HostRuntime, log_path: &str) -> Result<Vec<u8>, CopyFault> {
     match read_file(rt, log_path, HEADER_LEN - 1) {
         Ok(bytes) => Ok(bytes),
         Err(error) if error.kind() == io::ErrorKind::NotFound => Ok(Vec::new(rt.alloc())),
-        Err(error) => Err(Trouble::of_system(rt.alloc(), log_path, error)),
+        Err(error) => Err(CopyFault::of_system(rt.alloc(), log_path, error)),
     }
 }
 
@@ -85,7 +83,7 @@ fn is_settled(
     log_path: &str,
     header: &[u8],
     read: &Pair,
-) -> Result<bool, Trouble> {
+) -> Result<bool, CopyFault> {
     if !begins_with(read.log.as_slice(), header) {
         return Ok(false);
     }
@@ -107,7 +105,7 @@ fn is_settled(
 /// of a commit that was being written, which has no meaning for a program that opens the files: a
 /// process that was killed at that moment would have left the files like that. Where no log is in
 /// use, both files are read until two readings in a row are the same.
-fn settled(rt: &HostRuntime, path: &str) -> Result<Pair, Trouble> {
+fn settled(rt: &HostRuntime, path: &str) -> Result<Pair, CopyFault> {
     let alloc = rt.alloc();
     let log_path = format!(in alloc; "{path}-wal")?;
     for _try in 0..TRIES {
@@ -117,49 +115,46 @@ fn settled(rt: &HostRuntime, path: &str) -> Result<Pair, Trouble> {
             return Ok(read);
         }
     }
-    Err(Trouble::Busy(String::from_str(rt.alloc(), path)?))
+    Err(CopyFault::Busy(String::from_str(rt.alloc(), path)?))
 }
 
-/// A file in memory with these bytes.
-fn memory_of(alloc: Global, bytes: &[u8]) -> Result<Memory, Trouble>
-    ensures { IfOk result (λ m. IsTrue (memory_is_usable m)) }
-{
-    let mut memory = Memory::new(alloc);
-    if memory.write_at(0, bytes).is_err() {
-        return Err(Trouble::NoMemory);
-    }
-    if memory.sync().is_err() {
-        return Err(Trouble::NoMemory);
-    }
-    Ok(memory)
-}
-
-/// A keeper over a copy of the two files.
-fn keeper_of(alloc: Global, path: &str, pair: &Pair) -> Result<Copied, Trouble> {
-    let log = memory_of(alloc, pair.log.as_slice())?;
-    let db = memory_of(alloc, pair.db.as_slice())?;
-    match Connection::open_files(alloc, Files { log, db }, Options::new(0)) {
+/// A keeper over these files.
+pub(crate) fn keeper_over(
+    alloc: Global,
+    path: &str,
+    files: Files<Sheet>,
+) -> Result<Copied, CopyFault> {
+    match Connection::open_files(alloc, files, Options::new(0)) {
         Ok(conn) => Ok(SqliteKeeper::new(alloc, conn)),
-        Err((Error::SqliteFailure(ErrorCode::OutOfMemory), _)) => Err(Trouble::NoMemory),
-        Err((error, _)) => Err(Trouble::at(alloc, path, &error)),
+        Err((Error::SqliteFailure(ErrorCode::OutOfMemory), _)) => Err(CopyFault::NoMemory),
+        Err((error, _)) => Err(CopyFault::at(alloc, path, &error)),
     }
 }
 
-/// The keeper, unless it keeps no part of a desk: that is `NoStore`. Something that is not a desk
-/// is left to the opening.
-fn looked(rt: &HostRuntime, path: &str, mut keeper: Copied) -> Result<Copied, Trouble> {
+/// A keeper over the two files.
+fn keeper_of(alloc: Global, path: &str, pair: Pair) -> Result<Copied, CopyFault> {
+    let Pair { db, log } = pair;
+    let files = Files {
+        log: Sheet::of(log),
+        db: Sheet::of(db),
+    };
+    keeper_over(alloc, path, files)
+}
+
+/// The keeper over a copy of what is at the path, unless no part of a desk is kept there: that is
+/// `NoStore`, with the path. Something that is not a desk is left to the opening.
+pub fn there(rt: &HostRuntime, path: &str, mut keeper: Copied) -> Result<Copied, CopyFault> {
     match keeper.look() {
-        Ok(Found::Empty) => Err(Trouble::NoStore(String::from_str(rt.alloc(), path)?)),
+        Ok(Found::Empty) => Err(CopyFault::NoStore(String::from_str(rt.alloc(), path)?)),
         Ok(_) => Ok(keeper),
-        Err(KeeperError::NoMemory) => Err(Trouble::NoMemory),
-        Err(KeeperError::Storage) => Err(desk::Refusal::Storage.into()),
+        Err(KeeperError::NoMemory) => Err(CopyFault::NoMemory),
+        Err(KeeperError::Storage) => Err(CopyFault::Storage),
     }
 }
 
-/// A keeper over a copy of the store at the path. If there is no file at the path, or the file has
-/// no part of a desk, the trouble names the path; nothing is created there.
-pub(crate) fn copy_of(rt: &HostRuntime, path: &str) -> Result<Copied, Trouble> {
+/// A keeper over a copy of the database at the path. If there is no file, the fault names the path;
+/// nothing is created there.
+pub fn copy_of(rt: &HostRuntime, path: &str) -> Result<Copied, CopyFault> {
     let pair = settled(rt, path)?;
-    let keeper = keeper_of(rt.alloc(), path, &pair)?;
-    looked(rt, path, keeper)
+    keeper_of(rt.alloc(), path, pair)
 }

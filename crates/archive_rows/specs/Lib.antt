@@ -1,0 +1,2 @@
+-- what a cut leaves of a desk's rows
+pub mod RowsLeft

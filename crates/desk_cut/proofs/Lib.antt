@@ -1,0 +1,2 @@
+-- sets that grow by the messages of a list
+pub mod GrowingLemmas

@@ -1,0 +1,2 @@
+-- what a file in memory shows
+pub mod Sheets
