@@ -8,6 +8,7 @@ cd "$(dirname "$0")/.."
 export PATH="$PATH:/usr/sbin:/sbin"
 export DESK="${DESK:-$PWD/build/desk}"
 . scripts/packages.sh
+. scripts/suite.sh
 bash relays/install.sh "${door_packages[@]}"
 if [ ! -x "$DESK" ]; then
     echo "there is no program $DESK: run make desk"
@@ -22,8 +23,9 @@ log=$(mktemp)
 base=${TMPDIR:-/tmp}/door.$$
 trap 'rm -rf "$log" "$base"' EXIT
 status=0
-/usr/bin/python3 -m pytest -p no:cacheprovider -q --durations=5 --basetemp "$base" \
-    -n "${CORES:-$(nproc)}" --dist loadgroup door/tests "$@" | tee "$log" || status=$?
+mapfile -t words < <(suite_words door)
+/usr/bin/python3 -m pytest "${words[@]}" --durations=5 --basetemp "$base" \
+    --dist loadgroup door/tests "$@" | tee "$log" || status=$?
 count() {
     awk -v kind="$1" '/^[0-9]+ .* in [0-9.]+s/ {
         for (at = 2; at <= NF; at++) if ($at ~ "^" kind) sum += $(at - 1)

@@ -12,6 +12,7 @@ export PATH="$PATH:/usr/sbin:/sbin"
 export DESK="${DESK:-$PWD/build/desk}"
 
 . scripts/packages.sh
+. scripts/suite.sh
 bash relays/install.sh "${relays_packages[@]}"
 if [ ! -x "$DESK" ]; then
     echo "there is no program $DESK: run make desk"
@@ -23,22 +24,24 @@ status=0
 # (short: a socket below it has 107 bytes for its whole path)
 base=${TMPDIR:-/tmp}/t.$$
 tests() {
-    /usr/bin/python3 -m pytest -p no:cacheprovider -q --durations=5 --basetemp "$base" "$@" |
+    local words
+    mapfile -t words < <(suite_words "relays-$1" "$2")
+    /usr/bin/python3 -m pytest "${words[@]}" --durations=5 --basetemp "$base" "${@:3}" |
         tee -a "$log" || status=$?
 }
 # (each file of tests has sites of its own, so they go side by side; the crowd's answers are timed,
 # so it goes alone)
 crowd() {
-    tests relays/tests/test_crowd.py
+    tests crowd 0 relays/tests/test_crowd.py
 }
 rest() {
-    tests -n "${CORES:-$(nproc)}" --dist loadfile --ignore relays/tests/test_crowd.py \
+    tests rest "" --dist loadfile --ignore relays/tests/test_crowd.py \
         steelnewt_client/tests relays/tests
 }
 case "$*" in
     '') rest && crowd ;;
     crowd | rest) "$1" ;;
-    *) tests -n "${CORES:-$(nproc)}" --dist loadfile relays/tests "$@" ;;
+    *) tests some "" --dist loadfile relays/tests "$@" ;;
 esac
 # how many there are of a kind, by the last line of each run (there may be none)
 count() {

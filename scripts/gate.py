@@ -19,6 +19,7 @@ from collections.abc import Sequence
 
 import lanes
 import repository
+import unsteady
 from lanes import Outcome, Part, Result
 
 LOGS = os.path.join(repository.ROOT, "build", "gate")
@@ -208,7 +209,8 @@ def gate() -> list[Result]:
         if results[-1].outcome is not Outcome.PASSED:
             why = f"{part.name} is {results[-1].outcome.value}"
             return results + [Result(it, Outcome.NOT_RUN, why=why) for it in rest]
-    return results + run(PARTS, results, ())
+    results += run(PARTS, results, ())
+    return unsteady.again(results, LOGS, lambda parts: run(parts, results, ()))
 
 
 def main() -> int:
@@ -223,6 +225,8 @@ def main() -> int:
     print(f"\n{lanes.table(results)}\n")
     if failed:
         print(lanes.failures(results, LOGS))
+    if accidents := unsteady.told(results, LOGS):
+        print(accidents)
     if names:
         print(f"this was no gate; of the parts that were named {passed} passed, {failed} failed")
     else:

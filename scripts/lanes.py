@@ -29,6 +29,8 @@ APART = os.path.join(repository.ROOT, "scripts", "apart.py")
 # A part may take this many times the minutes that it took on the machine of the table, and so many
 # minutes in any case: then it hangs.
 TIMES, LEAST = 5.0, 10.0
+# the status of one that hung (apart.py)
+TIME_IS_UP = 124
 PAUSE = 0.1
 # What is shown once more of a part that failed: lines that say so, and the last ones.
 TELLING = re.compile(r": otherwise|FAILED|Error|NOT REFUSED|NOT TRIED|BAD EDIT|no end after")
@@ -321,7 +323,7 @@ def table(results: Iterable[Result]) -> str:
     lines = ["| part | minutes | processor minutes | |", "|---|---|---|---|"]
     for part, outcome, minutes, processor, why in results:
         cells = [f"{minutes:.1f}", f"{processor:.1f}"] if minutes else ["", ""]
-        told = "" if outcome is Outcome.PASSED else f"{outcome.value} ({why})"
+        told = why if outcome is Outcome.PASSED else f"{outcome.value} ({why})"
         lines.append(f"| {part.name} | {' | '.join(cells)} | {told} |")
     return "\n".join(lines)
 

@@ -9,9 +9,11 @@ cd "$(dirname "$0")/.."
 export PATH="$PATH:/usr/sbin:/sbin"
 export DESK="${DESK:-$PWD/build/desk}" PYTHONPATH=$PWD/tools:$PWD
 . scripts/packages.sh
+. scripts/suite.sh
 bash relays/install.sh "${tools_packages[@]}"
 if [ ! -x "$DESK" ]; then
     echo "there is no program $DESK: run make desk"
     exit 1
 fi
-/usr/bin/python3 -m pytest -p no:cacheprovider -q -rs -n "${CORES:-$(nproc)}" --dist load tools/tests "$@"
+mapfile -t words < <(suite_words tools)
+/usr/bin/python3 -m pytest "${words[@]}" -rs --dist load tools/tests "$@"

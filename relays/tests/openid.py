@@ -90,6 +90,9 @@ def browser(authority: str) -> requests.Session:
     found = requests.Session()
     # (variables of this machine's may name another authority)
     found.trust_env, found.verify = False, authority
+    # A front ends a connection that is kept when that was idle for some seconds by its clock, which
+    # tests set forward: the next request could come just then.
+    found.headers["Connection"] = "close"
     return found
 
 

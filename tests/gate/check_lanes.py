@@ -8,6 +8,7 @@ from __future__ import annotations
 import contextlib
 import io
 import os
+import subprocess
 import sys
 import tempfile
 import time
@@ -21,6 +22,7 @@ sys.path.insert(0, os.path.join(desk.ROOT, "scripts"))
 
 import gate  # noqa: E402
 import lanes  # noqa: E402
+import unsteady  # noqa: E402
 from lanes import Lanes, Part, Result  # noqa: E402
 
 WELL = "true"
@@ -306,9 +308,70 @@ def ends(count: Count) -> None:
         count.same(f"no proof: {command}", (status, said.splitlines()[-1]), (1, wanted))
 
 
+# Fails in those of its runs that are named, and says which it is.
+SOMETIMES = """echo "${AGAIN:-0}" >> "$0"; run=$(wc -l < "$0"); echo run $run
+case " $* " in *" $run "*) exit 3 ;; esac
+"""
+
+
+def sometimes(folder: str, name: str, *runs: int) -> Part:
+    """A part that fails in these of its runs, and keeps a line of each."""
+    words = " ".join(map(str, runs))
+    return Part(name, f"bash -c '{SOMETIMES}' {folder}/{name} {words}", minutes=LONG / 60)
+
+
+def accidents(count: Count) -> None:
+    """What failed beside others is run twice more, alone, and is named."""
+    first, proof = well_before()
+    before = PROVED + len(first)
+    with tempfile.TemporaryDirectory() as folder:
+        once, behind = sometimes(folder, "once", 1), Part("behind", WELL, after="once")
+        status, said = gated(first, proof, [once, behind, Part("well", WELL)])
+        count.same("once", (status, said.splitlines()[-1]), (0, f"{before + 3} passed, 0 failed"))
+        count.same("told that it is again", desk.read(folder, "once").split(), ["0", "1", "1"])
+        last = said[said.rindex("\n| part |") :]
+        is_named = f"== once: {unsteady.UNSTEADY}\nrun 1\n" in last
+        count.holds("its failure is in the last lines", is_named, last)
+        for runs in ((1, 2), (1, 3)):
+            name = f"at-{runs[1]}"
+            status, said = gated(first, proof, [sometimes(folder, name, *runs)])
+            wanted = (1, f"{before} passed, 1 failed")
+            count.same(f"fails again {name}", (status, said.splitlines()[-1]), wanted)
+        many = [sometimes(folder, name, 1) for name in ("many-1", "many-2", "many-3")]
+        status, said = gated(first, proof, many)
+        wanted = (1, f"{before} passed, 3 failed")
+        count.same("three are no accident", (status, said.splitlines()[-1]), wanted)
+        count.same("none is run again", desk.read(folder, "many-1").split(), ["0"])
+        hangs = stand_in(Part("hangs", ""), HANGS)
+        status, said = gated(first, proof, [hangs, sometimes(folder, "beside", 1)])
+        wanted = (1, f"{before} passed, 2 failed")
+        count.same("beside one that hangs", (status, said.splitlines()[-1]), wanted)
+
+
+def suites(count: Count) -> None:
+    """A suite that is run again runs the tests that failed, and where none did, it fails."""
+    with tempfile.TemporaryDirectory() as folder:
+        test = "import os\n\ndef test_well(): pass\n\ndef test_once():\n"
+        desk.write(folder, "test_it.py", f"{test}    assert os.environ.get('AGAIN')\n")
+        script = f'. {desk.ROOT}/scripts/suite.sh; mapfile -t words < <(suite_words it 2); '
+        words = ["bash", "-c", f'{script}/usr/bin/python3 -m pytest "${{words[@]}}" test_it.py']
+
+        def ran_suite(**more: str) -> tuple[int, str]:
+            environment = dict(os.environ, **more)
+            done = subprocess.run(
+                words, cwd=folder, env=environment, capture_output=True, text=True, check=False
+            )
+            return done.returncode, done.stdout.splitlines()[-1].partition(" in ")[0]
+
+        count.same("with nothing that failed", ran_suite(AGAIN="1"), (5, "2 deselected"))
+        count.same("at first", ran_suite(), (1, "1 failed, 1 passed"))
+        count.same("again", ran_suite(AGAIN="1"), (0, "1 passed, 1 deselected"))
+
+
 def main() -> int:
     count = Count()
-    for part in (faults, order, side_by_side, passing, passing_late, apart, planted, ends):
+    parts = (faults, order, side_by_side, passing, passing_late, apart, planted, ends)
+    for part in (*parts, accidents, suites):
         begun = time.monotonic()
         part(count)
         print(f"{part.__name__}: {time.monotonic() - begun:.1f} seconds", flush=True)
