@@ -796,6 +796,36 @@ def checks(count: Count, words: list[str], folder: str) -> None:
         count.holds("--check: while it is served", is_right, (said, status))
 
 
+def advises(count: Count, words: list[str], folder: str) -> None:
+    """What the log advises where a start fails goes by the cause that the desk gave, whatever else
+    would stop a start."""
+
+    def failing(title: str, wanted: str, **given: str) -> None:
+        with site_of(words, folder) as served:
+            served.environment |= given
+            served.start()
+            assert served.process is not None
+            status, said = served.process.wait(PATIENCE), served.said()
+            is_right = f"F1 FileFailed: {wanted}" in said and "desk: cause: " in said
+            count.holds(f"advice: {title}", is_right and status == 2, (said, status))
+
+    store = made_store(words, os.path.join(folder, "held.db"), desk.request().encode())
+    failing("no roster", "cannot read /none: write it", ROSTER="/none", BASE="/none/base")
+    failing("a base that is a folder", f"{folder} is no regular file", BASE=folder)
+    none = desk.write(folder, "none.db", "no database\n" * 200)
+    failing("a store that is none", f"{none} is damaged or no database", STORE=none)
+    away = f"203.0.113.9:{free_port()}"
+    failing("an address of another machine", f"cannot listen at {away} (", ADDR=away)
+    told = "there is no folder /none for the socket of QUESTIONS"
+    failing("a socket for questions in no folder", told, QUESTIONS="unix:/none/desk.sock")
+    with contextlib.closing(socket.create_server(("127.0.0.1", free_port()))) as other:
+        address = f"127.0.0.1:{other.getsockname()[1]}"
+        failing("an address that is taken", f"the address {address} is taken", ADDR=address)
+        with store_files.taken(store):
+            both = {"STORE": store, "ADDR": address}
+            failing("a store and an address that are taken", f"another program has {store}", **both)
+
+
 def syncs(count: Count, words: list[str], folder: str) -> None:
     """`desk-serve` serves with as many syncs as SYNC says, and with one where it says nothing."""
     for given, wanted in (({}, "once"), ({"SYNC": "once"}, "once"), ({"SYNC": "twice"}, "twice")):
@@ -877,6 +907,7 @@ PARTS = (
     takes_both,
     asks_meanwhile,
     checks,
+    advises,
     syncs,
     questions,
     audit_meanwhile,
