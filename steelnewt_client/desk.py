@@ -321,8 +321,7 @@ class AnyDesk:
         """Up to which moment its history was cut, as the last line of `/v1/history` says; empty
         where it was not, or the desk tells none."""
         reply = self.exchange("GET", "/v1/history")
-        found = re.search(r"^[0-9]{14}Z cut ([0-9]{14}Z) [^\n]*\n\Z", reply.text, re.MULTILINE)
-        return found[1] if reply.status == 200 and found else ""
+        return cut_in(reply.text) if reply.status == 200 else ""
 
     def grants(self, at: datetime) -> list[Grant]:
         """The grants in force at a moment."""
@@ -460,6 +459,12 @@ class Desk(AnyDesk):
 
 def route(relay: str) -> str:
     return f"/v1/relays/{relay}/messages"
+
+
+def cut_in(history: str) -> str:
+    """Up to which moment a history was cut, as its last line says; empty where it was not."""
+    found = re.search(r"^[0-9]{14}Z cut ([0-9]{14}Z) [^\n]*\n\Z", history, re.MULTILINE)
+    return found[1] if found else ""
 
 
 def plain_desk(address: str, patience: float = ANSWERS_IN) -> Desk:

@@ -10,6 +10,7 @@ import time
 from collections.abc import Iterator
 from dataclasses import dataclass, field
 
+from steelnewt_client.desk import Silent, cut_in
 from steelnewt_client.messages import Verdict
 from steelnewt_client.moments import stamp_of
 from steelnewt_client.names import LABELS
@@ -23,7 +24,8 @@ from steelnewt_door.verifying import Found, Verifier, read_counting, said_of
 
 NOT_HELD = re.compile(r"NOT AT THE DESK: row ([0-9]+):")
 ENDS = re.compile(r"NOTAFTER=([0-9]{14}Z)")
-OLD_COPY = 86_400  # seconds after which a copy of a host's file says little
+DAY = 86_400
+OLD_COPY = DAY  # after which a copy of a host's file says little
 PATIENCE = 600  # seconds for the proved program
 
 
@@ -65,10 +67,23 @@ class Auditing:
         self.found += self.copy.bring(ask)
         self.copy.bring_signers(ask)
         verifier = Verifier(Judge(self.site.name), Signers(self.copy.signers), self.site.late)
+        verifier.cut = self.cut(ask)
         seen = verifier.look(self.copy.journal, messages, counting)
         self.take(seen, before)
         self.check_texts(ask("/v1/count").decode("ascii").split())
         self.compare([it for it in messages if is_meant(verifier, it)])
+
+    def cut(self, ask: Ask) -> str:
+        """Up to when its history was cut, as the desk says: what had ended then may be away. No
+        desk cuts within a day."""
+        try:
+            found = cut_in(ask("/v1/history").decode("ascii", "replace"))
+        except Silent:  # (it has no history)
+            return ""
+        if found > stamp_of(time.time() - DAY):
+            self.found.append(f"EARLY CUT: the desk says that its history was cut at {found}")
+            return ""
+        return found
 
     def take(self, seen: Found, before: int) -> None:
         """What `desk-verify` finds, but for what was said since the desk was asked."""
@@ -76,7 +91,7 @@ class Auditing:
             late = NOT_HELD.match(line)
             if not line.startswith("(") and not (late and int(late[1]) > before):
                 self.found.append(line)
-        self.counts |= {it: seen.counts[it] for it in ("rows", "messages", "signed")}
+        self.counts |= {it: seen.counts[it] for it in ("rows", "archived", "messages", "signed")}
         try:
             Two(Judge(self.site.name), Signers(self.copy.signers), self.site.changes_by).check_all()
         except BadSigners as fault:

@@ -29,6 +29,8 @@ def parser() -> argparse.ArgumentParser:
     found.add_argument("--signers", required=True, metavar="DIR", help=said)
     said = "what /v1/messages says, or desk-snapshot: look at each message of the desk"
     found.add_argument("--messages", metavar="FILE", help=said)
+    said = "what was cut out of the desk's store, beside --messages (may be given again)"
+    found.add_argument("--archive", action="append", default=[], metavar="FILE", help=said)
     said = "what /v1/requests or desk-audit --json says: look at approvals that count alone"
     found.add_argument("--requests", metavar="FILE", help=said)
     said = "the last row's digest, as you noted it the last time"
@@ -47,12 +49,21 @@ def text_of(path: str) -> str:
         return file.read()
 
 
+def messages_of(said: argparse.Namespace) -> list[str] | None:
+    """All that a desk was told: what it holds, and what was cut out of its store."""
+    if said.archive and not said.messages:
+        raise BadInput("an --archive is looked at beside --messages")
+    paths = [said.messages, *said.archive] if said.messages else []
+    texts = dict.fromkeys(line for path in paths for line in text_of(path).splitlines())
+    return list(texts) if paths else None
+
+
 def followed(said: argparse.Namespace) -> int:
     if not SITE.fullmatch(said.site) or said.sample < 1:
         raise BadInput("--site is a name as desk.example, and --sample a number from 1 on")
     signers, judge = Signers(said.signers), Judge(said.site)
     verifier = Verifier(judge, signers, said.late, said.sample, said.chain or "")
-    lines = text_of(said.messages).splitlines() if said.messages else None
+    lines = messages_of(said)
     counting = read_counting(text_of(said.requests)) if said.requests else None
     found = verifier.look(said.journal, lines, counting)
     if said.chain and not verifier.has_noted:

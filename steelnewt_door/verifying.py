@@ -121,6 +121,7 @@ class Verifier:
     mine: dict[str, list[Came]] = field(default_factory=lambda: defaultdict(list))
     codes: dict[int, str] = field(default_factory=dict)
     texts: dict[int, str] = field(default_factory=dict)
+    cut: str = ""  # up to which moment the desk says that its history was cut
 
     def look(
         self, journal: str, messages: list[str] | None, counting: Counting | None = None
@@ -160,7 +161,7 @@ class Verifier:
         is_good = how == "signed" and not why
         kept = Came(row["no"], row["at"], how, row["about"], row["why"], is_good)
         self.mine[signed.digest].append(kept)
-        self.texts[row["no"]] = signed.digest
+        self.texts[row["no"]] = signed.message
 
     def why_not(self, signed: Signed, row: Row, found: Found) -> str:
         """Why a row's signature is none of the message's author, by what held when it came; empty
@@ -200,10 +201,21 @@ class Verifier:
         requests = requests_of(messages)
         for text in messages:
             self.look_at(text, requests, counting, found)
-        held = {digest(it) for it in messages}
+        held, ends = set(messages), ends_of(messages)
         for no, code in self.codes.items():
-            if code == "ack" and no in self.texts and self.texts[no] not in held:
+            text = self.texts.get(no)
+            if code != "ack" or text is None or text in held:
+                continue
+            if self.is_archived(text, ends):
+                found.counts["archived"] += 1
+            else:
                 found.add("NOT AT THE DESK", f"row {no}: it was acknowledged, and is not held")
+
+    def is_archived(self, text: str, ends: dict[tuple[str, int], str]) -> bool:
+        """Whether a cut takes this out: a verdict on what had ended before, as the requests say
+        that the desk holds."""
+        said = said_of(text)
+        return isinstance(said, Verdict) and ends.get((said.of, said.no), "9") < self.cut
 
     def look_at(
         self,
@@ -258,6 +270,16 @@ def requests_of(messages: Iterable[str]) -> dict[tuple[str, int], list[str]]:
         if isinstance(said, Request):
             named[said.by, said.no].append(digest(text))
     return named
+
+
+def ends_of(messages: Iterable[str]) -> dict[tuple[str, int], str]:
+    """When the last request of each name ends."""
+    found: dict[tuple[str, int], str] = {}
+    for text in messages:
+        said = said_of(text)
+        if isinstance(said, Request):
+            found[said.by, said.no] = max(said.wish.ends, found.get((said.by, said.no), ""))
+    return found
 
 
 @lru_cache(maxsize=1 << 17)

@@ -7,8 +7,10 @@ import json
 import os
 import socket
 import threading
+import time
 from collections.abc import Callable, Iterator
 from contextlib import closing, contextmanager, suppress
+from datetime import timedelta
 from pathlib import Path
 
 import pytest
@@ -17,8 +19,8 @@ from door.tests.doors import SITE, Doored, exchanged, ran
 from door.tests.test_answers import Signing, whole
 from relays.tests.site import BASE
 from steelnewt_client.desk import Desk
-from steelnewt_client.messages import canonical
-from steelnewt_client.moments import stamp_of
+from steelnewt_client.messages import Request, Wish, canonical
+from steelnewt_client.moments import now, stamp, stamp_of
 from steelnewt_door import auditor_program, bringing
 from steelnewt_door.auditing import differences
 from steelnewt_door.bringing import BadCopy, Copy
@@ -61,8 +63,8 @@ class Auditors:
             self.config.write_text(text)
             return ran(auditor_program.main, ["--config", str(self.config)], status)
 
-    def host_file(self) -> bytes:
-        return Desk(self.doored.site.url).get("/v1/hosts/db1/sudoers").encode()
+    def host_file(self, after: str = "") -> bytes:
+        return Desk(self.doored.site.url).get(f"/v1/hosts/db1/sudoers{after}").encode()
 
     def past_the_door(self, text: str) -> None:
         """A message that the desk's machine took without the door."""
@@ -203,6 +205,57 @@ def test_a_message_that_the_desk_dropped(auditors: Auditors) -> None:
     granted(auditors)
     auditors.lies["/v1/messages"] = lambda it: b"".join(it.splitlines(keepends=True)[1:])
     assert "NOT AT THE DESK: row " in auditors.look(2)
+
+
+def test_a_history_that_was_cut(auditors: Auditors, monkeypatch: pytest.MonkeyPatch) -> None:
+    """What a cut takes out is missed by nobody: verdicts on what had ended then. All else is, and
+    so is all where the desk says that it was cut within a day."""
+    doored, begins = auditors.doored, now() + timedelta(days=2)
+    span = stamp(begins), stamp(begins + timedelta(hours=1))
+    wish = Wish.of("db-care", ["db1"], "root", ["/usr/bin/id"], span)
+    later = Request("ann", doored.block + 9, stamp(now()), wish).text()
+    assert doored.post(doored.sign("ann", later)) == "ack"
+    assert doored.post(doored.sign("bob", approval := doored.verdict(no=9), later)) == "ack"
+    granted(auditors)
+    assert "archived=0 messages=4 signed=4" in auditors.look(0)
+    # three days go by, and the desk no longer holds the verdict on what has ended
+    clock = time.time
+    monkeypatch.setattr(time, "time", lambda: clock() + 3 * 86_400)
+    cut_at(auditors, monkeypatch, stamp(now() + timedelta(days=1)))
+    copy = auditors.hosts / "db1"
+    copy.write_bytes(auditors.host_file(f"/{stamp(begins)}"))
+    os.utime(copy, (time.time(), time.time()))
+    ended = doored.verdict()[25:]
+    gone = [ended]
+    auditors.lies["/v1/messages"] = lambda it: without(it, gone)
+    assert "archived=1 messages=3 signed=3" in auditors.look(0)
+    for more in (approval[25:], later):
+        gone[:] = [ended, more]
+        assert auditors.look(2).count("desk-auditor: NOT AT THE DESK: row ") == 1, more
+    gone[:] = [ended, f'"kind":"request","no":{doored.block + 1},']
+    assert auditors.look(2).count("desk-auditor: NOT AT THE DESK: row ") == 2
+    gone[:] = [ended]
+    early = stamp_of(time.time() - 86_000)
+    cut_at(auditors, monkeypatch, early)
+    said = auditors.look(2)
+    assert f"EARLY CUT: the desk says that its history was cut at {early}\n" in said
+    assert said.count("desk-auditor: NOT AT THE DESK: row ") == 1, said
+
+
+def cut_at(auditors: Auditors, monkeypatch: pytest.MonkeyPatch, moment: str) -> None:
+    """The desk says that its history was cut there."""
+    count, roster, base = Desk(auditors.doored.site.url).count()
+    history = auditors.folder / "moments"
+    history.write_text(f"{stamp(now())} cut {moment} {count} {roster} {base}\n")
+    monkeypatch.setitem(os.environ, "DESK_HISTORY", str(history))
+    auditors.doored.site.stop_desk()
+    auditors.doored.site.start_desk()
+
+
+def without(messages: bytes, parts: list[str]) -> bytes:
+    """Messages but for those that have one of these parts."""
+    lines = messages.splitlines(keepends=True)
+    return b"".join(it for it in lines if not any(part.encode() in it for part in parts))
 
 
 def test_what_is_no_answer(auditors: Auditors) -> None:

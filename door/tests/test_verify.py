@@ -125,6 +125,18 @@ def rows_of(kept: Kept) -> dict[int, dict[str, object]]:
     return {row["no"]: row for row in map(read_row, lines)}
 
 
+def test_a_store_that_was_cut(kept: Kept) -> None:
+    """With its archives a store is looked at as one that was never cut; alone it lacks them."""
+    whole, archives = kept.verify(status=0), [kept.folder / it for it in ("one", "other")]
+    for path, some in zip(archives, (kept.messages[1:6:2], kept.messages[7:9]), strict=True):
+        path.write_text("".join(f"{it}\n" for it in some))
+        kept.messages = [it for it in kept.messages if it not in some]
+    words = [word for path in archives for word in ("--archive", str(path))]
+    assert kept.verify(*words, *words[:2], status=0) == whole
+    said = kept.verify(*words[:2], status=1)
+    assert [it.split(":")[0] for it in said].count("NOT AT THE DESK") == 2, said
+
+
 def test_a_journal_that_is_whole(kept: Kept) -> None:
     said = kept.verify(status=0)
     assert said == [

@@ -19,7 +19,7 @@ from steelnewt_relay.config import read_config
 from steelnewt_relay.events import Finder
 from steelnewt_relay.standing import Knowledge
 
-CUTTER = str(Path(DESK).with_name("desk-cut"))
+CUTTER = Path(DESK).with_name(Path(DESK).name.replace("desk", "desk-cut", 1))
 HOUR = timedelta(hours=1)
 # What the requests below come to, the newest first, before the cut and behind it.
 BEFORE = ["waiting", "granted", "over", "over", "over", "refused", "over"]
@@ -55,7 +55,7 @@ def cut(site: Site, monkeypatch: pytest.MonkeyPatch, has_history: bool = True) -
     count, roster, base = Desk(site.url, "chat", None, None).count()
     site.stop_desk()
     at, fresh = stamp(now() - timedelta(days=2)), site.folder / "new.db"
-    subprocess.run([CUTTER, str(site.store), str(fresh), at], check=True)
+    subprocess.run([CUTTER, site.store, fresh, at], check=True)
     for path in site.folder.glob("desk.db*"):
         path.unlink()
     fresh.rename(site.store)

@@ -141,8 +141,8 @@ def cut(desk: Desk, before: str, reasons: list[str], expected: str) -> Looked:
         if desk.digest(kind, desk.file(kind)) != getattr(count, kind):
             raise Failed(f"{desk.file(kind)} is not what the desk serves: reload it first")
     with change.without_signals():
-        moment = begin(places)
         try:
+            moment = begin(places)
             served.run(["systemctl", "stop", desk.service])
             found, rows = made(desk, places, before, moment)
             if expected not in ("", found.digest):
@@ -152,7 +152,10 @@ def cut(desk: Desk, before: str, reasons: list[str], expected: str) -> Looked:
             go_back(desk, places, str(fault))
             raise
         start(desk, found.kept)
-        end(places)
+        try:
+            end(places)
+        except (Failed, OSError) as fault:
+            raise Halfway(f"the store is cut, and {places.mark} is left ({fault})") from None
     return found
 
 

@@ -8,7 +8,7 @@ import shutil
 import sys
 import tempfile
 
-from desk_tools import evidence
+from desk_tools import evidence, history
 from desk_tools.decisions import Desk
 from desk_tools.evidence import Evidence
 from desk_tools.found import Parser, visible
@@ -41,7 +41,10 @@ def parser() -> argparse.ArgumentParser:
     found.add_argument("folder", metavar="FOLDER", help="a new folder")
     found.add_argument("first", type=moment, metavar="FROM", help="the first moment of the time")
     found.add_argument("last", type=moment, metavar="UNTIL", help="the last one")
-    found.add_argument("--messages", required=True, metavar="FILE", help="all messages, one a line")
+    said = "all messages that the desk holds, one a line"
+    found.add_argument("--messages", required=True, metavar="FILE", help=said)
+    said = "what was cut out of its store (may be given again)"
+    found.add_argument("--archive", action="append", default=[], metavar="FILE", help=said)
     found.add_argument("--history", metavar="DIR", help="the desk's history: rosters and bases")
     found.add_argument("--roster", metavar="ROSTER", help="the only roster of the whole time")
     found.add_argument("--base", metavar="BASE", help="the only base of the whole time")
@@ -98,6 +101,24 @@ def check(said: argparse.Namespace) -> None:
         raise Failed(f"{said.folder}: it is there already")
 
 
+def messages_of(said: argparse.Namespace) -> list[bytes]:
+    """All that the desk was told: what it holds, and what was cut out of its store."""
+    archives = {read(path) for path in said.archive}
+    has = sum(len(it.splitlines()) for it in archives)
+    lacks = cut_out(said.history) - has
+    if lacks > 0:
+        told = f"{said.history} says that {has + lacks} messages were cut out of the store"
+        raise Failed(f"{told}, and the archives have {has}: --archive FILE for each of them")
+    texts = [read(said.messages), *archives]
+    return sorted({line for text in texts for line in text.splitlines() if line})
+
+
+def cut_out(folder: str | None) -> int:
+    """How many messages were taken out of the desk's store, as its history says."""
+    found = history.lines(folder) if folder else []
+    return int(found[-1].cut.split(" ")[2]) if found and found[-1].cut else 0
+
+
 def reasons_of(path: str | None) -> Reasons | None:
     """Why people asked, by the names of requests, and what the relay knows of the verdicts on
     each."""
@@ -133,7 +154,7 @@ def made(said: argparse.Namespace) -> None:
     """Fills a folder beside the one that is named, and renames it: there is never half of it."""
     check(said)
     desk = program(said.desk)
-    messages = sorted({line for line in read(said.messages).splitlines() if line})
+    messages = messages_of(said)
     place = os.path.dirname(os.path.abspath(said.folder))
     with tempfile.TemporaryDirectory(dir=place) as room:
         folder = os.path.join(room, "evidence")

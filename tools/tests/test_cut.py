@@ -11,6 +11,7 @@ import sys
 import threading
 import time
 from collections.abc import Iterator
+from contextlib import contextmanager
 from pathlib import Path
 
 import pytest
@@ -27,19 +28,25 @@ BEFORE = -3 * DAY
 AT = moment(BEFORE)
 # how many requests have ended then
 OLD = 12
-# the call of a program at which a cut is killed, and whether that program was run
-KILLED = """\
+# the call of a program at which a cut is killed, or where a full disk fails it, and whether that
+# program was run
+STOPPED = """\
 import os, signal, sys
 from desk_tools import change_program, served
 at, is_behind, real = int(sys.argv.pop(1)), sys.argv.pop(1) == "behind", served.run
-calls = [0]
+is_killed, calls = sys.argv.pop(1) == "killed", [0]
+def stop():
+    if is_killed:
+        os.kill(os.getpid(), signal.SIGKILL)
+    raise served.Failed("No space left on device")
 def run(*words, **named):
     calls[0] += 1
-    if calls[0] == at and not is_behind:
-        os.kill(os.getpid(), signal.SIGKILL)
+    is_there = calls[0] == at
+    if is_there and not is_behind:
+        stop()
     told = real(*words, **named)
-    if calls[0] == at:
-        os.kill(os.getpid(), signal.SIGKILL)
+    if is_there:
+        stop()
     return told
 served.run = run
 status = change_program.main()
@@ -126,7 +133,7 @@ def test_a_history_is_cut(running: Running) -> None:
 def kept_aside(running: Running, before: list[str]) -> bool:
     """The old store is beside the new one, whole, and the archive is the account's alone."""
     folder = running.folder / "store"
-    [old], [archive] = folder.glob("desk.db.before-*"), (folder / "archives").glob("*.messages")
+    [old], [archive] = old_stores(running), (folder / "archives").glob("*.messages")
     seen, owner = archive.stat(), folder.stat()
     assert (seen.st_mode & 0o7777, seen.st_uid) == (0o400, owner.st_uid)
     assert old.stat().st_mode == (folder / "desk.db").stat().st_mode
@@ -134,10 +141,14 @@ def kept_aside(running: Running, before: list[str]) -> bool:
         return [it.decode() for it in cuts.texts_of(base)] == before
 
 
+def old_stores(running: Running) -> Iterator[Path]:
+    return (running.folder / "store").glob("desk.db.before-*")
+
+
 def left(running: Running) -> list[str]:
     """What a cut leaves beside the store that is none of what it makes."""
     names = sorted(it.name for it in (running.folder / "store").iterdir())
-    names += [it.name for it in (running.folder / "store" / "archives").iterdir()]
+    names += [it.name for it in (running.folder / "store" / "archives").glob("*")]
     known = r"desk\.db(-wal|-shm)?|desk\.db\.before-\d+Z|\d+Z\.messages|archives|history|reserve.*"
     return [it for it in names if not re.fullmatch(known, it)]
 
@@ -273,59 +284,76 @@ def test_a_disk_that_is_full(full: Running) -> None:
     stays(full, full.cut(AT, "--yes"), before, "has no room")
 
 
-# ---- kills
+# ---- kills, and programs that fail
 
 
-def calls(running: Running) -> int:
-    """How many programs a whole cut starts."""
-    ran = running.cut(AT, "--yes", words=killed_words(0, "before"))
-    assert ran.returncode == 0, ran
-    return int(ran.stdout.split()[-2])
+def stopped_words(at: int, where: str, how: str) -> list[str]:
+    return [sys.executable, "-c", STOPPED, str(at), where, how]
 
 
-def killed_words(at: int, where: str) -> list[str]:
-    return [sys.executable, "-c", KILLED, str(at), where]
-
-
-def test_killed_at_each_step(tmp_path: Path, desk: str) -> None:
-    """Killed before or behind a program that it starts, the desk starts with a store and a history
-    that say the same, and the same call ends the cut."""
-    count = calls_of(tmp_path, desk)
+def each_place(tmp_path: Path, desk: str, how: str) -> Iterator[tuple[Running, int, str]]:
+    """A desk for each place at which a cut is stopped: before or behind a program it starts."""
+    with desk_in(tmp_path / "whole", desk) as running:
+        ran = running.cut(AT, "--yes", words=stopped_words(0, "before", how))
+        assert ran.returncode == 0, ran
+        count = int(ran.stdout.split()[-2])
     places = [(at, where) for at in range(1, count + 1) for where in ("before", "behind")]
-    # (behind the third last call but one the new store is in place, and the desk is down)
-    tried = {*places[:: max(1, len(places) // PLACES)], (count - 3, "behind")}
+    # (behind the third last call but one the new store is in place, and the desk is down; and
+    # behind the last call all is done)
+    tried = {*places[:: max(1, len(places) // PLACES)], (count - 3, "behind"), (count, "behind")}
     for at, where in sorted(tried):
-        room = tmp_path / f"{at}-{where}"
-        room.mkdir()
-        running = Running(room, desk)
-        try:
-            filled(running)
-            killed_once(running, at, where)
-        finally:
-            running.close()
+        with desk_in(tmp_path / f"{at}-{where}", desk) as running:
+            yield running, at, where
 
 
-def calls_of(tmp_path: Path, desk: str) -> int:
-    room = tmp_path / "whole"
+@contextmanager
+def desk_in(room: Path, desk: str) -> Iterator[Running]:
     room.mkdir()
     running = Running(room, desk)
     try:
         filled(running)
-        return calls(running)
+        yield running
     finally:
         running.close()
 
 
-def killed_once(running: Running, at: int, where: str) -> None:
-    before, told, old = running.messages(), answers(running), counted(running)
-    ran = running.cut(AT, "--yes", words=killed_words(at, where))
-    assert ran.returncode == -signal.SIGKILL, (at, where, ran)
-    running.systemctl("start")
-    assert counted(running) == old, (at, where)
-    assert set(running.messages()) | set(archives(running)) == set(before), (at, where)
-    assert answers(running) == told, (at, where)
+def test_killed_at_each_step(tmp_path: Path, desk: str) -> None:
+    """The desk starts with a store and a history that say the same, and the same call ends the
+    cut."""
+    for running, at, where in each_place(tmp_path, desk, "killed"):
+        before, told, old = running.messages(), answers(running), counted(running)
+        ran = running.cut(AT, "--yes", words=stopped_words(at, where, "killed"))
+        assert ran.returncode == -signal.SIGKILL, (at, where, ran)
+        running.systemctl("start")
+        assert counted(running) == old, (at, where)
+        assert set(running.messages()) | set(archives(running)) == set(before), (at, where)
+        assert answers(running) == told, (at, where)
+        is_ended(running, before, told, f"killed {where} {at}")
+
+
+def test_a_full_disk_at_each_step(tmp_path: Path, desk: str) -> None:
+    """What is said is so: all is as before, and nothing is left; or the store is cut, and the same
+    call ends it."""
+    for running, at, where in each_place(tmp_path, desk, "failing"):
+        before, told, old = running.messages(), answers(running), counted(running)
+        ran = running.cut(AT, "--yes", words=stopped_words(at, where, "failing"))
+        place = f"failing {where} {at}"
+        assert "No space left on device" in ran.stderr, (place, ran)
+        if ran.returncode == 2:
+            assert ran.stderr.endswith(": all is as before\n"), (place, ran)
+            assert running.messages() == before and not left(running), (place, ran)
+            assert not archives(running) and not [*old_stores(running)], (place, ran)
+        else:
+            assert ran.returncode == 3 and "the store is cut" in ran.stderr, (place, ran)
+            running.systemctl("start")
+        assert counted(running) == old and answers(running) == told, (place, ran)
+        is_ended(running, before, told, place)
+
+
+def is_ended(running: Running, before: list[str], told: list[str], place: str) -> None:
+    """The same call, run again, ends the cut."""
     ran = running.cut(AT, "--yes")
-    assert ran.returncode == 0, (at, where, ran)
-    assert whole(running) == sorted(before) and counted(running) == old, (at, where)
-    assert answers(running) == told and not left(running), (at, where)
-    assert len(archives(running)) == OLD + 2, (at, where)
+    assert ran.returncode == 0, (place, ran)
+    assert whole(running) == sorted(before) and counted(running) == len(before), place
+    assert answers(running) == told and not left(running), place
+    assert len(archives(running)) == OLD + 2 and kept_aside(running, before), place

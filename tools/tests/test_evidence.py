@@ -5,14 +5,17 @@ from __future__ import annotations
 import csv
 import json
 import os
+import sqlite3
 import subprocess
 from collections.abc import Callable
+from contextlib import closing
 from pathlib import Path
 from typing import Any
 
 import pytest
 
 from conftest import ROOT
+from desk_tools.evidence import program_beside
 from texts import newer
 
 from tests.common.histories import Moment, write_history
@@ -331,6 +334,42 @@ def test_a_history_that_does_not_fit(evidence: Make, tmp_path: Path) -> None:
     folder, ran = evidence("made")
     assert ran.returncode == 2 and "roster.toml is not there: bring it back" in ran.stderr, ran
     assert not os.path.exists(folder)
+
+
+def texts_of(store: Path) -> str:
+    """All messages of a store, one a line."""
+    with closing(sqlite3.connect(f"file:{store}?mode=ro", uri=True)) as base:
+        return "".join(f"{it}\n" for (it,) in base.execute("SELECT body FROM messages"))
+
+
+def test_a_store_that_was_cut(evidence: Make, desk: str, tmp_path: Path) -> None:
+    """What the store holds and its archive are told as the whole, byte for byte; without the
+    archive nothing is told, where the history says that there is one."""
+    files = [os.path.join(EXAMPLES, it) for it in ("roster.toml", "site.sudo")]
+    old, new, gone = (tmp_path / it for it in ("old.db", "new.db", "gone.messages"))
+    messages = Path(EXAMPLES, "audited.messages").read_text()
+    subprocess.run([desk, "deliver", *files, old, "chat"], input=messages, text=True, check=True)
+    cutter = program_beside(desk, "desk-cut")
+    ran = run(cutter, str(old), str(new), "20260201000000Z", "--archive", str(gone))
+    assert ran.returncode == 0 and gone.read_text().count("\n") == 6, ran
+    for it in (old, new):
+        it.with_suffix(".messages").write_text(texts_of(it))
+    sample = ("--sample", "2", "--seed", "x", "--log", f"db1={EXAMPLES}/used.log")
+    kept, whole = str(new.with_suffix(".messages")), str(old.with_suffix(".messages"))
+    told = bytes_of(evidence("whole", *sample, messages=whole)[0])
+    both, ran = evidence("both", *sample, "--archive", str(gone), messages=kept)
+    assert ran.returncode == 0 and bytes_of(both) == told and len(told) > 10, ran
+    assert bytes_of(evidence("bare", *sample, messages=kept)[0]) != told
+    moments = tmp_path / "history" / "moments"
+    digests = moments.read_text().splitlines()[-1].split(" ", 1)[1]
+    with moments.open("a") as file:
+        file.write(f"20270102000000Z cut 20260201000000Z 6 {digests}\n")
+    for more, has in (((), 0), (("--archive", kept), 5)):
+        folder, ran = evidence(f"lacks-{has}", *more, messages=kept)
+        said = f"that 6 messages were cut out of the store, and the archives have {has}: --archive"
+        assert ran.returncode == 2 and said in ran.stderr and not os.path.exists(folder), ran
+    again, ran = evidence("again", *sample, "--archive", str(gone), messages=kept)
+    assert ran.returncode == 0 and bytes_of(again)["report.html"] == told["report.html"], ran
 
 
 def test_what_was_carried_away_may_be_there_again(
