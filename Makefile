@@ -92,7 +92,7 @@ lost: desk
 	python3 -m tests.backup.kills
 	WHOLE=1 bash tests/backup/machines.sh
 
-# A history that is cut, in the long form: killed at 60 places, and by three desks while twenty hosts fetch (as root).
+# A history that is cut, in the long form: killed, and with a full disk, at 60 places, and by three desks while twenty hosts fetch (as root).
 cuts: desk
 	PLACES=60 HOSTS_THAT_FETCH=20 bash tools/test.sh -k cut
 

@@ -547,7 +547,7 @@ class Found:
         self.figures |= {} if has is None else {"desk_memory_bytes": has}
         if share >= 50:
             said = f"{messages} messages may need {share} % of the memory of {name}"
-            less = "cut its history (desk-change-roster --cut)"
+            less = "cut its history with desk-cut (desk-change-roster --cut)"
             self.warning.append(f"{said}: restart it, {less}, or give the machine more")
 
     def roster(self, path: str) -> None:

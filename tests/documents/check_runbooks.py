@@ -506,8 +506,25 @@ def restore(room: Room) -> None:
     room.holds("what is there", room.text("/v1/messages") == listed(messages), done)
     lost = [name for name in os.listdir(room.path(HERE)) if name.startswith("lost-")]
     room.holds("the old file is kept", len(lost) == 1, os.listdir(room.path(HERE)))
+    restore_archives(room, messages)
     for kind in ("with its log", "without a log", "as 'A backup' says"):
         restore_file(room, kind)
+
+
+def restore_archives(room: Room, messages: list[str]) -> None:
+    """What was cut out of the store is there again: hosts count it."""
+    out = [desk.approval(number) for number in (51, 52, 53)]
+    room.run(f"runuser -u desk -- mkdir -m 0700 {HERE}/archives; rm -rf {HERE}/lost-*")
+    for name, some in (("20260201000000Z", out[:2]), ("20260202000000Z", out[2:])):
+        room.write(f"{HERE}/archives/{name}.messages", listed(some))
+    room.run(f"chown -R desk {HERE}/archives; chmod 0400 {HERE}/archives/*")
+    done = room.follow("A restore", 0)
+    room.holds("with what was cut out", done.stdout.split() == ["5", "ack"], done)
+    held = room.text("/v1/messages")
+    room.holds("all of it", held == listed([*messages, *out]), held)
+    room.run(f"rm -rf {HERE}/archives {HERE}/lost-*")
+    done = room.follow("A restore", 0)
+    room.holds("and without an archive", done.stdout.split() == ["2", "ack"], done)
 
 
 def after_incident(room: Room) -> None:

@@ -408,13 +408,59 @@ def the_disk_is_full(books: Books) -> None:
 
 
 def memory_or_history_ends(books: Books) -> None:
-    """The page's one command. Nothing here is a month old: that is said, and the desk serves on."""
+    """The page's one command. Where nothing is a month old that is said, and the desk serves on;
+    else its history is cut, and what was asked for is told and fetched as before."""
     before, page = books.life.pid("desk.service"), section("Memory or history ends")
     words = re.search(r"^desk-change-roster --cut .*$", page, re.MULTILINE)
     done = books.desk.run(words[0] if words else "false", given="y\n")
     is_said = done.returncode == 2 and "0 messages would be taken out" in done.stdout + done.stderr
     books.holds("nothing is that old", is_said, done)
     books.holds("the desk serves on", books.life.pid("desk.service") == before != "0", before)
+    grow_old(books)
+    held, told = books.desk.out(f"{ASK}/v1/messages"), audited(books)
+    done = books.desk.run(words[0] if words else "false", given="y\n")
+    is_cut = done.returncode == 0 and f"and its archive has {VERDICTS}." in done.stdout
+    books.holds("the history is cut", is_cut, done)
+    is_cut_out(books, held, told)
+
+
+VERDICTS = 200
+ARCHIVES = "/var/lib/desk/archives"
+OLD_MESSAGES = "/root/old.messages"
+
+
+def grow_old(books: Books) -> None:
+    """A request of forty days ago, and many verdicts on it."""
+    hours = -40 * 24.0
+    asked = {"at": near(hours - 1), "from": near(hours), "until": near(hours + 1)}
+    verdicts = (desk.approval(9_000, at=near(hours - 2 - it)) for it in range(VERDICTS))
+    old = [desk.request(9_000, **asked), *verdicts]
+    books.desk.write(OLD_MESSAGES, "".join(f"{it}\n" for it in old))
+    post = f'{ASK}/v1/relays/chat/messages --data-binary "$line"'
+    said = books.desk.out(f"while read -r line; do {post}; done < {OLD_MESSAGES} | sort | uniq -c")
+    books.holds("old messages", said.split() == [str(len(old)), "ack"], said)
+
+
+def audited(books: Books, *archives: str) -> str:
+    """What desk-audit tells of the store, with archives."""
+    words = ["desk-audit", ROSTER, "/etc/desk/base.sudo", "/var/lib/desk/desk.db", *archives]
+    return books.desk.out(f"cd /tmp && {' '.join(words)}")
+
+
+def is_cut_out(books: Books, held: str, told: str) -> None:
+    """The store and its archive are the whole; desk, host and audit go on."""
+    on = books.desk
+    kept, out = on.out(f"{ASK}/v1/messages"), on.out(f"cat {ARCHIVES}/*.messages")
+    whole = sorted([*kept.splitlines(), *out.splitlines()])
+    books.holds("nothing is lost", whole == held.splitlines(), len(whole))
+    is_there = len(out.splitlines()) == VERDICTS
+    books.holds("the archive has what ended", is_there, out[:200])
+    mode = on.out(f"stat -c '%U %a' {ARCHIVES}/*.messages")
+    books.holds("it is the account's alone", mode.strip() == "desk 400", mode)
+    books.holds("the audit is the same", audited(books, f"{ARCHIVES}/*.messages") == told != "")
+    books.life.is_state("cut", "desk.service", "active, enabled")
+    ran = books.host.run("systemctl start desk-fetch@db1")
+    books.holds("the host fetches on", ran.returncode == 0, ran)
 
 
 def an_upgrade(books: Books) -> None:
@@ -454,7 +500,8 @@ def a_restore(books: Books) -> None:
     """From the copies that were made: of the messages, and of the file."""
     on = books.desk
     books.desk.wait(f"{ASK}/v1/count", 60)
-    before = on.out(f"{ASK}/v1/messages")
+    whole = f"{{ {ASK}/v1/messages; cat {ARCHIVES}/*.messages 2> /dev/null; }} | LC_ALL=C sort"
+    before = on.out(whole)
     done = books.follow("A restore", 0)
     count = str(len(before.splitlines()))
     books.holds("each is acknowledged", done.stdout.split() == [count, "ack"], done)

@@ -1,20 +1,22 @@
 #!/usr/bin/env python3
 """The memory that the desk's unit gets: it follows the messages of the store at each start, and the
 log of the desk warns where they may need half of it. The desk itself may have all of that but a
-rest: so it answers K5, and goes on.
+rest: so it answers K5, and goes on, before the kernel would kill it, also in a real control group.
 
 `python3 -m tests.peers.memory WORDS..` runs another program than build/desk. As root it also looks
 at who reads the store.
 """
 
+import contextlib
 import os
 import sqlite3
 import subprocess
 import sys
 import tempfile
 from collections.abc import Iterator
+from typing import NamedTuple
 
-from steelnewt_client.desk import Desk
+from steelnewt_client.desk import Desk, Silent
 from tests.common import desk
 
 Row = tuple[str, bool, str]
@@ -146,7 +148,7 @@ def warned(room: str) -> Iterator[Row]:
             if line.startswith("desk: serving 2 messages"):
                 job.terminate()
         job.wait()
-        warning = [it for it in lines if "WARNING: 2 messages may need" in it]
+        warning = [it for it in lines if "WARNING: 2 messages may need" in it and "desk-cut" in it]
         yield f"{a_message} bytes a message", bool(warning) == is_said, "".join(lines)
 
 
@@ -209,6 +211,83 @@ def answers(room: str) -> Iterator[Row]:
         job.terminate()
 
 
+# where the kernel has control groups for memory, and the file of a group's limit
+GROUPS = (
+    ("/sys/fs/cgroup", "memory.max", "memory.current"),
+    ("/sys/fs/cgroup/memory", "memory.limit_in_bytes", "memory.usage_in_bytes"),
+)
+INTO = 'echo $$ > "$1/cgroup.procs" && shift && exec "$@"'
+
+
+class Group(NamedTuple):
+    """A control group for memory: its folder, and the files of its limit and of its use."""
+
+    folder: str
+    limit: str
+    used: str
+
+    def may_have(self, size: int) -> None:
+        desk.write(self.folder, self.limit, str(size))
+
+    def uses(self) -> int:
+        return int(desk.read(self.folder, self.used))
+
+
+def made_group() -> Group | None:
+    """A group of this test's own; nothing where this account, or this machine, makes none."""
+    for top, limit, used in GROUPS:
+        folder = f"{top}/desk-memory-{os.getpid()}"
+        with contextlib.suppress(OSError):
+            os.mkdir(folder)
+            if os.path.exists(f"{folder}/{limit}"):
+                return Group(folder, limit, used)
+            os.rmdir(folder)
+    return None
+
+
+def before_the_kernel(room: str) -> Iterator[Row]:
+    """In a unit whose memory is what its desk may have and the rest, the desk answers K5, and the
+    kernel ends nothing. Without the desk's own limit the kernel kills it there."""
+    program = desk.named()
+    if "NOT PROVED" in desk.run([*program, "--version"]).stdout:
+        return
+    files = [f"{room}/roster.toml", f"{room}/base.sudo", f"{room}/many.db"]
+    unit = made_group()
+    if unit is None:
+        print("no control group can be made: that the kernel kills nothing is not tried")
+        return
+    for what, has_limit in (("with its limit", True), ("without", False)):
+        address = f"unix:{room}/unit.sock"
+        words = ["sh", "-c", INTO, "sh", unit.folder, *program, "serve", *files, address]
+        with subprocess.Popen(words, stdout=subprocess.PIPE) as job:
+            assert job.stdout is not None
+            job.stdout.readline()
+            found = asked_within(job, unit, Desk(address), has_limit)
+            wanted = [503, 200, 0] if has_limit else [0, 0, -9]
+            yield f"a unit whose desk is {what}", found == wanted, f"{found}"
+    os.rmdir(unit.folder)
+
+
+def asked_within(
+    job: subprocess.Popen[bytes], unit: Group, peer: Desk, has_limit: bool
+) -> list[int]:
+    """The statuses of a question for all messages and of one behind it, and how the desk ended."""
+    limit = data_of(job.pid) + ROOM
+    if has_limit:
+        subprocess.run(["prlimit", "--pid", str(job.pid), f"--data={limit}"], check=True)
+        unit.may_have(limit + REST)
+    else:
+        unit.may_have(unit.uses() + ROOM // 2)
+    found = []
+    for route in ("/v1/messages", "/v1/count"):
+        try:
+            found.append(peer.exchange("GET", route).status)
+        except Silent:
+            found.append(0)
+    job.terminate()
+    return [*found, job.wait()]
+
+
 def data_of(process: int) -> int:
     """The memory that a process has asked for, in bytes."""
     status = desk.read(f"/proc/{process}/status")
@@ -222,7 +301,7 @@ def main() -> None:
         for name in ("bin", "store"):
             os.mkdir(f"{room}/{name}")
         os.chmod(desk.write(f"{room}/bin", "systemctl", SYSTEMCTL), 0o755)
-        for part in (follows, unread, warned, limited, answers):
+        for part in (follows, unread, warned, limited, answers, before_the_kernel):
             for what, is_right, said in part(room):
                 checks += 1
                 if not is_right:

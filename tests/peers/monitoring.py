@@ -257,7 +257,7 @@ def long_lived(folder: str) -> Iterator[Row]:
         for limit, status, says in (
             (8192 + 1, 0, "desk_memory_percent=49"),
             (8192, 1, "WARNING - 2 messages may need 50 % of the memory of desk: restart it, cut"),
-            (8192, 1, "cut its history (desk-change-roster --cut), or give the machine more"),
+            (8192, 1, "cut its history with desk-cut (desk-change-roster --cut), or give the"),
             (8192, 1, "desk_memory_bytes=4242"),
             (8192, 1, "desk_memory_limit_bytes=8192"),
             (4096, 1, "desk_memory_percent=100"),

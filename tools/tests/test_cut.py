@@ -11,6 +11,7 @@ import sys
 import threading
 import time
 from collections.abc import Iterator
+from concurrent.futures import ThreadPoolExecutor
 from contextlib import contextmanager
 from pathlib import Path
 
@@ -259,6 +260,20 @@ def test_the_service_fails(running: Running, verb: str) -> None:
         assert ran.returncode == 3 and "the store is cut, and the desk does not" in ran.stderr, ran
     ran = running.cut(AT, "--yes")
     assert ran.returncode == 0 and whole(running) == sorted(before), ran
+
+
+def test_two_at_once(running: Running) -> None:
+    """The one waits for the other, and finds that all is done, or names it where that is slow."""
+    before, old = running.messages(), counted(running)
+    with ThreadPoolExecutor(2) as pool:
+        ran = list(pool.map(lambda _: running.cut(AT, "--yes"), range(2)))
+    first, second = sorted(ran, key=lambda it: "its archive has" not in it.stdout)
+    assert first.returncode == 0 and "its archive has" not in second.stdout, ran
+    is_found = second.returncode == 0 and second.stdout.endswith("The desk is cut there.\n")
+    is_named = second.returncode == 2 and "another change is under way" in second.stderr
+    assert is_found or is_named, ran
+    assert whole(running) == sorted(before) and counted(running) == old
+    assert kept_aside(running, before) and not left(running)
 
 
 def test_nobody_says_yes(running: Running) -> None:
