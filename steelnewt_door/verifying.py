@@ -203,10 +203,10 @@ class Verifier:
             self.look_at(text, requests, counting, found)
         held, ends = set(messages), ends_of(messages)
         for no, code in self.codes.items():
-            text = self.texts.get(no)
-            if code != "ack" or text is None or text in held:
+            came = self.texts.get(no)
+            if code != "ack" or came is None or came in held:
                 continue
-            if self.is_archived(text, ends):
+            if self.is_archived(came, ends):
                 found.counts["archived"] += 1
             else:
                 found.add("NOT AT THE DESK", f"row {no}: it was acknowledged, and is not held")

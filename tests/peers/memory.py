@@ -213,34 +213,30 @@ def answers(room: str) -> Iterator[Row]:
 
 # where the kernel has control groups for memory, and the file of a group's limit
 GROUPS = (
-    ("/sys/fs/cgroup", "memory.max", "memory.current"),
-    ("/sys/fs/cgroup/memory", "memory.limit_in_bytes", "memory.usage_in_bytes"),
+    ("/sys/fs/cgroup", "memory.max"),
+    ("/sys/fs/cgroup/memory", "memory.limit_in_bytes"),
 )
 INTO = 'echo $$ > "$1/cgroup.procs" && shift && exec "$@"'
 
 
 class Group(NamedTuple):
-    """A control group for memory: its folder, and the files of its limit and of its use."""
+    """A control group for memory: its folder, and the file of its limit."""
 
     folder: str
     limit: str
-    used: str
 
     def may_have(self, size: int) -> None:
         desk.write(self.folder, self.limit, str(size))
 
-    def uses(self) -> int:
-        return int(desk.read(self.folder, self.used))
-
 
 def made_group() -> Group | None:
     """A group of this test's own; nothing where this account, or this machine, makes none."""
-    for top, limit, used in GROUPS:
+    for top, limit in GROUPS:
         folder = f"{top}/desk-memory-{os.getpid()}"
         with contextlib.suppress(OSError):
             os.mkdir(folder)
             if os.path.exists(f"{folder}/{limit}"):
-                return Group(folder, limit, used)
+                return Group(folder, limit)
             os.rmdir(folder)
     return None
 
@@ -277,7 +273,7 @@ def asked_within(
         subprocess.run(["prlimit", "--pid", str(job.pid), f"--data={limit}"], check=True)
         unit.may_have(limit + REST)
     else:
-        unit.may_have(unit.uses() + ROOM // 2)
+        unit.may_have(data_of(job.pid, "RssAnon") + ROOM // 2)
     found = []
     for route in ("/v1/messages", "/v1/count"):
         try:
@@ -288,10 +284,10 @@ def asked_within(
     return [*found, job.wait()]
 
 
-def data_of(process: int) -> int:
-    """The memory that a process has asked for, in bytes."""
+def data_of(process: int, what: str = "VmData") -> int:
+    """The memory that a process has asked for, or another line of its status, in bytes."""
     status = desk.read(f"/proc/{process}/status")
-    return 1024 * int(next(it.split()[1] for it in status.splitlines() if "VmData" in it))
+    return 1024 * int(next(it.split()[1] for it in status.splitlines() if what in it))
 
 
 def main() -> None:
