@@ -15,7 +15,7 @@ from steelnewt_client.names import PERSON
 from steelnewt_client.signed import DIGEST
 from steelnewt_door import enrolling
 from steelnewt_door.changes import AGREED, Two, lines_of, said_of, yeses_in
-from steelnewt_door.changing import Changing, fingerprint, given_in, plainly, public_in, written
+from steelnewt_door.changing import Changing, fingerprint, given_in, plainly, public_in, text_in, written
 from steelnewt_door.following import check_new, new_versions, take, take_agreed
 from steelnewt_door.judge import print_of_blob
 from steelnewt_door.lost import signed_with
@@ -128,7 +128,7 @@ class Job:
 
     def new_signer(self, name: str, at: str) -> Signer:
         """The signer of a key that nobody has, or had."""
-        given, site = given_in(self.said.file), self.settings.site
+        given, site = text_in(self.said.file), self.settings.site
         if self.said.unproved:
             public = plainly(public_in(self.said.file, given))
         else:
@@ -159,7 +159,7 @@ class Job:
 
     def add_authority(self) -> int:
         signers, revoked = self.changing.held()
-        public = plainly(public_in(self.said.file, given_in(self.said.file)))
+        public = plainly(public_in(self.said.file, text_in(self.said.file)))
         self.check_new(public)
         kind, key = public.split(" ")
         new = Signer("*", kind, key, self.changing.next_moment(), is_authority=True)
@@ -195,7 +195,7 @@ class Job:
     def revoke(self) -> int:
         """Revokes a key that may stand in certificates, which no line here names."""
         signers, revoked = self.changing.held()
-        public = plainly(public_in(self.said.file, given_in(self.said.file)))
+        public = plainly(public_in(self.said.file, text_in(self.said.file)))
         if public in revoked:
             raise BadSigners(f"{fingerprint(public)} is revoked already")
         mine = [it for it in signers if it.public == public]
@@ -234,7 +234,7 @@ class Job:
         return sys.stdin.readline(100).strip().lower() in ("y", "yes")
 
     def yeses(self) -> str:
-        given = [given_in(it).decode("ascii", "replace").strip() for it in self.said.files]
+        given = [text_in(it).decode("ascii", "replace").strip() for it in self.said.files]
         text = "".join(f"{it}\n" for it in given)
         yeses_in(text)
         return text
