@@ -76,7 +76,8 @@ def digests(url: str, targets: list[str]) -> Digests:
 
 def signers(url: str) -> Digests:
     """Each version of the signers that a door has."""
-    found, last = Digests(), EARLIEST
+    found: Digests = {}
+    last = EARLIEST
     for _ in range(MOST_PAGES):
         page = answer(url, f"/v1/signers/after/{last}")
         if not page:

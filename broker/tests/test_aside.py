@@ -128,7 +128,7 @@ def test_a_head_that_waits_is_passed_over(count: int) -> None:
         if not queue.held and not queue.bodies:
             consumer.stop()
 
-    queue.wait = wait  # type: ignore[method-assign]
+    setattr(queue, "wait", wait)
     consumer._carry([Lane(cast(RealLink, queue), on_its_way)])
     on_its_way.end()
     assert queue.steps == ["head"] * (count + 1) + [("all", 1)]

@@ -270,6 +270,55 @@ def test_a_look_by_the_other_doors_own_socket(two: Two) -> None:
     assert "nothing is wrong with the door" in two.here.run("check")
 
 
+def test_one_history_of_signers(two: Two) -> None:
+    """What is changed at one door is taken over at the other, version by version; two people's yes
+    comes along, and is judged again."""
+    folder = str(two.there.folder / "signers")
+    assert "nothing is new there" in two.here.signer("take", folder)
+    for name in ("dave", "erin"):
+        two.there.new_key(name)
+        two.there.add(name)
+    assert "+ erin ssh-ed25519 SHA256:" in two.here.signer("take", folder)
+    assert two.here.signer("history") == two.there.signer("history")
+    assert two.here.signer("list") == two.there.signer("list")
+    two.here.signer("lost", "dave")
+    assert "nothing is new there" in two.here.signer("take", folder)
+    two.there.signer("take", str(two.here.folder / "signers"))
+    assert two.here.signer("history") == two.there.signer("history")
+    # where two have to say yes, root of another door alone adds nobody
+    two.here.configure(more="changes_by = 2\n")
+    two.there.new_key("mallory")
+    two.there.add("mallory")
+    assert "have the yes of 0" in two.here.signer("take", folder, status=2)
+    two.there.signer("end", two.there.signer("list").split("mallory ")[1].split()[0])
+    assert "have the yes of 0" in two.here.signer("take", folder, status=2)
+    assert "mallory" not in two.here.signer("list")
+
+
+def test_histories_that_differ_are_not_taken(two: Two) -> None:
+    folder = two.there.folder / "signers"
+    [first] = [it.name for it in folder.iterdir()]
+    for name in ("dave", "erin"):
+        two.there.new_key(name)
+        two.there.add(name)
+    two.here.signer("take", str(folder))
+    last = max(it.name for it in folder.iterdir())
+    kept = (folder / last / "allowed_signers").read_text()
+    # one of its versions was written anew, taken out, or put between others
+    (folder / last / "allowed_signers").write_text(kept.replace("erin ", "thief ", 1))
+    assert f"another version {last}" in two.here.signer("take", str(folder), status=2)
+    (folder / last / "allowed_signers").write_text(kept)
+    (folder / first).rename(two.there.folder / "gone")
+    assert f"lacks the version {first}" in two.here.signer("take", str(folder), status=2)
+    (two.there.folder / "gone").rename(folder / first)
+    shutil.copytree(folder / first, folder / "20250105090000Z")
+    assert "was never here" in two.here.signer("take", str(folder), status=2)
+    shutil.rmtree(folder / "20250105090000Z")
+    shutil.copytree(folder / last, folder / stamp(now() + timedelta(hours=1)))
+    assert "ahead of the clock" in two.here.signer("take", str(folder), status=2)
+    assert "cannot be read" in two.here.signer("take", f"{folder}.none", status=2)
+
+
 def test_what_it_brings_from(two: Two) -> None:
     assert "no door c in" in two.here.run("bring", "c", status=2)
     empty = two.here.folder / "empty"

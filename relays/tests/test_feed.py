@@ -111,3 +111,12 @@ def test_a_desk_that_does_not_answer(tmp_path: Path) -> None:
             assert feed(tmp_path, first, here)[0] == 0
         assert feed(tmp_path, first, here)[0] != 0
         assert here.lines == {"m1"}
+
+
+def test_behind_a_door_it_feeds_nothing(tmp_path: Path) -> None:
+    """It would post past the door, without anybody's signature."""
+    environment = {"PATH": os.environ["PATH"], "ADDR": "unix:/run/desk-posts/desk.sock"}
+    words = ["sh", FEED, "https://desk.example", "chat"]
+    ran = subprocess.run(words, cwd=tmp_path, env=environment, capture_output=True, text=True)
+    assert ran.returncode == 2 and "this desk is behind a door" in ran.stderr
+    assert "desk-bring.timer" in ran.stderr
