@@ -9,6 +9,7 @@
 # `chat` is a relay of the roster, and ADDR in /etc/desk/serve.conf, or in the environment, says
 # where the desk of this machine listens. It says what was posted, and why something was not; the
 # status is 0 if this desk and its archives then have all that the first one held.
+# Behind a door it feeds nothing: there desk-door bring does so, with people's signatures.
 # While neither desk got a message since it last looked, it asks both how many they hold. Else it
 # asks the first for what ends a day before that or later, and for what waits there: where that makes
 # up its count, there is no more. Whole lists are fetched where it does not, and once an hour.
@@ -21,6 +22,11 @@ umask 077
 first=$1 relay=$2 posted=0 refused=0
 addr=${ADDR:-$(sed -n 's/^ADDR=//p' /etc/desk/serve.conf)}
 case $addr in
+    unix:/run/desk-posts/*)
+        echo "feed-desk: this desk is behind a door, which takes what the first one's door has:" \
+            "[doors] in /etc/desk/door.toml, and systemctl enable --now desk-bring.timer" >&2
+        exit 2
+        ;;
     unix:*) set -- --unix-socket "${addr#unix:}" http://desk ;;
     *) set -- "http://$addr" ;;
 esac

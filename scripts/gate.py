@@ -133,6 +133,7 @@ PARTS = (
     Part("machines/team", "python3 -m tests.machines.team", MACHINES, 2, after="packages/make"),
     Part("machines/books", "python3 -m tests.machines.books", MACHINES, 3, after="packages/make"),
     Part("several", "bash tests/several/several.sh --short", "root unshare mount", 3),
+    Part("doors", "bash tests/several/several.sh --doors --short", "root unshare mount", 3),
 )
 
 

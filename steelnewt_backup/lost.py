@@ -85,7 +85,7 @@ def of_journal(root: str) -> list[Source]:
     taken: dict[str, list[str]] = {}
     for path in sorted(glob.glob(f"{root}{JOURNAL}/journal-*.jsonl")):
         for row in rows_of(path):
-            if row.get("row") == "came":
+            if row.get("row") in ("came", "brought"):
                 came[int(row["no"])] = str(row["relay"]), str(row["message"])
             elif row.get("row") == "answered" and row.get("code") == ACK:
                 relay, message = came.get(int(row["of"]), ("", ""))

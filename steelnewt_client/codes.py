@@ -28,6 +28,9 @@ class Fate(enum.Enum):
 FATES = {"A": Fate.FINAL, "M": Fate.FINAL, "P": Fate.MEND, "T": Fate.MEND}
 # The request was cut on its way: this says nothing of the message, nor of whoever posted it.
 CUT_SHORT = "T7"
+# What a door answers to a message that waits for something of its own, as its request: the desk takes
+# others meanwhile.
+WAITS = frozenset({"K21", "K22", "K27"})
 # The statuses with which a desk refuses a message.
 REFUSES = frozenset({400, 403, 404, 405, 411, 413})
 
@@ -43,12 +46,14 @@ class Answer:
 
     `said` is `ack`, the refusal as `A7 WindowTooLong`, or what came in place of either; `why` says
     in a sentence why the message is not settled, and is empty where it is. Where no connection was
-    made (`is_away`) no other message would get an answer now either."""
+    made (`is_away`) no other message would get an answer now either. Where this one alone `waits`,
+    others are taken."""
 
     fate: Fate
     said: str
     why: str = ""
     is_away: bool = False
+    waits: bool = False
 
 
 def judge(status: int, text: str) -> Answer:
@@ -64,7 +69,8 @@ def judge(status: int, text: str) -> Answer:
     if fate is Fate.MEND:
         return Answer(fate, said, unusable(status, text))
     short = said[:80].replace("\n", " ")
-    return Answer(fate, f"{status} {short}", unusable(status, text))
+    waits = found is not None and found[1] in WAITS
+    return Answer(fate, f"{status} {short}", unusable(status, text), waits=waits)
 
 
 # What a front means that answers by itself.

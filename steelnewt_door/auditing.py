@@ -20,7 +20,7 @@ from steelnewt_door.changes import Two
 from steelnewt_door.judge import Judge
 from steelnewt_door.signers import BadSigners, Signers
 from steelnewt_door.taking import TAKES_AWAY
-from steelnewt_door.verifying import Found, Verifier, read_counting, said_of
+from steelnewt_door.verifying import Found, Verifier, read_counting, said_of, theirs_of
 
 NOT_HELD = re.compile(r"NOT AT THE DESK: row ([0-9]+):")
 ENDS = re.compile(r"NOTAFTER=([0-9]{14}Z)")
@@ -36,7 +36,8 @@ class NoProgram(Exception):
 @dataclass(frozen=True)
 class Site:
     """What the auditors know of a site by themselves: its name, its roster and its base, how many
-    people say yes to signers, and where copies of hosts' files are."""
+    people say yes to signers, where copies of hosts' files are, since when all is signed but for
+    some relays' requests, and where they have the journals of its other doors."""
 
     name: str
     roster: str
@@ -45,6 +46,15 @@ class Site:
     program: str = "desk"
     changes_by: int = 1
     late: int = 86_400
+    since: str = ""
+    programs: frozenset[str] = frozenset()
+    others: dict[str, str] = field(default_factory=dict)
+
+    def verifier(self, signers: Signers) -> Verifier:
+        found = Verifier(Judge(self.name), signers, self.late)
+        found.since, found.programs = self.since, self.programs
+        found.others = {name: theirs_of(folder) for name, folder in self.others.items()}
+        return found
 
 
 @dataclass
@@ -66,7 +76,7 @@ class Auditing:
         # (a message is in the journal before the desk has it)
         self.found += self.copy.bring(ask)
         self.copy.bring_signers(ask)
-        verifier = Verifier(Judge(self.site.name), Signers(self.copy.signers), self.site.late)
+        verifier = self.site.verifier(Signers(self.copy.signers))
         verifier.cut = self.cut(ask)
         seen = verifier.look(self.copy.journal, messages, counting)
         self.take(seen, before)
@@ -158,7 +168,7 @@ def differences(host: str, held: list[str], made: list[str], now: str) -> Iterat
 
 
 def is_meant(verifier: Verifier, text: str) -> bool:
-    """Whether its author signed a message, or root took rights away."""
+    """Whether its author signed a message, or it needed no signature, or root took rights away."""
     rows, said = verifier.mine.get(digest(text), []), said_of(text)
     is_away = isinstance(said, Verdict) and said.kind in TAKES_AWAY
-    return any(it.is_good or (it.how == "root" and is_away) for it in rows)
+    return any(it.is_good or it.is_free or (it.how == "root" and is_away) for it in rows)

@@ -25,7 +25,7 @@ OK, CRITICAL, UNKNOWN = 0, 2, 3
 NAMES = {OK: "OK", CRITICAL: "CRITICAL", UNKNOWN: "UNKNOWN"}
 TEXTS = {
     "site": "", "desk": "", "certificate": "", "key": "", "ca": "", "roster": "", "base": "",
-    "hosts": "", "program": "desk", "keep": "/var/lib/desk-auditor",
+    "hosts": "", "program": "desk", "keep": "/var/lib/desk-auditor", "signed_since": "",
 }  # fmt: skip
 NUMBERS = {"changes_by": 1, "late": 86_400, "lasts": 900}
 FAULTS = (
@@ -39,11 +39,14 @@ class Settings:
     texts: dict[str, str]
     numbers: dict[str, int]
     known: frozenset[str]
+    programs: frozenset[str]
+    doors: dict[str, str]
 
     def site(self) -> Site:
         it, numbers = self.texts, self.numbers
         places = it["roster"], it["base"], it["hosts"], it["program"]
-        return Site(it["site"], *places, numbers["changes_by"], numbers["late"])
+        parts = numbers["changes_by"], numbers["late"], it["signed_since"], self.programs
+        return Site(it["site"], *places, *parts, self.doors)
 
     def ask(self, path: str) -> bytes:
         """What the desk's front, or its socket, answers."""
@@ -59,7 +62,7 @@ class Settings:
 def read_settings(path: str) -> Settings:
     with open(path, "rb") as file:
         told = tomllib.load(file)
-    known = told.pop("known", [])
+    known, programs, doors = (told.pop(it, []) for it in ("known", "programs", "doors"))
     texts, numbers = dict(TEXTS), dict(NUMBERS)
     for name, value in told.items():
         if name in texts and isinstance(value, str):
@@ -70,7 +73,8 @@ def read_settings(path: str) -> Settings:
             raise ValueError(f"{path}: {name} is no setting, or has another value")
     if not SITE.fullmatch(texts["site"]) or not all(texts[it] for it in ("desk", "roster", "base")):
         raise ValueError(f"{path}: it needs site, desk, roster and base")
-    return Settings(texts, numbers, frozenset(map(str, known)))
+    parts = frozenset(map(str, known)), frozenset(map(str, programs)), dict(doors)
+    return Settings(texts, numbers, *parts)
 
 
 def lasting(found: list[str], path: str, lasts: int, clock: float) -> list[str]:

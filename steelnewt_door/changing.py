@@ -7,6 +7,7 @@ import re
 import stat
 import subprocess
 import time
+from codecs import BOM_UTF8, BOM_UTF16_BE, BOM_UTF16_LE
 
 from steelnewt_client.moments import stamp_of
 from steelnewt_door.changes import Two, takes_away, text_of
@@ -17,6 +18,7 @@ from steelnewt_door.signers import BadSigners, Signer, Signers, Version
 DRAFT, TO_SIGN = "draft", "to-sign"
 KEY = re.compile(rf"({KINDS}) +([A-Za-z0-9+/]+={{0,2}})(?: [ -~]*)?")
 MOST_KEY = 8_192  # bytes of a file with a public key
+MARKS = {BOM_UTF8: "utf-8", BOM_UTF16_LE: "utf-16-le", BOM_UTF16_BE: "utf-16-be"}
 
 
 def fingerprint(public: str) -> str:
@@ -56,6 +58,17 @@ def given_in(path: str, most: int = MOST_KEY) -> bytes:
     if len(given) > most:
         raise BadSigners(f"{path} is longer than {most} bytes")
     return given
+
+
+def text_in(path: str) -> bytes:
+    """A file's text, as it would be written here: Windows' programs end lines otherwise, put a mark
+    before a text, or write UTF-16."""
+    given = given_in(path)
+    for mark, name in MARKS.items():
+        if given.startswith(mark):
+            given = given[len(mark) :].decode(name, "replace").encode("utf-8")
+            break
+    return given.replace(b"\r\n", b"\n")
 
 
 def public_in(path: str, given: bytes) -> str:

@@ -160,6 +160,12 @@ class Index:
         with self.lock:
             return self.base.execute(where, (digest(message),)).fetchone() is not None
 
+    def is_taken(self, message: str) -> bool:
+        """Whether the desk acknowledged a message."""
+        where = "SELECT 1 FROM lines WHERE message = ? AND how != 'refused' AND code = 'ack'"
+        with self.lock:
+            return self.base.execute(where, (digest(message),)).fetchone() is not None
+
     def whys(self, request: str) -> set[str]:
         """The digests of the reasons with which a request, of this digest, was signed."""
         where = "SELECT why FROM lines WHERE message = ? AND how = 'signed'"

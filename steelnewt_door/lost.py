@@ -5,6 +5,7 @@ from collections.abc import Iterator
 from steelnewt_client.messages import Request
 from steelnewt_client.signed import said_in
 from steelnewt_door.journal import files_of, rows_of
+from steelnewt_door.rows import MESSAGES, moment_of
 
 
 def signed_with(journal: str, marks: set[str]) -> Iterator[str]:
@@ -12,7 +13,7 @@ def signed_with(journal: str, marks: set[str]) -> Iterator[str]:
     came, codes = {}, {}
     for _, path in files_of(journal):
         for row in rows_of(path):
-            if row["row"] == "came" and row["key"] in marks:
+            if row["row"] in MESSAGES and row["key"] in marks:
                 came[row["no"]] = row
             elif row["row"] == "answered" and row["of"] in came:
                 codes[row["of"]] = row["code"]
@@ -21,7 +22,7 @@ def signed_with(journal: str, marks: set[str]) -> Iterator[str]:
         kind = "ask" if isinstance(message, Request) else message.kind
         of = message.by if isinstance(message, Request) else message.of
         yield (
-            f"{row['at']} by relay {row['relay']}: {message.by}: {kind} {of} {message.no}"
+            f"{moment_of(row)} by relay {row['relay']}: {message.by}: {kind} {of} {message.no}"
             f" ({codes.get(no, 'no answer')}), with {row['key']}"
         )
     yield f"{len(came)} messages were signed with {', '.join(sorted(marks))}"

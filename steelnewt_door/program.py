@@ -10,18 +10,22 @@ import socket
 import sqlite3
 import stat
 import sys
+import time
 from collections.abc import Iterator
 from dataclasses import replace
 from typing import Any
 
 from steelnewt_client.codes import NO_ROUTE
 from steelnewt_client.desk import Silent
+from steelnewt_client.moments import stamp_of
 from steelnewt_door.answering import Answering, Kept
+from steelnewt_door.bring_program import bring, lagging
 from steelnewt_door.crew import Asked, Crew, Keeper, Line, Locks, Shared
 from steelnewt_door.file_key import BadKey, FileKey, make_key, next_of, read_key, turn
 from steelnewt_door.file_key import told as told_of_keys
 from steelnewt_door.index import Index
 from steelnewt_door.journal import BadJournal, files_of, rows_behind
+from steelnewt_door.others import MOST_WAIT
 from steelnewt_door.refusals import Refused
 from steelnewt_door.serving import BACKLOG, Serving, bound
 from steelnewt_door.settings import CONFIG, BadSettings, Settings, read_settings
@@ -43,6 +47,11 @@ def parser() -> argparse.ArgumentParser:
     jobs.add_parser("serve", help="serve until SIGTERM")
     jobs.add_parser("begin", help="note what the desk holds that never came through the door")
     jobs.add_parser("check", help="say all that would stop it, or let a message past it")
+    said = "take what other doors took, each message by its moment there"
+    bringing = jobs.add_parser("bring", help=said)
+    bringing.add_argument("name", nargs="?", default="", metavar="DOOR", help="one of [doors] (all)")
+    said = "a folder with its `journal` and `signers`, in place of the door itself"
+    bringing.add_argument("--from", dest="source", default="", metavar="DIR", help=said)
     jobs.add_parser("answer", help="answer hosts with the door's own signature, until SIGTERM")
     said = "make the key of these signatures, and print what hosts have of it"
     key = jobs.add_parser("file-key", help=said).add_mutually_exclusive_group()
@@ -119,9 +128,11 @@ def run(crew: Crew, keeper: Keeper, settings: Settings, places: list[socket.sock
 
 def told(door: Door, settings: Settings) -> None:
     """Says how it begins, and settles what was open when it ended."""
-    if not settings.rules.is_signing:
-        log.warning("MESSAGES WITHOUT A SIGNATURE ARE TAKEN (signing = no): a journal alone")
-    else:
+    rules = settings.rules
+    if not rules.is_signed(door.now()):
+        until = f"until {rules.since}" if rules.is_signing else "(signing = no): a journal alone"
+        log.warning("MESSAGES WITHOUT A SIGNATURE ARE TAKEN %s", until)
+    if rules.is_signing:
         with suppress_signers():
             log.info("signers of %s", door.signers.now().at)
     try:
@@ -260,12 +271,26 @@ def room_faults(settings: Settings) -> Iterator[str]:
         yield f"{settings.journal} cannot be read: {fault.strerror}"
 
 
+def lag_faults(settings: Settings) -> Iterator[str]:
+    """Whether the signers here are older than another door's, or nobody looks at that."""
+    for name in settings.doors:
+        if why := lagging(settings, name):
+            yield f"door {name}: {why}"
+        age = time.time() - settings.others().looked(name)
+        if age > MOST_WAIT:
+            yield f"door {name}: nobody looked at it for {age:.0f} s (desk-door bring)"
+
+
 def check(settings: Settings) -> int:
+    rules = settings.rules
     found = [*desk_faults(settings), *room_faults(settings), *answers_faults(settings)]
-    if settings.rules.is_signing:
-        found += signer_faults(settings)
-    else:
+    found += lag_faults(settings)
+    if not rules.is_signing:
         print("(messages without a signature are taken: signing = no)")
+    elif not rules.is_signed(stamp_of(time.time())):
+        print(f"(messages without a signature are taken until {rules.since})")
+    if rules.is_signing:
+        found += signer_faults(settings)
     print("\n".join(found) or "nothing is wrong with the door")
     return 2 if found else 0
 
@@ -278,6 +303,8 @@ def main(words: list[str] | None = None) -> int:
         settings = read_settings(said.config)
         if said.job == "file-key":
             return file_key(settings, said)
+        if said.job == "bring":
+            return bring(settings, said.name, said.source)
         return jobs[said.job](settings)
     except (BadSettings, BadSigners, BadJournal, BadKey, Silent, OSError, sqlite3.Error) as fault:
         print(f"desk-door: {fault}", file=sys.stderr)

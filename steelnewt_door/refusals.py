@@ -21,6 +21,7 @@ STATUSES = {
     "K24 JournalFull": 503,
     "K25 NoSigners": 503,
     "K26 NotAgreed": 503,
+    "K27 DoorLags": 503,
     "M1 TooLong": 413,
     "M2 NotCanonical": 400,
     "M3 BadField": 400,

@@ -2,6 +2,8 @@
 
     came      a message as it came, before the desk is asked: its bytes, signature, key, relay,
               peer, moment, and the version of the signers by which it was judged
+    brought   the same of what came to another door of the site before it came here: when it did,
+              which door that is, and the digest of its row there
     answered  the answer to a message: `of` is the number of the row with which that came
     more      how many more messages of a relay were refused that have no rows of their own
     begun     the first row of each file
@@ -19,18 +21,23 @@ from steelnewt_client.signed import Signed
 FIRST = "0" * 64
 COMMON = {"no": int, "row": str, "before": str, "chain": str}
 # the members of each kind of row, with what each is
+CAME = COMMON | dict.fromkeys(
+    ("at", "how", "key", "message", "peer", "relay", "signature", "about", "why", "signers"), str
+)
 KINDS: dict[str, dict[str, type]] = {
-    "came": COMMON
-    | dict.fromkeys(("at", "how", "key", "message", "peer", "relay", "signature"), str)
-    | dict.fromkeys(("about", "why", "signers"), str),
+    "came": CAME,
+    "brought": CAME | {"arrived": str, "door": str, "there": str},
     "answered": COMMON | {"at": str, "by": str, "code": str, "of": int},
     "more": COMMON | {"at": str, "count": int, "relay": str},
     "begun": COMMON | {"at": str, "site": str},
     "healed": COMMON | {"at": str, "bytes": int, "digest": str},
 }
-# How a message came: signed; by root's socket, unsigned; unsigned, where the site signs nothing;
-# held by the desk before there was a door; or as something that was refused.
-HOWS = ("signed", "root", "unsigned", "before", "refused")
+# How a message came: signed; by root's socket, unsigned; unsigned, where the site signs nothing yet;
+# a request of a relay that signs for nobody; held by the desk before there was a door; or as
+# something that was refused.
+HOWS = ("signed", "root", "unsigned", "program", "before", "refused")
+# The kinds of rows that have a message.
+MESSAGES = ("came", "brought")
 # What is written of a row that cannot be a message: no more than this of its text.
 SHORT = 200
 
@@ -45,6 +52,17 @@ Draft = tuple[bytes, Noted]
 
 class BadRow(ValueError):
     """A line is no row of a journal; the text says why."""
+
+
+@dataclass(frozen=True)
+class Arrival:
+    """When a message came to another door of the site: that door's name, the moment, the version of
+    the signers by which it was judged there, and the digest of its row."""
+
+    door: str
+    at: str
+    signers: str
+    row: str
 
 
 @dataclass(frozen=True)
@@ -70,7 +88,7 @@ def noted_of(row: Row) -> Noted:
     number, of an answer the message's number and the code, and of others nothing."""
     if row["row"] == "answered":
         return row["of"], row["code"]
-    if row["row"] != "came":
+    if row["row"] not in MESSAGES:
         return ()
     signed = Signed(row["message"], row["signature"], row["about"], row["why"])
     code = ACK if row["how"] == "before" else ""
@@ -121,6 +139,17 @@ def came(
         "message": signed.message, "signature": signed.signature, "about": signed.about,
         "why": signed.why, "key": key, "signers": version,
     }  # fmt: skip
+
+
+def brought(row: Row, arrival: Arrival) -> Row:
+    """The row of a message that came to another door first."""
+    more = {"arrived": arrival.at, "door": arrival.door, "there": arrival.row}
+    return row | {"row": "brought"} | more
+
+
+def moment_of(row: Row) -> str:
+    """When a message came to the first door of the site that had it."""
+    return str(row["arrived"] if row["row"] == "brought" else row["at"])
 
 
 def came_broken(line: bytes, at: str, way: tuple[str, str]) -> Row:

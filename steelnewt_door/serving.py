@@ -23,6 +23,7 @@ from steelnewt_client.names import LABEL
 from steelnewt_door.crew import PROCESSES, WORKERS
 from steelnewt_door.heads import MOST_HEAD, Bad, Head, head_in, read_body, read_head, reply
 from steelnewt_door.refusals import STATUSES, Refused
+from steelnewt_door.rows import Arrival
 from steelnewt_door.taking import Door, Reply, Way
 
 log = logging.getLogger("desk-door")
@@ -31,7 +32,9 @@ COMES_IN, ANSWERS_IN, GOES_IN = 10.0, 60.0, 30.0  # seconds
 MOST_OPEN = 1_024 // PROCESSES  # connections of each process
 BACKLOG = 512  # that wait to be taken
 UCRED = struct.Struct("3i")
-POSTS = re.compile(rf"/v1/relays/({LABEL})/messages")
+# (at root's socket a message may say when it came to another door: filling.py)
+ARRIVED = rf"/v1/doors/({LABEL})/([0-9]{{14}}Z)/([0-9]{{14}}Z)/([0-9a-f]{{64}})"
+POSTS = re.compile(rf"(?:{ARRIVED})?/v1/relays/({LABEL})/messages")
 
 
 def post_to(path: str, patience: float = ANSWERS_IN) -> Callable[[str, str], Reply]:
@@ -70,18 +73,27 @@ def is_whole(raw: bytes) -> bool:
     return len(raw) >= min(size, MOST_REPLY)
 
 
-def post_in(given: bytes) -> tuple[str, int, int] | None:
-    """The relay of a post whose head is there, how long its line is, and how much of that is still
-    to come; None where more of the head is. Raises where it is something else, or more."""
+def way_of(way: Way, head: Head) -> Way | None:
+    """How a message comes; None where a request is no post. Only root says when it came before."""
+    found = POSTS.fullmatch(head.target) if head.method == "POST" else None
+    if not found or (found[1] and not way.is_root):
+        return None
+    arrival = Arrival(*found.groups()[:4]) if found[1] else None
+    return replace(way, relay=found[5], arrival=arrival)
+
+
+def post_in(given: bytes, way: Way) -> tuple[Way, int, int] | None:
+    """The way of a post whose head is there, how long its line is, and how much of that is still to
+    come; None where more of the head is. Raises where it is something else, or more."""
     if (found := head_in(given)) is None:
         if len(given) > MOST_HEAD:
             raise Bad(400, "T1 BadHead")
         return None
     head, begun = found
-    posts = POSTS.fullmatch(head.target)
-    if not posts or head.method != "POST" or len(begun) > head.length:
+    posted = way_of(way, head)
+    if not posted or len(begun) > head.length:
         raise Other
-    return posts[1], head.length, head.length - len(begun)
+    return posted, head.length, head.length - len(begun)
 
 
 class Other(Exception):
@@ -97,14 +109,10 @@ class Coming:
         self, serving: "Serving", peer: socket.socket, account: str, is_root: bool
     ) -> None:
         self.serving, self.peer, self.given = serving, peer, b""
-        self.account, self.is_root, self.relay = account, is_root, ""
+        self.way = Way("", account, is_root)
         self.length, self.missing = 0, -1  # (-1 while its head is to come)
         self.is_other = False
         self.timer: asyncio.TimerHandle | None = None
-
-    @property
-    def way(self) -> Way:
-        return Way(self.relay, self.account, self.is_root)
 
     @property
     def is_whole(self) -> bool:
@@ -128,8 +136,8 @@ class Coming:
         self.given += piece
         if self.missing > 0:
             self.missing -= len(piece)
-        elif found := post_in(self.given):
-            self.relay, self.length, self.missing = found
+        elif found := post_in(self.given, self.way):
+            self.way, self.length, self.missing = found
         if not piece or (self.missing < 0 and self.length):
             raise Other
 
@@ -303,11 +311,11 @@ class Serving:
         try:
             head, begun = await asyncio.wait_for(read_head(reader), COMES_IN)
             is_head = head.method == "HEAD"
-            if (posts := POSTS.fullmatch(head.target)) and head.method == "POST":
+            if posted := way_of(way, head):
                 body = read_body(reader, begun, head.length)
                 line = await asyncio.wait_for(body, COMES_IN)
-                loop, taken = asyncio.get_running_loop(), replace(way, relay=posts[1])
-                said = await loop.run_in_executor(self.workers, self.take, taken, line)
+                loop = asyncio.get_running_loop()
+                said = await loop.run_in_executor(self.workers, self.take, posted, line)
             else:
                 await self.pass_on(head, writer)
                 return

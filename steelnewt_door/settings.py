@@ -5,10 +5,13 @@ import tomllib
 from dataclasses import dataclass
 
 from steelnewt_client.desk import BadAddress, Desk, Place
+from steelnewt_client.moments import FORM as MOMENT
+from steelnewt_client.names import LABELS
 from steelnewt_client.signed import SITE
 from steelnewt_door.changes import Two
 from steelnewt_door.journal import Journal, Room
 from steelnewt_door.judge import Judge
+from steelnewt_door.others import FOLDER, Others
 from steelnewt_door.serving import post_to
 from steelnewt_door.signers import SIGNERS, Signers
 from steelnewt_door.taking import Door, Rules
@@ -25,6 +28,10 @@ TEXTS = {
     "journal": "/var/lib/desk-door",
     "answers": "unix:/run/desk-answers/desk.sock",
     "file_key": "/var/lib/desk-answers/key",
+    "signed_since": "",
+    "certificate": "",
+    "key": "",
+    "ca": "",
 }
 NUMBERS = {"late": 86_400, "changes_by": 1, "journal_bytes": 4 << 30, "file_bytes": 16 << 20}
 LEAST = {"late": 60, "changes_by": 1, "journal_bytes": 1 << 20, "file_bytes": 1 << 16}
@@ -47,6 +54,7 @@ class Settings:
     room: Room
     answers: str
     file_key: str
+    doors: dict[str, Desk]
 
     def judge(self) -> Judge:
         return Judge(self.site)
@@ -66,9 +74,12 @@ class Settings:
     def kept(self) -> Journal:
         return Journal(self.journal, self.site, self.room)
 
+    def others(self) -> Others:
+        return Others(os.path.join(self.journal, FOLDER), tuple(self.doors))
+
     def door(self, journal: Journal | None = None) -> Door:
         parts = Signers(self.signers), journal or self.kept(), self.asked()
-        return Door(self.rules, self.judge(), *parts, post_to(self.desk))
+        return Door(self.rules, self.judge(), *parts, post_to(self.desk), others=self.others())
 
 
 def socket_of(name: str, text: str) -> str:
@@ -82,8 +93,33 @@ def socket_of(name: str, text: str) -> str:
     return found
 
 
+def doors_of(found: dict[str, object], texts: dict[str, str]) -> dict[str, Desk]:
+    """The other doors, each by where it answers auditors."""
+    told = found.get("doors", {})
+    named = told.items() if isinstance(told, dict) else [("", told)]
+    pair = (texts["certificate"], texts["key"]) if texts["certificate"] else None
+    try:
+        if not all(LABELS.fullmatch(name) for name, _ in named):
+            raise ValueError("doors are named as relays are")
+        return {
+            name: Desk(str(where), "", pair, texts["ca"] or None, patience=120.0)
+            for name, where in named
+        }
+    except (BadAddress, ValueError) as fault:
+        raise BadSettings(f"doors: {fault}") from None
+
+
+def programs_of(found: dict[str, object]) -> frozenset[str]:
+    """The relays that sign for nobody."""
+    told = found.get("programs", [])
+    if not isinstance(told, list) or not all(LABELS.fullmatch(str(it)) for it in told):
+        raise BadSettings('programs is a list of relays, as ["tickets"]')
+    return frozenset(map(str, told))
+
+
 def checked(found: dict[str, object]) -> tuple[dict[str, str], dict[str, int]]:
-    """The settings, each of its kind."""
+    """The settings that are texts and numbers, each of its kind."""
+    found = {name: value for name, value in found.items() if name not in ("doors", "programs")}
     if unknown := found.keys() - TEXTS.keys() - NUMBERS.keys():
         raise BadSettings(f"no setting is named {', '.join(sorted(unknown))}")
     texts, numbers = dict(TEXTS), dict(NUMBERS)
@@ -100,13 +136,16 @@ def checked(found: dict[str, object]) -> tuple[dict[str, str], dict[str, int]]:
         raise BadSettings("site is a name as desk.example")
     if texts["signing"] not in ("yes", "no"):
         raise BadSettings('signing is "yes", or "no" where the door keeps the journal alone')
+    if texts["signed_since"] and not MOMENT.fullmatch(texts["signed_since"]):
+        raise BadSettings("signed_since is a moment as 20260105090000Z")
     return texts, numbers
 
 
 def read_settings(path: str) -> Settings:
     try:
         with open(path, "rb") as file:
-            texts, numbers = checked(tomllib.load(file))
+            found = tomllib.load(file)
+        texts, numbers = checked(found)
         return Settings(
             site=texts["site"],
             desk=socket_of("desk", texts["desk"]),
@@ -115,10 +154,14 @@ def read_settings(path: str) -> Settings:
             root=socket_of("root", texts["root"]),
             signers=texts["signers"],
             journal=texts["journal"],
-            rules=Rules(texts["signing"] == "yes", numbers["late"], numbers["changes_by"]),
+            rules=Rules(
+                texts["signing"] == "yes", numbers["late"], numbers["changes_by"],
+                texts["signed_since"], programs_of(found),
+            ),
             room=Room(numbers["journal_bytes"], numbers["file_bytes"]),
             answers=socket_of("answers", texts["answers"]),
             file_key=texts["file_key"],
-        )
+            doors=doors_of(found, texts),
+        )  # fmt: skip
     except (OSError, ValueError) as fault:
         raise BadSettings(f"{path}: {fault}") from None

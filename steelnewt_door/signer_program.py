@@ -14,8 +14,9 @@ from steelnewt_client.moments import of_stamp, seconds, stamp_of
 from steelnewt_client.names import PERSON
 from steelnewt_client.signed import DIGEST
 from steelnewt_door import enrolling
-from steelnewt_door.changes import AGREED, lines_of, said_of, yeses_in
-from steelnewt_door.changing import Changing, fingerprint, given_in, plainly, public_in, written
+from steelnewt_door.changes import AGREED, Two, lines_of, said_of, yeses_in
+from steelnewt_door.changing import Changing, fingerprint, given_in, plainly, public_in, text_in, written
+from steelnewt_door.following import check_new, new_versions, take, take_agreed
 from steelnewt_door.judge import print_of_blob
 from steelnewt_door.lost import signed_with
 from steelnewt_door.settings import CONFIG, BadSettings, Settings, read_settings
@@ -67,6 +68,10 @@ def add_jobs(jobs: "argparse._SubParsersAction[argparse.ArgumentParser]") -> Non
     jobs.add_parser("revoke", help=said).add_argument("file", metavar="FILE")
     krl = jobs.add_parser("krl", help="what your own list revokes counts no more (ssh-keygen -k)")
     krl.add_argument("file", metavar="FILE")
+    said = "take over what was changed where another door of the site is"
+    taking = jobs.add_parser("take", help=said)
+    said = "a copy of its /etc/desk/signers, or what `desk-door bring` has of it"
+    taking.add_argument("folder", metavar="DIR", help=said)
     listing = jobs.add_parser("list", help="print who signs with which key")
     listing.add_argument("--at", default="", metavar="MOMENT", help="as it was at a moment")
     jobs.add_parser("history", help="print each change")
@@ -110,10 +115,8 @@ class Job:
             print(f"{needs} of those who sign have to say yes. Send them {draft.path('to-sign')}")
             print("for `mydesk agree`, and then: desk-signer put FILE ..")
             return WAITS
-        if not self.said.yes:
-            print("Change the signers? [y/N] ", end="", flush=True)
-            if sys.stdin.readline(100).strip().lower() not in ("y", "yes"):
-                return NOT_CHANGED
+        if not self.is_meant():
+            return NOT_CHANGED
         print(f"the signers of {self.changing.put()} hold")
         return DONE
 
@@ -125,7 +128,7 @@ class Job:
 
     def new_signer(self, name: str, at: str) -> Signer:
         """The signer of a key that nobody has, or had."""
-        given, site = given_in(self.said.file), self.settings.site
+        given, site = text_in(self.said.file), self.settings.site
         if self.said.unproved:
             public = plainly(public_in(self.said.file, given))
         else:
@@ -156,7 +159,7 @@ class Job:
 
     def add_authority(self) -> int:
         signers, revoked = self.changing.held()
-        public = plainly(public_in(self.said.file, given_in(self.said.file)))
+        public = plainly(public_in(self.said.file, text_in(self.said.file)))
         self.check_new(public)
         kind, key = public.split(" ")
         new = Signer("*", kind, key, self.changing.next_moment(), is_authority=True)
@@ -192,7 +195,7 @@ class Job:
     def revoke(self) -> int:
         """Revokes a key that may stand in certificates, which no line here names."""
         signers, revoked = self.changing.held()
-        public = plainly(public_in(self.said.file, given_in(self.said.file)))
+        public = plainly(public_in(self.said.file, text_in(self.said.file)))
         if public in revoked:
             raise BadSigners(f"{fingerprint(public)} is revoked already")
         mine = [it for it in signers if it.public == public]
@@ -207,8 +210,31 @@ class Job:
             raise BadSigners(f"{self.said.file} is no list of `ssh-keygen -k`")
         return self.change(signers, revoked, f"krl {hashlib.sha256(given).hexdigest()}", given)
 
+    def take(self) -> int:
+        """Has the versions of another folder hold here, which follow those that are here."""
+        theirs = Signers(self.said.folder)
+        found = new_versions(self.changing.signers, theirs)
+        take_agreed(self.changing, theirs.folder)
+        if not found:
+            print("nothing is new there")
+            return DONE
+        settings = self.settings
+        check_new(found, Two(settings.judge(), theirs, settings.rules.changes_by))
+        print("\n".join(lines_of(self.changing.now(), found[-1])))
+        if not self.is_meant():
+            return NOT_CHANGED
+        take(self.changing, found)
+        print(f"the signers of {found[-1].at} hold")
+        return DONE
+
+    def is_meant(self) -> bool:
+        if self.said.yes:
+            return True
+        print("Change the signers? [y/N] ", end="", flush=True)
+        return sys.stdin.readline(100).strip().lower() in ("y", "yes")
+
     def yeses(self) -> str:
-        given = [given_in(it).decode("ascii", "replace").strip() for it in self.said.files]
+        given = [text_in(it).decode("ascii", "replace").strip() for it in self.said.files]
         text = "".join(f"{it}\n" for it in given)
         yeses_in(text)
         return text
@@ -276,7 +302,7 @@ def followed(said: argparse.Namespace) -> int:
     jobs: dict[str, Callable[[], int]] = {
         "enrol": job.enrol, "add": job.add, "rotate": job.add, "lost": job.lost, "end": job.end,
         "add-authority": job.add_authority, "revoke": job.revoke, "krl": job.krl, "put": job.put,
-        "agree": job.agree,
+        "agree": job.agree, "take": job.take,
     }  # fmt: skip
     try:
         return jobs[said.job]()

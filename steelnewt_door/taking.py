@@ -1,6 +1,7 @@
 """What becomes of a message at the door: who signed it, whether it is about what the desk holds,
 and then what the desk itself says."""
 
+import base64
 import json
 import time
 from collections.abc import Callable
@@ -16,10 +17,11 @@ from steelnewt_door.crew import Locks
 from steelnewt_door.index import Before, Known
 from steelnewt_door.journal import BadJournal, Full, Journal, rows_in
 from steelnewt_door.judge import Judge, JudgeAway
+from steelnewt_door.others import Others
 from steelnewt_door.refusals import Refused, Share
-from steelnewt_door.rows import ACK, Row, answered, came, came_broken
+from steelnewt_door.rows import ACK, Arrival, Row, answered, brought, came, came_broken
 from steelnewt_door.signers import BadSigners, Signers, Version
-from steelnewt_door.wire import BadSignature
+from steelnewt_door.wire import BadSignature, parts_of
 
 AHEAD = 60  # seconds that a message's moment may be ahead of the door's clock
 WAITS = 120  # seconds that an approval may wait for its request, before it is refused for good
@@ -31,11 +33,18 @@ Message = Request | Verdict
 @dataclass(frozen=True)
 class Rules:
     """What a site chose: whether people sign, for how many seconds a request or an approval may be
-    on its way, and how many people say yes to signers and rosters."""
+    on its way, how many people say yes to signers and rosters, since when all is signed, and which
+    relays' requests are not."""
 
     is_signing: bool
     late: int
     changes_by: int = 1
+    since: str = ""
+    programs: frozenset[str] = frozenset()
+
+    def is_signed(self, at: str) -> bool:
+        """Whether what comes at a moment has to be signed."""
+        return self.is_signing and at >= self.since
 
 
 @dataclass(frozen=True)
@@ -48,16 +57,27 @@ class Reply:
 
 @dataclass(frozen=True)
 class Way:
-    """How a message came: the relay that it names, who is at the other end of the socket, and
-    whether that is root's own."""
+    """How a message came: the relay that it names, who is at the other end of the socket, whether
+    that is root's own, and when it came to another door, where root's says so."""
 
     relay: str
     peer: str = ""
     is_root: bool = False
+    arrival: Arrival | None = None
 
     @property
     def names(self) -> tuple[str, str]:
         return self.relay, self.peer
+
+
+def made_here(version: Version, who: str, signed: Signed, at: str) -> bool:
+    """Whether a key that counts here says that it made a signature, so that no other signers would
+    judge it otherwise; also where it has not the form of one."""
+    try:
+        made = parts_of(base64.b64decode(signed.signature.split(":")[1])).key
+    except BadSignature:
+        return True
+    return any(it.blob == made for it in version.signers() if it.name == who and it.counts_at(at))
 
 
 def takes_away(message: Message | None) -> bool:
@@ -83,6 +103,7 @@ class Door:
     clock: Callable[[], float] = time.time
     locks: Locks = field(default_factory=lambda: Locks(LOCKS))
     share: Share = field(default_factory=Share)
+    others: Others = Others()
     checked: tuple[float, tuple[str, str]] = (0.0, ("", ""))
     good: set[tuple[object, ...]] = field(default_factory=set)
 
@@ -187,13 +208,16 @@ class Door:
     ) -> tuple[int, Known | None]:
         """The number of a row with the message, which may be posted then, and what the index had
         of that row before. Raises where the message may not be posted."""
-        how, at, known = self.how(way, signed, message), self.now(), before.known
-        key, version = self.key_of(signed, message, at)
+        at, known = self.now(), before.known
+        moment = way.arrival.at if way.arrival else at
+        how = self.how(way, signed, message, moment)
+        first = known.at if known else at
+        key, version = self.key_of(way, signed, message, (moment, first))
         # (also of what came before and was not taken: nobody puts an approval by for later)
-        self.check_moment(message, at)
+        self.check_moment(way, message, (moment, first))
         if not takes_away(message):
             self.check_site()
-        if how == "signed":
+        if how in ("signed", "program"):
             if isinstance(message, Request):
                 self.check_name(message, signed.digest)
             elif not self.is_asked(message, signed):
@@ -201,27 +225,35 @@ class Door:
                 raise Refused("A23 NoRequest" if is_over else "K22 NoRequestYet")
         if known and known.how == how:
             return known.no, known
-        if key and (first := before.by_key.get(key)):
-            return first.no, first
-        [no] = self.append([came(signed, at, way.names, how, key, version)], message)
+        if key and (same := before.by_key.get(key)):
+            return same.no, same
+        row = came(signed, at, way.names, how, key, version)
+        row = brought(row, way.arrival) if way.arrival else row
+        [no] = self.append([row], message)
         return no, None
 
-    def how(self, way: Way, signed: Signed, message: Message) -> str:
+    def how(self, way: Way, signed: Signed, message: Message, moment: str) -> str:
         """As what it may be taken: whether it needs a signature, and has one."""
         if signed.signature:
             return "signed"
         if way.is_root and takes_away(message):
             return "root"
-        if not self.rules.is_signing:
+        if not self.rules.is_signed(moment):
             return "unsigned"
+        if way.relay in self.rules.programs and isinstance(message, Request):
+            return "program"
         raise Refused("P20 NotSigned", f"{message.by} did not sign it")
 
-    def key_of(self, signed: Signed, message: Message, at: str) -> tuple[str, str]:
-        """The key that signed it, and the version by which that is its author's."""
+    def key_of(
+        self, way: Way, signed: Signed, message: Message, moments: tuple[str, str]
+    ) -> tuple[str, str]:
+        """The key that signed it, and the version by which that is its author's. `moments` are
+        those by which it is judged, and at which it came here first."""
         if not signed.signature:
             return "", ""
+        at, first = moments
         try:
-            version = self.signers.now().seen()
+            version = self.version_of(way.arrival).seen()
             self.check_version(version)
             return self.judge.key_of(version, message.by, signed, at), version.at
         except BadSigners as fault:
@@ -229,7 +261,32 @@ class Door:
         except JudgeAway as fault:
             raise Refused("K23 DoorFails", str(fault)) from None
         except BadSignature as fault:
+            if not way.arrival and not made_here(version, message.by, signed, at):
+                self.check_lag(first)
             raise Refused("A20 BadSignature", f"{message.by}: {fault}") from None
+
+    def version_of(self, arrival: Arrival | None) -> Version:
+        """The version by which a message is judged: the one that holds, or that held as it came to
+        another door. (In the second of a change either did.) That door may have lagged: then it is
+        the one that held by the signers here."""
+        if arrival is None:
+            return self.signers.now()
+        moments = self.signers.moments()
+        if arrival.signers not in moments:
+            why = f"door {arrival.door} took it by the signers of {arrival.signers}, not here yet"
+            raise Refused("K27 DoorLags", why)
+        later = [it for it in moments if it > arrival.signers]
+        did_hold = arrival.signers <= arrival.at <= (later or ["9"])[0]
+        held = self.signers.version(arrival.signers) if did_hold else None
+        return held or self.signers.held_at(arrival.at)
+
+    def check_lag(self, first: str) -> None:
+        """Refuses nothing for good by what this door may lack: what came to the others since a
+        message came here first, and their signers."""
+        if self.others.names:
+            newest = self.signers.now().at
+            if why := self.others.lag(newest, first, self.now()):
+                raise Refused("K27 DoorLags", why)
 
     def check_version(self, version: Version) -> None:
         """Refuses signers that cannot be read, or that too few people said yes to."""
@@ -240,13 +297,16 @@ class Door:
         Two(self.judge, self.signers, self.rules.changes_by).check(version)
         self.good.add(state)
 
-    def check_moment(self, message: Message, at: str) -> None:
+    def check_moment(self, way: Way, message: Message, moments: tuple[str, str]) -> None:
         """Refuses what is dated back to when its author held a duty, or a key. What takes rights
         away may be late."""
-        if seconds(message.at) > seconds(at) + AHEAD:
+        at, first = moments
+        if seconds(message.at) > seconds(at) + AHEAD or seconds(at) > self.clock() + AHEAD:
             raise Refused("K21 NotYet", f"it is of {message.at}")
         is_late = seconds(at) - seconds(message.at) > self.rules.late
-        if is_late and not takes_away(message) and self.rules.is_signing:
+        if is_late and not takes_away(message) and self.rules.is_signed(at):
+            if not way.arrival:
+                self.check_lag(first)
             raise Refused("A21 NotOfNow", f"it is of {message.at}, and came at {at}")
 
     def check_site(self) -> None:

@@ -8,7 +8,7 @@ from steelnewt_door.changes import Two
 from steelnewt_door.journal import BadJournal
 from steelnewt_door.judge import Judge, JudgeAway
 from steelnewt_door.signers import BadSigners, Signers
-from steelnewt_door.verifying import BadInput, Verifier, read_counting, summary
+from steelnewt_door.verifying import BadInput, Verifier, read_counting, summary, theirs_of
 
 DONE, FOUND, REFUSED = 0, 1, 2
 DAY = 86_400
@@ -37,11 +37,26 @@ def parser() -> argparse.ArgumentParser:
     found.add_argument("--chain", metavar="DIGEST", help=said)
     said = "how many people have to say yes to the signers (1)"
     found.add_argument("--changes-by", type=int, default=1, metavar="NUMBER", help=said)
+    said = "what came unsigned before this moment is not named (door.toml, signed_since)"
+    found.add_argument("--signed-since", default="", metavar="MOMENT", help=said)
+    said = "nor are requests of this relay, which signs for nobody; may be given again"
+    found.add_argument("--program", action="append", default=[], metavar="RELAY", help=said)
+    said = "another door's journal: what was brought from it has to be there; may be given again"
+    found.add_argument(
+        "--other", action="append", default=[], type=named, metavar="DOOR=DIR", help=said
+    )
     said = "seconds that a message may be on its way, before it is named (86400)"
     found.add_argument("--late", type=int, default=DAY, metavar="SECONDS", help=said)
     said = "give each so many-th signature to ssh-keygen too (1000)"
     found.add_argument("--sample", type=int, default=1_000, metavar="NUMBER", help=said)
     return found
+
+
+def named(text: str) -> tuple[str, str]:
+    name, mark, folder = text.partition("=")
+    if not (name and mark and folder):
+        raise argparse.ArgumentTypeError(f"{text!r} is not DOOR=DIR")
+    return name, folder
 
 
 def text_of(path: str) -> str:
@@ -63,6 +78,8 @@ def followed(said: argparse.Namespace) -> int:
         raise BadInput("--site is a name as desk.example, and --sample a number from 1 on")
     signers, judge = Signers(said.signers), Judge(said.site)
     verifier = Verifier(judge, signers, said.late, said.sample, said.chain or "")
+    verifier.since, verifier.programs = said.signed_since, frozenset(said.program)
+    verifier.others = {name: theirs_of(folder) for name, folder in said.other}
     lines = messages_of(said)
     counting = read_counting(text_of(said.requests)) if said.requests else None
     found = verifier.look(said.journal, lines, counting)

@@ -14,7 +14,7 @@ from steelnewt_client.moments import seconds
 from steelnewt_client.signed import BadLine, Signed, digest, said_in
 from steelnewt_door.journal import files_of
 from steelnewt_door.judge import Judge, by_ssh_keygen, print_of_blob
-from steelnewt_door.rows import BadRow, Last, Row, read_row
+from steelnewt_door.rows import MESSAGES, BadRow, Last, Row, moment_of, read_row
 from steelnewt_door.signers import BadSigners, Copied, Signers, Version
 from steelnewt_door.wire import BadSignature
 
@@ -23,9 +23,11 @@ SET_BACK = 60
 HOWS = {
     "root": "root's socket took it without a signature",
     "unsigned": "it came while the site signed nothing",
+    "program": "its relay signs for nobody",
     "before": "the desk held it before there was a door",
 }
 Counting = set[tuple[str, str, int, str]]
+Theirs = dict[str, tuple[str, str]]  # a row's digest: the moment of it, and its message
 
 
 class BadInput(Exception):
@@ -46,7 +48,7 @@ class Found:
 
 @dataclass(frozen=True)
 class Came:
-    """What is kept of a row with a message."""
+    """What is kept of a row with a message. `is_free` says that it needs no signature."""
 
     no: int
     at: str
@@ -54,6 +56,7 @@ class Came:
     about: str
     why: str
     is_good: bool
+    is_free: bool = False
 
 
 def read_counting(text: str) -> Counting:
@@ -109,7 +112,9 @@ class Chain:
 @dataclass
 class Verifier:
     """What a site's journal is judged by. Each `step`-th signature is also given to ssh-keygen.
-    `noted` is the digest of a row that somebody noted before."""
+    `noted` is the digest of a row that somebody noted before; `since` is the moment from which on
+    all was to be signed, but for requests of relays in `programs`; `others` has the rows of other
+    doors' journals, by their digests."""
 
     judge: Judge
     signers: Signers
@@ -117,6 +122,9 @@ class Verifier:
     step: int = 1_000
     noted: str = ""
     has_noted: bool = False
+    since: str = ""
+    programs: frozenset[str] = frozenset()
+    others: dict[str, Theirs] = field(default_factory=dict)
     versions: dict[str, tuple[Version, str]] = field(default_factory=dict)
     mine: dict[str, list[Came]] = field(default_factory=lambda: defaultdict(list))
     codes: dict[int, str] = field(default_factory=dict)
@@ -132,7 +140,7 @@ class Verifier:
         for row in Chain(found).rows(journal):
             found.counts["rows"] += 1
             self.has_noted |= row["chain"] == self.noted
-            if row["row"] == "came":
+            if row["row"] in MESSAGES:
                 self.look_at_row(row, lost, found)
             elif row["row"] == "answered":
                 self.codes[row["of"]] = row["code"]
@@ -156,12 +164,30 @@ class Verifier:
         why = self.why_not(signed, row, found) if how == "signed" else ""
         if why:
             found.add("BAD SIGNATURE", f"row {row['no']}: {why}", row["message"])
+        at = moment_of(row)
         if row["key"] in lost:
-            found.add("LOST KEY", f"row {row['no']} of {row['at']}: {row['key']}", row["message"])
+            found.add("LOST KEY", f"row {row['no']} of {at}: {row['key']}", row["message"])
+        if row["row"] == "brought":
+            self.look_at_brought(row, found)
         is_good = how == "signed" and not why
-        kept = Came(row["no"], row["at"], how, row["about"], row["why"], is_good)
-        self.mine[signed.digest].append(kept)
+        parts = how, row["about"], row["why"], is_good, self.is_free(row)
+        self.mine[signed.digest].append(Came(row["no"], at, *parts))
         self.texts[row["no"]] = signed.message
+
+    def is_free(self, row: Row) -> bool:
+        """Whether a message needed no signature as it came."""
+        if row["how"] == "program":
+            is_request = isinstance(said_of(row["message"]), Request)
+            return is_request and row["relay"] in self.programs
+        return row["how"] in ("unsigned", "before") and moment_of(row) < self.since
+
+    def look_at_brought(self, row: Row, found: Found) -> None:
+        """Whether the other door has the row that a message was brought from."""
+        found.counts["brought"] += 1
+        theirs = self.others.get(row["door"])
+        if theirs is not None and theirs.get(row["there"]) != (row["arrived"], row["message"]):
+            told = f"row {row['no']}: door {row['door']} has no such row of {row['arrived']}"
+            found.add("NOT THERE", told, row["message"])
 
     def why_not(self, signed: Signed, row: Row, found: Found) -> str:
         """Why a row's signature is none of the message's author, by what held when it came; empty
@@ -169,20 +195,20 @@ class Verifier:
         try:
             said = read_message(signed.message)
             version = self.version_of(row)
-            key = self.judge.key_of(version, said.by, signed, row["at"])
+            key = self.judge.key_of(version, said.by, signed, moment_of(row))
             found.counts["signatures"] += 1
             if found.counts["signatures"] % self.step == 1 or self.step == 1:
                 found.counts["by ssh-keygen"] += 1
                 made = signed.signed_bytes(self.judge.site)
-                by_ssh_keygen(version, said.by, made, row["at"])
+                by_ssh_keygen(version, said.by, made, moment_of(row))
         except (BadSignature, BadSigners, BadLine) as fault:
             return str(fault)
         return "" if key == row["key"] else f"it is of {key}, and not of {row['key']}"
 
     def version_of(self, row: Row) -> Version:
-        """The version by which a row was judged, which held when it came. (In the second of a
-        change either did.)"""
-        at = row["signers"]
+        """The version by which a row was judged, where that held when it came (in the second of a
+        change either did); the one that held then, where the door lagged."""
+        at, moment = row["signers"], moment_of(row)
         if at not in self.versions:
             later = [it for it in self.signers.moments() if it > at]
             if at not in self.signers.moments():
@@ -190,8 +216,11 @@ class Verifier:
             copied = Copied(at, self.signers.version(at).folder)
             self.versions[at] = copied, later[0] if later else "9"
         version, end = self.versions[at]
-        if not at <= row["at"] <= end:
-            raise BadSigners(f"the signers of {at} did not hold at {row['at']}")
+        if moment < at:
+            raise BadSigners(f"the signers of {at} did not hold at {moment}")
+        if moment > end:
+            held = self.signers.held_at(moment)
+            return Copied(held.at, held.folder)
         return version
 
     def look_at_messages(
@@ -232,11 +261,14 @@ class Verifier:
             found.counts["signed"] += 1
             if seconds(good[0].at) - seconds(said.at) > self.late:
                 found.add("LATE", f"it says {said.at}, and came at {good[0].at}", text)
+        elif any(it.is_free for it in rows):
+            found.counts["free"] += 1
         elif not any(it.how == "signed" for it in rows):
             whys = [HOWS[it.how] for it in rows]
             found.add("UNSIGNED", whys[0] if whys else "it came past the door", text)
         if isinstance(said, Verdict) and said.kind == "approve":
-            if counting is None or (said.by, said.of, said.no, said.at) in counting:
+            is_counting = counting is None or (said.by, said.of, said.no, said.at) in counting
+            if is_counting and (good or not any(it.is_free for it in rows)):
                 self.look_at_approval(said, text, good, requests, found)
 
     def look_at_approval(
@@ -260,6 +292,12 @@ class Verifier:
             found.add("OTHER REASON", "it was given over another reason or ticket", text)
         else:
             found.counts["over the very request"] += 1
+
+
+def theirs_of(journal: str) -> Theirs:
+    """The messages of another door's journal."""
+    rows = (row for row in Chain(Found()).rows(journal) if row["row"] in MESSAGES)
+    return {it["chain"]: (it["at"], it["message"]) for it in rows}
 
 
 def requests_of(messages: Iterable[str]) -> dict[tuple[str, int], list[str]]:
@@ -300,6 +338,10 @@ def summary(found: Found, is_counted: bool) -> Iterator[str]:
     yield f"{counts['rows']} rows, {counts['refused']} messages were refused by the door"
     yield f"{counts['signatures']} signatures, {counts['by ssh-keygen']} by ssh-keygen again"
     yield f"{counts['messages']} messages at the desk, {counts['signed']} signed by their authors"
+    if counts["brought"]:
+        yield f"{counts['brought']} were brought from other doors"
+    if counts["free"]:
+        yield f"{counts['free']} needed no signature as they came"
     which = "approvals that count" if is_counted else "approvals"
     yield f"{counts['approvals']} {which}, {counts['over the very request']} over the very request"
     yield f"the last row is {found.last.no}: {found.last.chain}"

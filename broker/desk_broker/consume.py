@@ -10,7 +10,8 @@ No message holds up those behind it by what a relay wrote into it: headers decid
 ends the program's process each time is put by by the broker, after as many deliveries as its policy
 says (definitions.py). So that this counts against hardly any other, the head of the queue comes
 alone after each start: each start settles at least one of the few that were posted before it, and
-then that message is the head.
+then that message is the head. (What waits for something of its own, as an approval for its request,
+is passed over, and settles by itself.)
 """
 
 from __future__ import annotations
@@ -90,10 +91,13 @@ class Link:
         self._acks.settle(delivery.tag)
 
     def acknowledge(self, flight: Flight) -> None:
-        """Takes off the queue what is settled, up to the first that is not, by one word."""
-        if (last := self._acks.due()) is not None:
-            self._channel.basic_ack(last, multiple=True)
-            flight.acknowledged(last)
+        """Takes off the queue what is settled, up to the first that is not or beside what is aside,
+        by as few words as there can be."""
+        for tag in flight.set_aside():
+            self._acks.set_aside(tag)
+        for tag, is_for_all in self._acks.due():
+            self._channel.basic_ack(tag, multiple=is_for_all)
+        flight.acknowledged(self._acks.passed)
 
 
 class Lane:
@@ -112,6 +116,11 @@ class Lane:
         if self._is_head_alone:
             self.link.take_all(self.flight)
             self._is_head_alone = False
+
+    def go_past_aside(self) -> None:
+        """Where the head waits for something of its own, the next one is the head."""
+        if self._is_head_alone and self.flight.has_only_aside():
+            self.begin()
 
     def is_taking(self) -> bool:
         return self._is_head_alone or self.link.is_taking()
@@ -188,6 +197,7 @@ class Consumer:
         lane.flight.go_on(LATER if lane.flight.has_waiting() else LOOK)
         if self._settle_done(lane) and not self._stopping:
             lane.take_all()
+        lane.go_past_aside()
 
     def _settle_done(self, lane: Lane) -> int:
         """Takes off the queue what was answered; how many answers there were."""

@@ -2,7 +2,7 @@
 
     desk-fill DESK RELAY [--archive FILE] < MESSAGES
 
-MESSAGES has one a line, as desk-snapshot prints them. What a FILE has, an archive of the desk that
+MESSAGES has one a line, as desk-snapshot prints them, or with its signature, for a door. What a FILE has, an archive of the desk that
 is filled, is left out: it was cut out of that desk's store, and would fill it up again. Each other
 is posted as RELAY's, and the desk reads and admits it as any other. What it has already stays as it
 is, so this may be done again at any time, also while the desk's consumer posts to it.
@@ -16,26 +16,41 @@ import time
 from collections.abc import Iterable, Iterator
 
 from desk_broker.backoff import Backoff
-from steelnewt_client.codes import Fate
+from steelnewt_client.codes import Answer, Fate
 from steelnewt_client.desk import BadAddress, Desk, plain_desk
 
 PATIENCE = 120.0
 
 
+def posted(desk: Desk, relay: str, body: bytes) -> Answer:
+    """What the desk says to a message, once it says anything."""
+    backoff, until = Backoff(0.1, 5.0), time.monotonic() + PATIENCE
+    while (answer := desk.post(relay, body)).fate is Fate.AGAIN and not answer.waits:
+        if time.monotonic() > until:
+            raise TimeoutError(f"the desk does not answer: {answer.said}")
+        time.sleep(backoff.next())
+    return answer
+
+
 def fill(desk: Desk, relay: str, bodies: Iterable[bytes]) -> tuple[int, list[str]]:
-    """How many the desk took, and what it said to those that it refused."""
-    taken, refused = 0, []
-    for body in bodies:
-        backoff, until = Backoff(0.1, 5.0), time.monotonic() + PATIENCE
-        while (answer := desk.post(relay, body)).fate is Fate.AGAIN:
-            if time.monotonic() > until:
-                raise TimeoutError(f"the desk does not answer: {answer.said}")
-            time.sleep(backoff.next())
-        if answer.fate is Fate.TAKEN:
-            taken += 1
-        else:
-            refused.append(f"{answer.said}: {body[:80].decode('utf-8', 'replace')}")
-    return taken, refused
+    """How many the desk took, and what it said to those that it refused. What waits for something of
+    its own, as a signed approval for its request, is posted again behind all others."""
+    taken, refused, begun = 0, list[str](), time.monotonic()
+    backoff, left = Backoff(0.1, 5.0), bodies
+    while True:
+        waiting = list[bytes]()
+        for body in left:
+            answer = posted(desk, relay, body)
+            if answer.waits and time.monotonic() - begun < PATIENCE:
+                waiting.append(body)
+            elif answer.fate is Fate.TAKEN:
+                taken += 1
+            else:
+                refused.append(f"{answer.said}: {body[:80].decode('utf-8', 'replace')}")
+        if not waiting:
+            return taken, refused
+        left = waiting
+        time.sleep(backoff.next())
 
 
 def archived(paths: Iterable[str]) -> set[bytes]:

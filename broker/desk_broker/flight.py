@@ -33,6 +33,9 @@ LULL = 0.001  # seconds in which answers come while many posts are open: they ar
 TRIES = 2  # of a message at which this program fails
 PAUSE = 1.0  # seconds between these
 TICK = 0.2  # seconds between two looks at whether it is time to stop
+# How many messages wait aside, and each for how many seconds: longer than a door lets an approval wait
+# for its request (120), and than two looks at the other doors are apart.
+MOST_ASIDE, MOST_WAIT = 128, 150.0
 
 
 @dataclasses.dataclass(frozen=True)
@@ -58,12 +61,25 @@ class Delivery:
         return None if self.sent is None else max(0.0, time.time() - self.sent)
 
 
+@dataclasses.dataclass
+class Aside:
+    """A message that waits for something of its own: since when, and when it is posted again."""
+
+    delivery: Delivery
+    since: float
+    backoff: Backoff
+    due: float = 0.0
+
+
 class Acks:
-    """The deliveries of a channel that are not acknowledged, by their tags, which rise."""
+    """The deliveries of a channel that are not acknowledged, by their tags, which rise. `passed` is
+    the last one up to which all are settled, or aside."""
 
     def __init__(self) -> None:
         self._open: deque[int] = deque()
         self._settled: set[int] = set()
+        self._aside: set[int] = set()
+        self.passed = 0
 
     def begin(self, tag: int) -> None:
         self._open.append(tag)
@@ -71,14 +87,23 @@ class Acks:
     def settle(self, tag: int) -> None:
         self._settled.add(tag)
 
-    def due(self) -> int | None:
-        """The last tag up to which all are settled, where there is a new one: one acknowledgement
-        is for all of these."""
-        last = None
-        while self._open and self._open[0] in self._settled:
-            last = self._open.popleft()
-            self._settled.remove(last)
-        return last
+    def set_aside(self, tag: int) -> None:
+        """Those behind it do not wait for it."""
+        self._aside.add(tag)
+
+    def due(self) -> list[tuple[int, bool]]:
+        """The tags to acknowledge now, and whether each stands for all before it: one for all, where
+        none before it is aside."""
+        found = list[int]()
+        while self._open and (self._open[0] in self._settled or self._open[0] in self._aside):
+            self.passed = self._open.popleft()
+            found += [self.passed] if self.passed not in self._aside else []
+        found += [tag for tag in self._aside if tag in self._settled and tag <= self.passed]
+        self._settled.difference_update(found)
+        self._aside.difference_update(found)
+        if not found or (self._aside and min(self._aside) < max(found)):
+            return [(tag, False) for tag in found]
+        return [(max(found), True)]
 
 
 class Flight:
@@ -103,6 +128,8 @@ class Flight:
         self._backoff, self._next_try = Backoff(0.1, 10.0), 0.0
         self._lacking_since = self._went_on = 0.0  # an answer; and when there was one again
         self._failed: dict[int, tuple[int, float, Delivery]] = {}  # how often, and until when not
+        self._aside: dict[int, Aside] = {}  # by their tags, the oldest first
+        self._new_aside: deque[int] = deque()
 
     def begin(self, delivery: Delivery) -> None:
         self._waiting.append(delivery)
@@ -115,6 +142,16 @@ class Flight:
         """What was answered since."""
         while self._done:
             yield self._done.popleft()
+
+    def set_aside(self) -> Iterator[int]:
+        """The tags of what was set aside since: it is done later, and those behind it now."""
+        while self._new_aside:
+            yield self._new_aside.popleft()
+
+    def has_only_aside(self) -> bool:
+        """Whether all that is here waits for something of its own."""
+        others = self._open or self._waiting or self._done or self._unanswered or self._failed
+        return bool(self._aside) and not others
 
     def go_on(self, most: float) -> None:
         """Posts what there is, for so many seconds, or until enough is answered, or nothing is left
@@ -136,7 +173,7 @@ class Flight:
         if self._open or self._is_stopping() or (self._waiting and not self._unanswered):
             return 0.0
         times = [until for _, until, _ in self._failed.values()]
-        times += [self._next_try] if self._unanswered else []
+        times += [self._next_try] if self._unanswered else [it.due for it in self._aside.values()]
         return max(0.0, min(times) - time.monotonic()) if times else float("inf")
 
     def finish(self) -> None:
@@ -170,6 +207,10 @@ class Flight:
             if until <= now:
                 self._failed[delivery.tag] = number, float("inf"), delivery
                 return delivery
+        for aside in self._aside.values():
+            if aside.due <= now:
+                aside.due = float("inf")
+                return aside.delivery
         if self._waiting and self._waiting[0].tag <= self._last_acknowledged + AHEAD:
             return self._waiting.popleft()
         return None
@@ -211,10 +252,13 @@ class Flight:
 
     def _judge(self, delivery: Delivery, answer: Answer, begun: float) -> None:
         is_first = bool(self._unanswered) and self._unanswered[0] is delivery
-        if answer.fate is not Fate.AGAIN:
+        if answer.fate is not Fate.AGAIN or answer.waits:
             if is_first:
                 self._go_on_again()
-            self._finish(delivery, answer)
+            if answer.waits:
+                self._set_aside(delivery, answer)
+            else:
+                self._finish(delivery, answer)
             return
         if self._is_stopping():
             return
@@ -222,6 +266,22 @@ class Flight:
             self._unanswered.append(delivery)
         if self._unanswered[0] is delivery and (is_first or begun >= self._went_on):
             self._wait(answer)
+
+    def _set_aside(self, delivery: Delivery, answer: Answer) -> None:
+        """Posts it again later. One that waited for too long is put by, and so is the oldest where
+        too many wait: somebody publishes them again."""
+        now, said = time.monotonic(), answer.said.partition(" ")[2]
+        aside = self._aside.get(delivery.tag)
+        if aside is None:
+            LOG.info("desk %s: waits: %s, relay %s", self._name, said, delivery.relay)
+            aside = self._aside[delivery.tag] = Aside(delivery, now, Backoff(0.1, 5.0))
+            self._new_aside.append(delivery.tag)
+        aside.due = now + aside.backoff.next()
+        if now - aside.since > MOST_WAIT and not self._is_stopping():
+            self._finish(delivery, Answer(Fate.MEND, said))
+        elif len(self._aside) > MOST_ASIDE and not self._is_stopping():
+            oldest = next(it for it in self._aside.values() if it.due < float("inf"))
+            self._finish(oldest.delivery, Answer(Fate.MEND, said))
 
     def _wait(self, answer: Answer) -> None:
         """The first of those without an answer is tried again, later."""
@@ -264,4 +324,5 @@ class Flight:
 
     def _finish(self, delivery: Delivery, answer: Answer) -> None:
         self._failed.pop(delivery.tag, None)
+        self._aside.pop(delivery.tag, None)
         self._done.append((delivery, answer))

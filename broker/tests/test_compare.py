@@ -3,6 +3,7 @@
 from __future__ import annotations
 
 import http.server
+import json
 import pathlib
 import subprocess
 import sys
@@ -20,11 +21,14 @@ def compare(*words: str) -> tuple[int, str]:
 
 
 class Answers(http.server.ThreadingHTTPServer):
-    """A desk that answers from a table; its host h2 is behind so many times."""
+    """A desk that answers from a table; its host h2 is behind so many times. Or a door, with these
+    versions of the signers, two on a page."""
 
-    def __init__(self, behind: int = 0) -> None:
+    def __init__(
+        self, behind: int = 0, count: str = "3 r0 b0", signers: dict[str, str] | None = None
+    ) -> None:
         super().__init__(("127.0.0.1", 0), Handler)
-        self.behind = behind
+        self.behind, self.count, self.signers = behind, count, signers or {}
         self.asked: list[str] = []
         threading.Thread(target=self.serve_forever, args=(0.02,), daemon=True).start()
 
@@ -42,6 +46,12 @@ class Handler(http.server.BaseHTTPRequestHandler):
         if "h2" in self.path and self.server.behind > 0:
             self.server.behind -= 1
             text = b"old"
+        if self.path == "/v1/count":
+            text = self.server.count.encode()
+        if self.path.startswith("/v1/signers/after/"):
+            later = [it for it in sorted(self.server.signers) if it > self.path[-15:]]
+            told = [{"at": it, "files": self.server.signers[it]} for it in later[:2]]
+            text = "".join(json.dumps(it) + "\n" for it in told).encode()
         status = 404 if "nine" in self.path else 200
         self.send_response(status)
         self.send_header("Content-Length", str(len(text)))
@@ -64,7 +74,8 @@ def test_desks_that_agree(roster: str) -> None:
     status, said = compare("answers", roster, one.url, other.url, "--at", "20260105093000Z")
     assert (status, said.splitlines()[-1]) == (0, "they agree")
     assert sorted(one.asked) == [
-        "/v1/hosts/h1/sudoers", "/v1/hosts/h2/sudoers", "/v1/parked", "/v1/reviews/20260105093000Z"
+        "/v1/count", "/v1/hosts/h1/sudoers", "/v1/hosts/h2/sudoers", "/v1/parked",
+        "/v1/reviews/20260105093000Z",
     ]
 
 
@@ -78,7 +89,52 @@ def test_a_desk_that_differs_is_named_with_what_differs(roster: str) -> None:
     status, said = compare(*words)
     assert status == 1
     assert "differs: /v1/hosts/h2/sudoers: " in said
-    assert said.splitlines()[-1] == "1 of 3 answers differ"
+    assert said.splitlines()[-1] == "1 of 5 answers differ"
+
+
+@pytest.mark.parametrize("count, what", [("3 r1 b0", "the roster"), ("4 r0 b1", "the base")])
+def test_a_desk_with_another_roster_or_base(roster: str, count: str, what: str) -> None:
+    words = ["answers", roster, Answers().url, Answers(count=count).url, "--patience", "0.3"]
+    status, said = compare(*words)
+    assert status == 1 and f"differs: {what}: {what[4]}0, {what[4]}1" in said
+
+
+MOMENTS = [f"2026010509000{it}Z" for it in range(5)]
+
+
+def test_doors_with_one_history_of_signers(roster: str) -> None:
+    signers = dict.fromkeys(MOMENTS, "ann's key")
+    doors = [Answers(signers=signers) for _ in range(3)]
+    words = ["answers", roster, Answers().url, Answers().url, "--doors", *(it.url for it in doors)]
+    status, said = compare(*words)
+    assert status == 0 and said.count(": 5 versions of the signers, sha256 ") == 3
+    assert said.splitlines()[-1] == "they agree"
+
+
+@pytest.mark.parametrize(
+    "change, what",
+    [
+        ({MOMENTS[4]: None}, f"the signers of {MOMENTS[4]}: "),  # one that lags
+        ({MOMENTS[0]: "a thief's key"}, f"the signers of {MOMENTS[0]}: "),  # one written anew
+        ({"20260105090009Z": "a thief's key"}, "the signers of 20260105090009Z: lacking, "),
+    ],
+)
+def test_a_door_with_other_signers(
+    roster: str, change: dict[str, str | None], what: str
+) -> None:
+    signers = dict.fromkeys(MOMENTS, "ann's key")
+    other = {at: it for at, it in (signers | change).items() if it}
+    doors = [Answers(signers=it).url for it in (signers, other)]
+    desks = [Answers().url, Answers().url]
+    status, said = compare("answers", roster, *desks, "--patience", "0.3", "--doors", *doors)
+    assert status == 1 and f"differs: {what}" in said
+    assert said.splitlines()[-1].endswith(" answers differ")
+
+
+def test_a_door_that_does_not_answer(roster: str) -> None:
+    one = Answers(signers={"20260105090000Z": "x"}).url
+    words = ["answers", roster, one, one, "--doors", one, "http://127.0.0.1:1"]
+    assert compare(*words)[0] == 2
 
 
 def test_a_desk_that_does_not_answer(roster: str, tmp_path: Path) -> None:

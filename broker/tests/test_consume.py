@@ -247,6 +247,7 @@ class Queue:
         self.bodies, self.at_once, self.connection = list(bodies), at_once, Link()
         self.tag, self.acknowledged, self.acks, self.words = 0, 0, Acks(), 0
         self.steps: list[str | tuple[str, int]] = []
+        self.held: set[int] = set()
         self.flight: Flight
         self.stop: Callable[[], None]
 
@@ -254,14 +255,16 @@ class Queue:
         self.tag += 1
         properties = pika.BasicProperties(user_id="relay-web")
         self.acks.begin(self.tag)
+        self.held.add(self.tag)
         self.flight.begin(Delivery.of(self.tag, properties, self.bodies.pop(0)))
 
     def take_head(self, flight: Flight) -> bool:
         self.flight = flight
         self.steps.append("head")
-        if self.bodies:
+        is_there = bool(self.bodies)
+        if is_there:
             self._give()
-        return self.tag > 0
+        return is_there
 
     def take_all(self, _: Flight) -> None:
         self.steps.append(("all", self.acknowledged))
@@ -283,9 +286,13 @@ class Queue:
         self.acks.settle(delivery.tag)
 
     def acknowledge(self, flight: Flight) -> None:
-        if (last := self.acks.due()) is not None:
-            self.acknowledged, self.words = last, self.words + 1
-            flight.acknowledged(last)
+        for tag in flight.set_aside():
+            self.acks.set_aside(tag)
+        for tag, is_for_all in self.acks.due():
+            self.words, first = self.words + 1, min(self.held) if is_for_all else tag
+            self.held.difference_update(range(first, tag + 1))
+        self.acknowledged = self.tag - len(self.held)
+        flight.acknowledged(self.acks.passed)
 
 
 def carried(desk: Told, queue: Queue) -> Consumer:

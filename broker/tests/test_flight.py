@@ -249,16 +249,16 @@ def test_what_may_be_acknowledged() -> None:
     acks = Acks()
     for tag in range(1, 7):
         acks.begin(tag)
-    assert acks.due() is None
+    assert acks.due() == []
     acks.settle(2)
-    assert acks.due() is None
+    assert acks.due() == []
     acks.settle(1)
-    assert acks.due() == 2
-    assert acks.due() is None
+    assert acks.due() == [(2, True)] and acks.passed == 2
+    assert acks.due() == []
     for tag in (6, 4, 3):
         acks.settle(tag)
-    assert acks.due() == 4
+    assert acks.due() == [(4, True)]
     acks.settle(5)
-    assert acks.due() == 6
+    assert acks.due() == [(6, True)]
     acks.begin(7)
-    assert acks.due() is None
+    assert acks.due() == []

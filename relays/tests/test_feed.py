@@ -215,3 +215,12 @@ def test_a_feed_that_is_killed_forgets_nothing(tmp_path: Path, pair: Pair) -> No
     first.heard(), here.heard()
     assert feed(tmp_path, pair)[0] == 0 and here.held() == first.held()
     assert "messages" not in first.heard()
+
+
+def test_behind_a_door_it_feeds_nothing(tmp_path: Path) -> None:
+    """It would post past the door, without anybody's signature."""
+    environment = {"PATH": os.environ["PATH"], "ADDR": "unix:/run/desk-posts/desk.sock"}
+    words = ["sh", FEED, "https://desk.example", "chat"]
+    ran = subprocess.run(words, cwd=tmp_path, env=environment, capture_output=True, text=True)
+    assert ran.returncode == 2 and "this desk is behind a door" in ran.stderr
+    assert "desk-bring.timer" in ran.stderr
