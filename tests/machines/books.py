@@ -500,12 +500,13 @@ def a_restore(books: Books) -> None:
     """From the copies that were made: of the messages, and of the file."""
     on = books.desk
     books.desk.wait(f"{ASK}/v1/count", 60)
-    whole = f"{{ {ASK}/v1/messages; cat {ARCHIVES}/*.messages 2> /dev/null; }} | LC_ALL=C sort"
-    before = on.out(whole)
+    before = on.out(f"{ASK}/v1/messages")
+    out = on.out(f"cat {ARCHIVES}/*.messages 2> /dev/null").splitlines()
+    whole = sorted([*before.splitlines(), *out])
     done = books.follow("A restore", 0)
-    count = str(len(before.splitlines()))
-    books.holds("each is acknowledged", done.stdout.split() == [count, "ack"], done)
-    books.holds("the same messages", on.out(f"{ASK}/v1/messages") == before)
+    books.holds("each is acknowledged", done.stdout.split() == [str(len(whole)), "ack"], done)
+    held = on.out(f"{ASK}/v1/messages")
+    books.holds("the same messages, and what was cut out", held.splitlines() == whole)
     done = books.follow("A restore", 1)
     books.holds("the same from the file", on.out(f"{ASK}/v1/messages") == before != "", done)
     said = books.does("each relay posts again",

@@ -9,6 +9,7 @@ at who reads the store.
 
 import contextlib
 import os
+import signal
 import sqlite3
 import subprocess
 import sys
@@ -253,13 +254,13 @@ def before_the_kernel(room: str) -> Iterator[Row]:
         print("no control group can be made: that the kernel kills nothing is not tried")
         return
     for what, has_limit in (("with its limit", True), ("without", False)):
-        address = f"unix:{room}/unit.sock"
+        address = f"unix:{room}/unit-{int(has_limit)}.sock"
         words = ["sh", "-c", INTO, "sh", unit.folder, *program, "serve", *files, address]
         with subprocess.Popen(words, stdout=subprocess.PIPE) as job:
             assert job.stdout is not None
             job.stdout.readline()
             found = asked_within(job, unit, Desk(address), has_limit)
-            wanted = [503, 200, 0] if has_limit else [0, 0, -9]
+            wanted = [503, 200, -signal.SIGTERM] if has_limit else [0, 0, -signal.SIGKILL]
             yield f"a unit whose desk is {what}", found == wanted, f"{found}"
     os.rmdir(unit.folder)
 
