@@ -83,10 +83,15 @@ class Archive:
     def write(self, messages: list[Kept]) -> None:
         ids = [it.id for it in messages]
         ways, told = self.outbox.ways.of(ids), self.told(ids)
+        more = [{"came_by": ways.get(it), "told": told.get(it)} for it in ids]
+        both = zip(messages, more, strict=True)
+        self.append([(it.message.at, line_of(it) | beside) for it, beside in both])
+
+    def append(self, found: list[tuple[str, dict[str, Any]]]) -> None:
+        """Writes lines, each into the file of its moment's year."""
         years: dict[str, list[str]] = {}
-        for it in messages:
-            line = json.dumps(line_of(it) | {"came_by": ways.get(it.id), "told": told.get(it.id)})
-            years.setdefault(it.message.at[:4], []).append(f"{line}\n")
+        for at, line in found:
+            years.setdefault(at[:4], []).append(f"{json.dumps(line)}\n")
         for year, lines in years.items():
             # (a line that a stop has cut off is none, and ends here)
             file = os.open(self.path(year), os.O_RDWR | os.O_CREAT | os.O_APPEND, 0o600)

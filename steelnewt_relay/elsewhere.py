@@ -1,15 +1,20 @@
 """What the desk holds in somebody's name that no outbox here has: it is told to that person,
-whichever relay brought it, or whoever has a relay's key."""
+whichever relay brought it, or whoever has a relay's key. Once it is long over, that goes into the
+archive."""
 
 from __future__ import annotations
 
 import json
-from collections.abc import Iterator
-from datetime import timedelta
+import logging
+import sqlite3
+from collections.abc import Iterable, Iterator
+from datetime import UTC, datetime, timedelta
 from typing import TYPE_CHECKING
 
 from steelnewt_client.messages import Request, Verdict
+from steelnewt_client.moments import stamp
 from steelnewt_client.told import Name, Told
+from steelnewt_relay.archive import Archive
 from steelnewt_relay.events import Event, Finder
 from steelnewt_relay.standing import brought_elsewhere
 
@@ -23,6 +28,12 @@ SCHEMA = "CREATE TABLE IF NOT EXISTS told_elsewhere (one INTEGER PRIMARY KEY) ST
 KIND = "elsewhere"
 HERE = "SELECT body FROM messages WHERE body IN (SELECT value FROM json_each(?))"
 Message = Request | Verdict
+# What was told so long ago, of a message that the desk does not tell any more where it is asked for
+# what is new. (It would be told again else: a verdict may wait for its request for good.)
+OLD = f"""SELECT id, state, body, began FROM notices WHERE message < 0 AND kind = '{KIND}'
+ AND state <> 'due' AND began < ? AND message NOT IN (SELECT value FROM json_each(?)) LIMIT 1000"""
+EVERY = timedelta(hours=1)
+log = logging.getLogger("desk-relay")
 
 
 class Elsewhere:
@@ -32,6 +43,7 @@ class Elsewhere:
         self.notices, self.base = notices, notices.base
         # (what the desk told when all of a name was told: it is not looked at again)
         self.seen: dict[Name, Told] = {}
+        self.tidied = datetime.min.replace(tzinfo=UTC)
 
     def find(self, finder: Finder) -> Iterator[Event]:
         """An event for each message that is new. `Silent` where the desk does not answer."""
@@ -39,10 +51,8 @@ class Elsewhere:
         knowledge.ask_since(knowledge.now - RECENT)
         parked = knowledge.asked(knowledge.desk.parked)
         told = {name: it for name, it in knowledge.names.items() if it}
-        new = {name: it for name, it in told.items() if self.seen.get(name) is not it}
-        messages: list[Message] = [each for it in new.values() for each in it.requests]
-        messages += [each for it in new.values() for each in it.weights]
-        found = [it for it in self.unknown([*messages, *parked]) if not self.is_told(it)]
+        new = [it for name, it in told.items() if self.seen.get(name) is not it]
+        found = [it for it in self.unknown([*held(new), *parked]) if not self.is_told(it)]
         if self.is_first():
             self.notices.record([Event(KIND, brought_elsewhere(it).id, {}) for it in found])
             self.begin()
@@ -50,6 +60,25 @@ class Elsewhere:
             yield from (finder.of_elsewhere(brought_elsewhere(it)) for it in found)
         left = {name_of(it) for it in found}
         self.seen = {name: it for name, it in told.items() if name not in left}
+        if knowledge.now - self.tidied > EVERY:
+            self.tidied = knowledge.now
+            before = knowledge.now - timedelta(days=finder.manner.days)
+            try:
+                self.tidy(before, [*held(told.values()), *parked])
+            except (OSError, sqlite3.Error) as fault:
+                log.warning("what was told long ago stays in the outbox: %s", fault)
+
+    def tidy(self, before: datetime, current: list[Message]) -> None:
+        """Takes away what was told before a moment, but of what the desk tells still."""
+        those = json.dumps([brought_elsewhere(it).id for it in current])
+        while rows := self.base.execute(OLD, (before.timestamp(), those)).fetchall():
+            Archive(self.notices.outbox).append([
+                (stamp(datetime.fromtimestamp(began, UTC)), {KIND: json.loads(body), "state": state})
+                for _, state, body, began in rows if state != "needless"
+            ])  # fmt: skip
+            with self.notices.outbox.writing():
+                ids = [(id,) for id, *_ in rows]
+                self.base.executemany("DELETE FROM notices WHERE id = ?", ids)
 
     def unknown(self, messages: list[Message]) -> list[Message]:
         """The messages whose bytes the outbox lacks."""
@@ -67,6 +96,14 @@ class Elsewhere:
     def begin(self) -> None:
         with self.notices.outbox.writing():
             self.base.execute("INSERT INTO told_elsewhere VALUES (1)")
+
+
+def held(told: Iterable[Told]) -> list[Message]:
+    """The messages that the desk holds of some names."""
+    found: list[Message] = []
+    for it in told:
+        found += [*it.requests, *it.weights]
+    return found
 
 
 def name_of(message: Message) -> Name:

@@ -35,8 +35,8 @@ class Event:
 @dataclass(frozen=True)
 class Manner:
     """How people are told: in which zone, where the page is, what they type, which duty is told
-    first, how long the others sleep on (nothing: all are told at once), and the ceilings and people
-    whose events go before all others."""
+    first, how long the others sleep on (nothing: all are told at once), the ceilings and people
+    whose events go before all others, and for how many days what was told is kept."""
 
     zone: tzinfo = UTC
     link: str = ""
@@ -44,15 +44,17 @@ class Manner:
     first: str = ""
     patience: timedelta = timedelta(minutes=10)
     urgent: tuple[str, ...] = ()
+    days: int = Config.days
 
     @staticmethod
     def of(config: Config) -> "Manner":
         """How the settings have people told."""
         program = "mydesk" if config.is_signed else "ssh desk"
         if (told := config.notify) is None:
-            return Manner(config.zone, "", program)
+            return Manner(config.zone, "", program, days=config.days)
         patience = timedelta(minutes=told.minutes)
-        return Manner(config.zone, told.link, program, told.first, patience, told.urgent)
+        which = told.first, patience, told.urgent, config.days
+        return Manner(config.zone, told.link, program, *which)
 
 
 class Finder:

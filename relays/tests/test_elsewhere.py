@@ -17,6 +17,7 @@ from steelnewt_client.codes import Fate
 from steelnewt_client.desk import Desk
 from steelnewt_client.messages import Request, Verdict, Wish
 from steelnewt_client.moments import now, stamp
+from steelnewt_relay.archive import Archive
 from steelnewt_relay.config import read_config
 from steelnewt_relay.events import Finder
 from steelnewt_relay.notices import Notices, look
@@ -115,6 +116,27 @@ def test_what_was_there_before_anything_was_told(site: Site) -> None:
     assert told.events() == [] and told.events() == []
     told.post(Verdict("bob", "approve", "ann", 9, stamp(at)))
     assert [it["to"] for it in told.events()] == [["ann", "bob"]]
+
+
+def test_what_was_told_long_ago_goes_into_the_archive(told: Told) -> None:
+    """What the desk tells of still stays: it is told to nobody again."""
+    at = now()
+    told.post(Request("ann", 9, stamp(at), wish(at)))
+    told.post(Verdict("bob", "approve", "ann", 77, stamp(at)))
+    assert len(told.events()) == 2
+
+    def a_year_later() -> Finder:
+        later = now() + timedelta(days=500)
+        return Finder(Knowledge(told.outbox, told.desk, told.config.read_roster(), later))
+
+    for _ in range(2):
+        assert look(Notices(told.outbox), a_year_later) == ""
+        rows = told.outbox.base.execute("SELECT body FROM notices").fetchall()
+        assert [json.loads(body)["no"] for (body,) in rows] == [77]
+    [path] = told.site.folder.glob("outbox.db-archive-*.jsonl")
+    [line] = map(json.loads, path.read_text().splitlines())
+    assert (line["elsewhere"]["who"], line["elsewhere"]["no"], line["state"]) == ("ann", 9, "done")
+    assert Archive(told.outbox).bring_back() == 0
 
 
 def only(site: Site, person: str, line: str) -> Event:
