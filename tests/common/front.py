@@ -137,10 +137,10 @@ def haproxy_words(folder: str, port: int, address: str, *others: str) -> list[st
 
 
 @contextlib.contextmanager
-def front(words: list[str], port: int) -> Iterator[None]:
-    """A front that answers at the port."""
-    with subprocess.Popen(
-        words, stdout=subprocess.DEVNULL, stderr=subprocess.PIPE, text=True
+def front(words: list[str], port: int, said: str = os.devnull) -> Iterator[None]:
+    """A front that answers at the port; what it writes on its output is in a file."""
+    with open(said, "wb") as output, subprocess.Popen(
+        words, stdout=output, stderr=subprocess.PIPE, text=True
     ) as server:
         try:
             until = time.monotonic() + 60

@@ -583,7 +583,15 @@ def compare_log(folder: str, recorder: front.Recorder, store: str) -> tuple[int,
     if any(line["who"] == "" and line["status"] == "200" for line in lines):
         wrong += 1
         print("the log has a request of nobody's that was served")
-    return sum(told.values()) + 2, wrong
+    for name, is_posted in (("desk.log", True), ("desk-fetches.log", False)):
+        if mixed := [
+            line["request"]
+            for line in front.log_lines(folder, name)
+            if line["desk"] not in ("", "-") and line["request"].startswith("POST ") != is_posted
+        ]:
+            wrong += 1
+            print(f"{name} has what belongs into the other: {sorted(set(mixed))}")
+    return sum(told.values()) + 4, wrong
 
 
 def logged(line: dict[str, str]) -> tuple[str, str]:
@@ -681,12 +689,16 @@ def apart(folder: str, words_of: Callable[..., list[str]]) -> tuple[int, int]:
     with served(folder) as server, tempfile.TemporaryDirectory() as places:
         names = ("post", "ask", "door")
         at = [front.Recorder(server.address, os.path.join(places, it)) for it in names]
-        with front.front(words_of(folder, port, *(it.address for it in at)), port):
+        said = os.path.join(places, "said")
+        with front.front(words_of(folder, port, *(it.address for it in at)), port, said):
+            refused = front.exchange(front.context(folder, "host-db1"), port, request("GET", "/"))
+            found.append(("another route", status(refused) == "403", refused))
             for name, method, route, body, where in asked:
                 given = request(method, route, body)
                 reply = front.exchange(front.context(folder, name), port, given)
                 is_right = status(reply) == ("404" if where == 2 else "200")
                 found.append((route, is_right, reply))
+        found.append(levels(said))
         until = time.monotonic() + 60
         while sum(len(it.requests) for it in at) < len(asked) and time.monotonic() < until:
             time.sleep(0.05)
@@ -698,6 +710,20 @@ def apart(folder: str, words_of: Callable[..., list[str]]) -> tuple[int, int]:
     for what, said in wrong:
         print(f"messages and questions apart, {what}: {said!r}")
     return len(found), len(wrong)
+
+
+def levels(said: str) -> tuple[str, bool, object]:
+    """What haproxy logs has its level: what is posted or refused another one than what is fetched.
+    (nginx says nothing, and has files.)"""
+    with open(said, encoding="utf-8") as file:
+        lines = [line for line in file if " verify=" in line]
+    parts = r'(<.>).* verify=0 "([A-Z]+) .* ([0-9]+)\n'
+    found = {it.groups() for line in lines if (it := re.fullmatch(parts, line))}
+    is_right = found <= {("<6>", "POST", "200"), ("<6>", "GET", "403")} | {
+        ("<7>", method, code) for method in ("GET", "HEAD") for code in ("200", "404")
+    }
+    # (the last line may be lost where it is ended at once)
+    return "levels", is_right and len(found) >= (4 if lines else 0), lines
 
 
 def under_haproxy(folder: str) -> list[tuple[int, int]]:
