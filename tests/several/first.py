@@ -12,8 +12,7 @@ from tests.several.desks import wait_for_stores
 from tests.several.programs import Program, wait_until
 from tests.several.sites import RELAYS, Post
 
-COUNT = 120  # messages, of which some take rights away
-PATIENCE = 300.0  # seconds: the machine may be busy
+PATIENCE = 900.0  # seconds: the machine may be busy
 FULL = "503 Unavailable\r\nContent-Length: 11\r\nConnection: close\r\n\r\nK4 Storage\n"
 
 

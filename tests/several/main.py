@@ -130,8 +130,8 @@ def run(words: argparse.Namespace, folder: pathlib.Path, started: Programs) -> i
         starting = pool.submit(start, bench)
         rated = bench.site.accepted(3 * plan.rated)
         by_hand = bench.site.accepted(poison.COUNT)
-        behind = bench.site.accepted(first.COUNT)
-        kept = bench.site.accepted(packaged.COUNT)
+        behind = bench.site.accepted(plan.behind)
+        kept = bench.site.accepted(packaged.MESSAGES * plan.relay_kills)
         given = [*rated, *by_hand, *behind, *kept, *posts]
         oracle, wanted = verdict.by_one_deliver(bench, given)
         starting.result()

@@ -15,8 +15,7 @@ from tests.several.nodes import ROOT
 from tests.several.programs import Program, wait_until
 from tests.several.sites import RELAYS, Post
 
-COUNT = 60  # messages of both
-KILLS = 5
+MESSAGES = 12  # of both, for each time that one is killed
 PATIENCE = 600.0  # seconds
 SETTINGS = """\
 desks = [{desks}]
@@ -91,15 +90,15 @@ class Relays:
 
     def kill(self, bench: Bench, chance: random.Random) -> None:
         """People confirm words at both; the one posts, and is killed at any moment."""
-        half = len(self.posts) // 2
+        half, kills = len(self.posts) // 2, bench.plan.relay_kills
         self.down.keep(self.posts[half:])
-        own, each = self.posts[:half], -(-half // KILLS)
-        for number in range(KILLS):
+        own, each = self.posts[:half], -(-half // kills)
+        for number in range(kills):
             self.killed.keep(own[number * each : (number + 1) * each])
             self.killed.post.start()
             time.sleep(chance.uniform(0.2, 2.0))
             self.killed.post.end(signal.SIGKILL)
-        bench.tell(f"a packaged relay was killed {KILLS} times")
+        bench.tell(f"a packaged relay was killed {kills} times")
 
     def end(self, bench: Bench) -> set[bytes]:
         """Starts both, and waits until each desk has all that they kept; these messages."""

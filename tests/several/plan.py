@@ -19,14 +19,16 @@ class Plan:
     down: float  # how long a node is away
     full: float  # how long a disk is full
     held: float  # how long a queue is held
+    behind: int  # published at once, what takes rights away at the end
+    relay_kills: int  # of a packaged relay
     moments: int = 20  # the reports that are compared
 
 
 WHOLE = Plan(
     messages=20_000, pace=200.0, rated=6_000, desk_kills=3, consumer_kills=3, leader_kills=2,
-    majority=True, down=4.0, full=15.0, held=60.0,
+    majority=True, down=4.0, full=15.0, held=60.0, behind=11_500, relay_kills=60,
 )
 SHORT = Plan(
     messages=3_000, pace=100.0, rated=200, desk_kills=1, consumer_kills=1, leader_kills=1,
-    majority=False, down=2.0, full=6.0, held=8.0,
+    majority=False, down=2.0, full=6.0, held=8.0, behind=120, relay_kills=5,
 )
