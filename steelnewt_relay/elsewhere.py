@@ -8,11 +8,11 @@ import json
 import logging
 import sqlite3
 from collections.abc import Iterable, Iterator
-from datetime import datetime, timedelta
+from datetime import UTC, datetime, timedelta
 from typing import TYPE_CHECKING
 
 from steelnewt_client.messages import Request, Verdict
-from steelnewt_client.moments import UTC, stamp
+from steelnewt_client.moments import stamp
 from steelnewt_client.told import Name, Told
 from steelnewt_relay.archive import Archive
 from steelnewt_relay.events import Event, Finder
@@ -100,7 +100,10 @@ class Elsewhere:
 
 def held(told: Iterable[Told]) -> list[Message]:
     """The messages that the desk holds of some names."""
-    return [each for it in told for each in (*it.requests, *it.weights)]
+    found: list[Message] = []
+    for it in told:
+        found += [*it.requests, *it.weights]
+    return found
 
 
 def name_of(message: Message) -> Name:
