@@ -34,8 +34,8 @@ def verified(doored: Doored, status: int, *words: str) -> str:
 
 
 def test_nothing_unsigned_from_a_moment_on(fresh: Doored) -> None:
-    """Without a restart at that moment: what comes unsigned before it is taken, and from then on nothing. What
-    slept till then counts for no request, and an auditor tells the two times apart."""
+    """Without a restart at that moment: what comes unsigned before it is taken, and from then on
+    nothing. What slept till then counts for no request, and an auditor tells the times apart."""
     since = stamp(now() + timedelta(hours=1))
     configured(fresh, f'signed_since = "{since}"\n')
     assert f"TAKEN until {since}" in fresh.said()
@@ -48,7 +48,8 @@ def test_nothing_unsigned_from_a_moment_on(fresh: Doored) -> None:
     configured(fresh, f'signed_since = "{since}"\n')
     while stamp(now()) < since:
         time.sleep(0.1)
-    for text in (fresh.request(no=3), fresh.verdict(no=1, by="carol"), fresh.verdict(kind="revoke")):
+    verdicts = fresh.verdict(no=1, by="carol"), fresh.verdict(kind="revoke")
+    for text in (fresh.request(no=3), *verdicts):
         assert fresh.post(text) == "P20 NotSigned"
     # what was taken is still taken, and an approval that slept gives nothing
     assert fresh.post(request) == "ack"

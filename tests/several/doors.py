@@ -1,6 +1,6 @@
 """Three brokers, three desks behind doors, and signed messages that go on while things are killed.
 
-    bash tests/several/several.sh --doors [--short | --rate] [--seed N] [--keep] [--folder DIR] [DESK ..]
+    bash tests/several/several.sh --doors [--short | --rate] [--seed N] [--keep] [--folder DIR]
 
 runs this in namespaces of its own, as several.sh says. Nothing that was confirmed may be lost, none
 may be taken twice, a thief with passwords of the broker gets nothing, and every journal is verified
@@ -29,7 +29,7 @@ import pika
 from desk_broker import names
 from pika.exceptions import AMQPError
 
-from door.tests.doors import SITE
+from door.tests.doors import SITE, posted
 from steelnewt_client.messages import canonical
 from tests.common.desk import PROGRAM
 from tests.several import verdict
@@ -169,8 +169,10 @@ def withheld(bench: DoorBench) -> list[Grant]:
     publish_all(bench, others)
     wanted = {message_of(post) for post in others}
     took = wait_until("others go on", lambda: all_have(bench, wanted), 90, 0.2)
-    bench.tell(f"{len(others)} others are at each desk after {took:.1f} s, beside {WITHHELD} that wait")
-    held = [desk.held() & {message_of(it.approval) for it in grants} for desk in bench.desks.values()]
+    told = f"{len(others)} others are at each desk after {took:.1f} s"
+    bench.tell(f"{told}, beside {WITHHELD} that wait")
+    waiting = {message_of(it.approval) for it in grants}
+    held = [desk.held() & waiting for desk in bench.desks.values()]
     bench.checks.same("no approval without its request", held, [set()] * len(held))
     return grants
 
@@ -285,7 +287,7 @@ def check_refused(bench: DoorBench, forged: dict[bytes, str]) -> None:
     others = {it.code for it in found if it.body not in forged}
     # (of honest ones only what waited for too long, and came by the other doors)
     bench.checks.same("codes of others", others - {"K27 DoorLags", "K22 NoRequestYet"}, set())
-    bench.tell(f"{len(forged)} forgeries of a thief with a relay's password are put by, at each desk")
+    bench.tell(f"{len(forged)} forgeries with a relay's password are put by, at each desk")
 
 
 def bought(bench: DoorBench) -> None:
@@ -294,16 +296,16 @@ def bought(bench: DoorBench) -> None:
     desk, door = bench.desks["c"], bench.doors["c"]
     text = canonical({"at": "20260105090000Z", "by": APPROVERS[0], "kind": "revoke", "no": 1,
                       "of": ASKERS[0]}).encode()  # fmt: skip
-    head = f"POST /v1/relays/chat/messages HTTP/1.1\r\nHost: desk\r\nContent-Length: {len(text)}\r\n"
     with desk.connected(60) as peer:
-        peer.sendall(f"{head}\r\n".encode() + text)
+        peer.sendall(posted(text))
         bench.checks.same("desk c takes it", peer.recv(4096).endswith(b"ack\n"), True)
     said = door.run("check").stdout
     bench.checks.same("desk-door check names it", "this came past the door" in said, True)
     bench.people.enrol(door.folder / "signers", ["thief"])
     words = ["answers", str(bench.files.roster), *bench.addresses(), "--patience", "1", "--doors"]
     status, said = bench.compare(*words, *(it.answers_at for it in bench.doors.values()))
-    bench.checks.same("desk-compare shows the signers", (status, "differs: the signers of" in said), (1, True))
+    found = status, "differs: the signers of" in said
+    bench.checks.same("desk-compare shows the signers", found, (1, True))
     pairs = [f"{name}={bench.listing(name)}" for name in bench.desks]
     status, said = bench.compare("messages", *pairs)
     bench.checks.same("desk-compare shows the message", (status, "a lacks 1:" in said), (1, True))
