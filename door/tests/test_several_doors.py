@@ -334,10 +334,10 @@ def test_what_it_brings_from(two: Two) -> None:
 
 def test_rights_are_taken_away_by_root_everywhere(two: Two) -> None:
     """What root took away at one door without a signature is taken away at the other too."""
-    request = two.there.request()
+    request, verdict = two.there.request(), two.there.verdict()
     for it in (two.there, two.here):
         assert it.post(it.sign("ann", request)) == "ack"
-        assert it.post(it.sign("bob", it.verdict(), request)) == "ack"
+        assert it.post(it.sign("bob", verdict, request)) == "ack"
         assert it.in_force()
     assert two.there.post(two.there.verdict(by="carol", kind="revoke"), root=True) == "ack"
     two.bring()
