@@ -75,7 +75,7 @@ def made_here(version: Version, who: str, signed: Signed, at: str) -> bool:
     judge it otherwise; also where it has not the form of one."""
     try:
         made = parts_of(base64.b64decode(signed.signature.split(":")[1])).key
-    except BadSignature:
+    except (BadSignature, ValueError):
         return True
     return any(it.blob == made for it in version.signers() if it.name == who and it.counts_at(at))
 

@@ -361,5 +361,12 @@ def test_a_fill_of_an_empty_desk(two: Two) -> None:
     two.here.start()
     assert two.here.held() == [] and "10 brought, 0 wait" in two.bring()
     assert two.here.held() == two.there.held() and len(two.here.in_force()) == 5
+    # the store alone is lost, and the door's journal is there
+    two.here.site.stop_desk()
+    for path in two.here.folder.glob("desk.db*"):
+        path.unlink()
+    two.here.site.start_desk()
+    assert two.here.held() == [] and "10 brought, 0 wait" in two.bring()
+    assert two.here.held() == two.there.held() and "0 brought" in two.bring()
     mark = json.loads((two.here.folder / "journal/doors/a/given.json").read_text())
     assert mark["left"] == [] and mark["no"] == two.there.rows()[-1]["no"]
