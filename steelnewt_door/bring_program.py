@@ -82,8 +82,10 @@ def look(settings: Settings, name: str, ask: Ask) -> int:
         found = [*copy.bring(ask)]
         copy.bring_signers(ask)
         post = post_at(Desk(f"unix:{settings.root}", ""))
-        filling = Filling(name, folder, index.is_taken, post)
-        filling.fill()
+        # (a desk that lost its store has nothing, whatever its door's journal says)
+        is_empty = settings.asked().count()[0] == 0
+        filling = Filling(name, folder, (lambda _: False) if is_empty else index.is_taken, post)
+        filling.fill(is_empty)
         others.note_look(name, began)
     found += filling.found
     if why := lagging(settings, name):

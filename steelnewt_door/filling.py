@@ -87,8 +87,9 @@ class Filling:
         self.journal = os.path.join(self.folder, "journal")
         self.mark = read_mark(self.folder)
 
-    def fill(self) -> None:
-        """Gives what is new, and what was not taken before."""
+    def fill(self, is_empty: bool = False) -> None:
+        """Gives what is new, and what was not taken before; all, where the desk here is empty."""
+        self.mark = Mark() if is_empty else self.mark
         left = list(rows_with(self.journal, set(self.mark.left)))
         self.mark.left = []
         for row in [*left, *self.acknowledged()]:

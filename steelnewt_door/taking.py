@@ -75,7 +75,7 @@ def made_here(version: Version, who: str, signed: Signed, at: str) -> bool:
     judge it otherwise; also where it has not the form of one."""
     try:
         made = parts_of(base64.b64decode(signed.signature.split(":")[1])).key
-    except BadSignature:
+    except (BadSignature, ValueError):
         return True
     return any(it.blob == made for it in version.signers() if it.name == who and it.counts_at(at))
 
@@ -261,8 +261,9 @@ class Door:
         except JudgeAway as fault:
             raise Refused("K23 DoorFails", str(fault)) from None
         except BadSignature as fault:
-            if not way.arrival and not made_here(version, message.by, signed, at):
-                self.check_lag(first)
+            if self.others.names and not way.arrival:
+                if not made_here(version, message.by, signed, at):
+                    self.check_lag(first)
             raise Refused("A20 BadSignature", f"{message.by}: {fault}") from None
 
     def version_of(self, arrival: Arrival | None) -> Version:
@@ -283,10 +284,14 @@ class Door:
     def check_lag(self, first: str) -> None:
         """Refuses nothing for good by what this door may lack: what came to the others since a
         message came here first, and their signers."""
-        if self.others.names:
-            newest = self.signers.now().at
-            if why := self.others.lag(newest, first, self.now()):
-                raise Refused("K27 DoorLags", why)
+        if not self.others.names:
+            return
+        try:
+            newest = max(self.signers.moments(), default="")
+        except BadSigners as fault:
+            raise Refused("K25 NoSigners", str(fault)) from None
+        if why := self.others.lag(newest, first, self.now()):
+            raise Refused("K27 DoorLags", why)
 
     def check_version(self, version: Version) -> None:
         """Refuses signers that cannot be read, or that too few people said yes to."""

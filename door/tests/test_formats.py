@@ -1,5 +1,5 @@
-"""What OpenSSH and other programs write on Windows and macOS: taken where it is sound, and refused by
-a name where it is not."""
+"""What OpenSSH and other programs write on Windows and macOS: taken where it is sound, and refused
+by a name where it is not."""
 
 import codecs
 import subprocess
@@ -8,7 +8,7 @@ from pathlib import Path
 
 import pytest
 
-from door.tests.doors import SITE, Doored, keygen
+from door.tests.doors import MYDESK, SITE, Doored, keygen
 from door.tests.people import Person, behind_door, script
 from steelnewt_client.signed import NAMESPACE
 
@@ -36,7 +36,7 @@ ODD = {
     "a field, as PEM may have": r"said.replace(b'-----\n', b'-----\nComment: mine\n', 1)",
     "the base64 of addresses": "said.replace(b'U1NIU0lH', b'U1NIU0l-')",
     "cut short": r"b'\n'.join([said.splitlines()[0], b'U1NI', said.splitlines()[-1]])",
-    "something else in the frame": r"b'\n'.join([said.splitlines()[0], b'AAAA', said.splitlines()[-1]])",
+    "something else": r"b'\n'.join([said.splitlines()[0], b'AAAA', said.splitlines()[-1]])",
 }
 KEYGEN = """\
 import codecs, subprocess, sys
@@ -172,11 +172,9 @@ def test_a_yes_as_others_write_it(tmp_path: Path, number: int) -> None:
     given.write_bytes(WRITTEN[number](draft) if number != 4 else draft)
     files = []
     for name in ("ann", "bob"):
-        yes = subprocess.run(
-            [str(Path(__file__).parents[2] / "packaging" / "mydesk"), "agree", str(given)],
-            input=b"y\n", capture_output=True, check=True, env={"HOME": str(Person(still, name).home),
-                                                    "PATH": "/usr/bin:/bin"},
-        )  # fmt: skip
+        environment = {"HOME": str(Person(still, name).home), "PATH": "/usr/bin:/bin"}
+        words = [str(MYDESK), "agree", str(given)]
+        yes = subprocess.run(words, input=b"y\n", capture_output=True, check=True, env=environment)
         files.append(still.folder / f"{name}.yes")
         files[-1].write_bytes(WRITTEN[number](yes.stdout))
     assert "hold" in still.signer("put", *map(str, files))

@@ -5,14 +5,15 @@ import json
 import re
 import shutil
 import subprocess
+import sys
 import time
-from collections.abc import Iterator
+from collections.abc import Iterator, Mapping
 from datetime import timedelta
 from pathlib import Path
 
 import pytest
 
-from door.tests.doors import SITE, Doored, posted, program, ran, wait_until
+from door.tests.doors import SITE, TOP, Doored, posted, program, ran
 from steelnewt_client.codes import Fate, judge
 from steelnewt_client.messages import Request, Wish
 from steelnewt_client.moments import now, stamp
@@ -70,28 +71,15 @@ def shared_two(tmp_path_factory: pytest.TempPathFactory) -> Iterator[Two]:
         found.close()
 
 
-def rewritten(doored: Doored, change: dict[int, dict[str, object]]) -> None:
+def rewritten(doored: Doored, change: Mapping[int, Mapping[str, object]]) -> None:
     """A journal whose rows say something else, from end to end: as whoever has a door makes one."""
     [(_, path)] = files_of(str(doored.folder / "journal"))
     last, lines = Last(), []
     for row in doored.rows():
-        it: Row = {name: value for name, value in row.items()} | change.get(row["no"], {})
+        it: Row = {name: value for name, value in row.items()} | dict(change.get(row["no"], {}))
         last, line = following(last, draft_of(it)[0])
         lines.append(line)
     Path(path).write_bytes(b"".join(lines))
-
-
-def older(doored: Doored, **words: float) -> None:
-    """Makes all that came to a door older: its rows, and what they say of the signers."""
-    ago = timedelta(**words)
-    signers = doored.folder / "signers"
-    moments = {it.name: stamp(now() - ago - timedelta(hours=1)) for it in signers.iterdir()}
-    change = {
-        row["no"]: {"at": stamp(now() - ago)}
-        | ({"signers": moments[row["signers"]]} if row.get("signers") else {})
-        for row in doored.rows()
-    }
-    rewritten(doored, change)
 
 
 def dated(doored: Doored, at: str, no: int, until: timedelta) -> str:
@@ -109,7 +97,8 @@ def test_what_came_to_another_door_in_time_is_in_time(two: Two) -> None:
         [version] = [*(it.folder / "signers").iterdir()]
         text = (version / "allowed_signers").read_text()
         old = stamp(now() - timedelta(days=5))
-        (version / "allowed_signers").write_text(re.sub('valid-after="[^"]*"', f'valid-after="{old}"', text))
+        text = re.sub('valid-after="[^"]*"', f'valid-after="{old}"', text)
+        (version / "allowed_signers").write_text(text)
         version.rename(version.with_name(old))
     two.there.stop_door()
     two.there.configure(more="")
@@ -270,6 +259,23 @@ def test_a_look_by_the_other_doors_own_socket(two: Two) -> None:
     assert "nothing is wrong with the door" in two.here.run("check")
 
 
+def test_a_fill_of_lines_as_they_were_signed(two: Two) -> None:
+    """`desk-fill` gives a door each line as it is, an approval before its request too; and what is
+    unsigned or forged is refused by name, with all others taken."""
+    lines, there = [], two.there
+    for no in range(1, 4):
+        request = there.request(no=no)
+        lines += [there.sign("ann", request), there.sign("bob", there.verdict(no=no), request)]
+    unsigned = Signed(there.request(no=9))
+    given = "".join(it.line() + "\n" for it in [*reversed(lines), unsigned])
+    words = [sys.executable, str(TOP.parent / "broker" / "desk-fill"), two.here.url, "chat"]
+    filled = subprocess.run(words, input=given, capture_output=True, text=True, check=False)
+    assert (filled.returncode, filled.stdout) == (1, "6 taken, 1 refused\n"), filled
+    assert filled.stderr.startswith("P20 NotSigned: ")
+    assert sorted(two.here.held()) == sorted(it.message for it in lines)
+    assert [it["signature"] for it in two.here.came()] != [""] * 6 and len(two.here.in_force()) == 3
+
+
 def test_one_history_of_signers(two: Two) -> None:
     """What is changed at one door is taken over at the other, version by version; two people's yes
     comes along, and is judged again."""
@@ -328,10 +334,10 @@ def test_what_it_brings_from(two: Two) -> None:
 
 def test_rights_are_taken_away_by_root_everywhere(two: Two) -> None:
     """What root took away at one door without a signature is taken away at the other too."""
-    request = two.there.request()
+    request, verdict = two.there.request(), two.there.verdict()
     for it in (two.there, two.here):
         assert it.post(it.sign("ann", request)) == "ack"
-        assert it.post(it.sign("bob", it.verdict(), request)) == "ack"
+        assert it.post(it.sign("bob", verdict, request)) == "ack"
         assert it.in_force()
     assert two.there.post(two.there.verdict(by="carol", kind="revoke"), root=True) == "ack"
     two.bring()
@@ -355,5 +361,12 @@ def test_a_fill_of_an_empty_desk(two: Two) -> None:
     two.here.start()
     assert two.here.held() == [] and "10 brought, 0 wait" in two.bring()
     assert two.here.held() == two.there.held() and len(two.here.in_force()) == 5
+    # the store alone is lost, and the door's journal is there
+    two.here.site.stop_desk()
+    for path in two.here.folder.glob("desk.db*"):
+        path.unlink()
+    two.here.site.start_desk()
+    assert two.here.held() == [] and "10 brought, 0 wait" in two.bring()
+    assert two.here.held() == two.there.held() and "0 brought" in two.bring()
     mark = json.loads((two.here.folder / "journal/doors/a/given.json").read_text())
     assert mark["left"] == [] and mark["no"] == two.there.rows()[-1]["no"]

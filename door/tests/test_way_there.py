@@ -15,6 +15,7 @@ from steelnewt_client.moments import now, stamp
 from steelnewt_client.signed import Signed
 from steelnewt_door import verify_program
 from steelnewt_door.auditing import Site, is_meant
+from steelnewt_door.auditor_program import read_settings as read_auditor
 from steelnewt_door.settings import BadSettings, read_settings
 from steelnewt_door.signers import Signers
 
@@ -34,8 +35,8 @@ def verified(doored: Doored, status: int, *words: str) -> str:
 
 
 def test_nothing_unsigned_from_a_moment_on(fresh: Doored) -> None:
-    """Without a restart at that moment: what comes unsigned before it is taken, and from then on nothing. What
-    slept till then counts for no request, and an auditor tells the two times apart."""
+    """Without a restart at that moment: what comes unsigned before it is taken, and from then on
+    nothing. What slept till then counts for no request, and an auditor tells the times apart."""
     since = stamp(now() + timedelta(hours=1))
     configured(fresh, f'signed_since = "{since}"\n')
     assert f"TAKEN until {since}" in fresh.said()
@@ -48,7 +49,8 @@ def test_nothing_unsigned_from_a_moment_on(fresh: Doored) -> None:
     configured(fresh, f'signed_since = "{since}"\n')
     while stamp(now()) < since:
         time.sleep(0.1)
-    for text in (fresh.request(no=3), fresh.verdict(no=1, by="carol"), fresh.verdict(kind="revoke")):
+    verdicts = fresh.verdict(no=1, by="carol"), fresh.verdict(kind="revoke")
+    for text in (fresh.request(no=3), *verdicts):
         assert fresh.post(text) == "P20 NotSigned"
     # what was taken is still taken, and an approval that slept gives nothing
     assert fresh.post(request) == "ack"
@@ -123,6 +125,19 @@ def test_an_auditor_knows_such_relays(fresh: Doored) -> None:
         verifier.look(str(fresh.folder / "journal"), fresh.held())
         assert is_meant(verifier, request) is wanted
         assert is_meant(verifier, fresh.held()[0]) and len(fresh.held()) == 2 or not wanted
+
+
+def test_the_auditors_settings(tmp_path: Path) -> None:
+    """They say by themselves since when all sign, which relays sign for nobody, and where other
+    doors' journals are."""
+    path = tmp_path / "auditor.toml"
+    more = 'signed_since = "20260105090000Z"\nprograms = ["tickets"]\n[doors]\nb = "/copies/b"\n'
+    path.write_text(f'site = "{SITE}"\ndesk = "unix:/x"\nroster = "r"\nbase = "b"\n{more}')
+    site = read_auditor(str(path)).site()
+    assert (site.since, site.programs) == ("20260105090000Z", {"tickets"})
+    assert site.others == {"b": "/copies/b"}
+    example = Path(__file__).resolve().parents[1] / "auditor.example.toml"
+    assert read_auditor(str(example)).site().others == {}
 
 
 @pytest.mark.parametrize(

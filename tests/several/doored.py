@@ -47,7 +47,9 @@ class Place:
 class Door:
     """The door before a desk, however often it is started, and what answers auditors beside it."""
 
-    def __init__(self, desk: Desk, folder: pathlib.Path, started: Programs, plain: dict[str, str]) -> None:
+    def __init__(
+        self, desk: Desk, folder: pathlib.Path, started: Programs, plain: dict[str, str]
+    ) -> None:
         self.desk, self.folder = desk, folder
         self.socket = folder / "door.sock"
         for name, mode in (("root", 0o700), ("journal", 0o700), ("signers", 0o755)):

@@ -31,6 +31,7 @@ ROSTER = f"""\
 relays = ["chat", "mail", "web"]
 hosts = ["db1", "db2", "db3"]
 duties = ["approve", "ask"]
+conflicts = []
 [people]
 {"".join(f'{it} = ["ask"]' + chr(10) for it in ASKERS)}\
 {"".join(f'{it} = ["approve"]' + chr(10) for it in [*APPROVERS, LATE])}\
