@@ -1,11 +1,13 @@
 """The door's settings: one file of TOML (door/door.example.toml)."""
 
 import os
+import re
 import tomllib
 from dataclasses import dataclass
 
 from steelnewt_client.desk import BadAddress, Desk, Place
-from steelnewt_client.signed import SITE
+from steelnewt_client.names import LABEL
+from steelnewt_client.signed import ORIGIN, SITE
 from steelnewt_door.changes import Two
 from steelnewt_door.journal import Journal, Room
 from steelnewt_door.judge import Judge
@@ -25,13 +27,31 @@ TEXTS = {
     "journal": "/var/lib/desk-door",
     "answers": "unix:/run/desk-answers/desk.sock",
     "file_key": "/var/lib/desk-answers/key",
+    "origin": "",
+    "verified": "yes",
+    "page": "unix:/run/desk-confirm/page.sock",
+    "made": "/var/lib/desk-confirm",
 }
+LISTS = ("by_ssh", "relay_pages")
 NUMBERS = {"late": 86_400, "changes_by": 1, "journal_bytes": 4 << 30, "file_bytes": 16 << 20}
 LEAST = {"late": 60, "changes_by": 1, "journal_bytes": 1 << 20, "file_bytes": 1 << 16}
 
 
 class BadSettings(ValueError):
     """The settings cannot be used."""
+
+
+@dataclass(frozen=True)
+class Page:
+    """The page at which people sign with passkeys: its origin, empty where there is none; whether a
+    new passkey has to know its owner; the pages of relays that lead to it; its socket; and where the
+    passkeys are that people made there."""
+
+    origin: str
+    is_verified: bool
+    relays: tuple[str, ...]
+    listen: str
+    made: str
 
 
 @dataclass(frozen=True)
@@ -47,6 +67,7 @@ class Settings:
     room: Room
     answers: str
     file_key: str
+    page: Page
 
     def judge(self) -> Judge:
         return Judge(self.site)
@@ -82,12 +103,39 @@ def socket_of(name: str, text: str) -> str:
     return found
 
 
-def checked(found: dict[str, object]) -> tuple[dict[str, str], dict[str, int]]:
+def listed(name: str, value: object) -> tuple[str, ...]:
+    """A list of ceilings, or of the pages of relays."""
+    found = value if isinstance(value, list) else [None]
+    form = LABEL if name == "by_ssh" else ORIGIN
+    if not all(isinstance(it, str) and re.fullmatch(form, it) for it in found):
+        wanted = "ceilings" if name == "by_ssh" else "origins, as https://desk.example:8443"
+        raise BadSettings(f"{name} is a list of {wanted}")
+    return tuple(found)
+
+
+def page_of(texts: dict[str, str], relays: tuple[str, ...]) -> Page:
+    origin = texts["origin"]
+    if origin and not re.fullmatch(ORIGIN, origin):
+        raise BadSettings("origin is where browsers find the page, as https://desk.example:8444")
+    if origin in relays:
+        raise BadSettings("origin is the door's own: no page of a relay has it")
+    if texts["verified"] not in ("yes", "no"):
+        raise BadSettings('verified is "yes", or "no" for passkeys without a PIN or a finger')
+    listen = socket_of("page", texts["page"])
+    return Page(origin, texts["verified"] == "yes", relays, listen, texts["made"])
+
+
+def checked(
+    found: dict[str, object],
+) -> tuple[dict[str, str], dict[str, int], dict[str, tuple[str, ...]]]:
     """The settings, each of its kind."""
-    if unknown := found.keys() - TEXTS.keys() - NUMBERS.keys():
+    if unknown := found.keys() - TEXTS.keys() - NUMBERS.keys() - set(LISTS):
         raise BadSettings(f"no setting is named {', '.join(sorted(unknown))}")
     texts, numbers = dict(TEXTS), dict(NUMBERS)
+    lists = {name: listed(name, found.get(name, [])) for name in LISTS}
     for name, value in found.items():
+        if name in LISTS:
+            continue
         if name in TEXTS and isinstance(value, str):
             texts[name] = value
         elif name in NUMBERS and type(value) is int and value >= LEAST[name]:
@@ -100,13 +148,14 @@ def checked(found: dict[str, object]) -> tuple[dict[str, str], dict[str, int]]:
         raise BadSettings("site is a name as desk.example")
     if texts["signing"] not in ("yes", "no"):
         raise BadSettings('signing is "yes", or "no" where the door keeps the journal alone')
-    return texts, numbers
+    return texts, numbers, lists
 
 
 def read_settings(path: str) -> Settings:
     try:
         with open(path, "rb") as file:
-            texts, numbers = checked(tomllib.load(file))
+            texts, numbers, lists = checked(tomllib.load(file))
+        rules = texts["signing"] == "yes", numbers["late"], numbers["changes_by"]
         return Settings(
             site=texts["site"],
             desk=socket_of("desk", texts["desk"]),
@@ -115,10 +164,11 @@ def read_settings(path: str) -> Settings:
             root=socket_of("root", texts["root"]),
             signers=texts["signers"],
             journal=texts["journal"],
-            rules=Rules(texts["signing"] == "yes", numbers["late"], numbers["changes_by"]),
+            rules=Rules(*rules, frozenset(lists["by_ssh"])),
             room=Room(numbers["journal_bytes"], numbers["file_bytes"]),
             answers=socket_of("answers", texts["answers"]),
             file_key=texts["file_key"],
+            page=page_of(texts, lists["relay_pages"]),
         )
     except (OSError, ValueError) as fault:
         raise BadSettings(f"{path}: {fault}") from None
