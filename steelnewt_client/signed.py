@@ -6,9 +6,9 @@ program here carries:
 No message has a tab, so `cut -f1` gives the messages back. ABOUT, of an approval alone, is the
 SHA-256 of the request that the approver was shown; WHY is that of the reason and the ticket.
 
-A signature is `ssh:` and the base64 of ssh-keygen's, or `webauthn:` and a passkey's assertion, which
-is four parts in base64url with dots between them. For a list it is `list:` or `webauthn-list:`, the
-same, a colon, and the base64 of the digests of all that was signed with one touch.
+A signature is `ssh:` and the base64 of ssh-keygen's, or `webauthn:` and a passkey's assertion: four
+parts in base64url with dots between them. For a list it is `list:` or `webauthn-list:`, the same, a
+colon, and the base64 of the digests of all that was signed with one touch.
 """
 
 import base64
@@ -91,8 +91,8 @@ class Signed:
         return self.signature.startswith(PASSKEY)
 
     def signed_bytes(self, site: str) -> tuple[str, bytes, bytes]:
-        """The namespace, the bytes that were signed, and the signature, which is an assertion's text
-        where a passkey made it. Where it is of a list, this message has to be in that."""
+        """The namespace, the bytes that were signed, and the signature, which is an assertion's
+        text where a passkey made it. Where it is of a list, this message has to be in that."""
         found = SIGNATURE.fullmatch(self.signature)
         try:
             if not found:

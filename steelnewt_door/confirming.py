@@ -1,4 +1,4 @@
-"""What somebody is about to sign on the door's page, by what the desk holds and from the very bytes.
+"""What somebody is about to sign on the door's page: by what the desk holds, and from the bytes.
 
 A relay says which verdict a person wants to give, or brings the request that they want to ask; what
 is shown is made here. Of the relay's own words there are a reason and a ticket alone, which are
@@ -14,8 +14,10 @@ from steelnewt_client.desk import Desk
 from steelnewt_client.letters import plain
 from steelnewt_client.messages import VERDICTS, BadWord, Request, Verdict, checked, number_of
 from steelnewt_client.moments import of_stamp, seconds
-from steelnewt_client.signed import LIST, MOST_LISTED, NAMESPACE, BadLine, Signed
-from steelnewt_client.signed import challenge, digest, list_payload, read_line, reason_digest, said_in
+from steelnewt_client.signed import (
+    LIST, MOST_LISTED, NAMESPACE, BadLine, Signed, challenge, digest, list_payload, read_line,
+    reason_digest, said_in,
+)  # fmt: skip
 from steelnewt_door.refusals import Refused
 from steelnewt_door.taking import held_at
 
@@ -184,7 +186,8 @@ class Page:
         if abs(seconds(request.at) - seconds(self.at)) > CLOCKS:
             raise BadAsk("this was written ten minutes ago, or a clock is wrong: begin again")
         self.check_ceiling(request, "mydesk ask")
-        return Shown(Signed(text, "", "", reason_digest(why, ticket)), request, request, why, ticket)
+        signed = Signed(text, "", "", reason_digest(why, ticket))
+        return Shown(signed, request, request, why, ticket)
 
 
 def request_in(text: str) -> Request:

@@ -40,8 +40,8 @@ def nonces(signers: str, name: str) -> list[str]:
 
 
 def enrolled_in(given: bytes, name: str, changing: "Enrolling") -> Signer:
-    """The signer of a line that mydesk wrote, KIND KEY ssh:SIGNATURE, or the door's page: `webauthn`
-    KEY webauthn:ASSERTION."""
+    """The signer of a line that mydesk wrote, KIND KEY ssh:SIGNATURE, or the door's page, which is
+    webauthn KEY webauthn:ASSERTION."""
     text = given.decode("utf-8", "replace").strip()
     is_passkey = text.startswith(f"{PASSKEY} ")
     key, _, proof = text.rpartition(f" {PASSKEY if is_passkey else 'ssh'}:")
@@ -83,8 +83,8 @@ class Enrolling:
         if not self.origin:
             raise BadSigners("this door knows no page: say its origin in door.toml")
         public = key.removeprefix(f"{PASSKEY} ")
-        more = {"origin": self.origin, "is_verified": self.is_verified}
-        signer = Signer(name, PASSKEY, public, self.at, **more)
+        where = self.origin, self.is_verified
+        signer = Signer(name, PASSKEY, public, self.at, "", False, *where)
         made = signer.passkey()
         touched = Assertion.of(proof)
         if touched.id != made.id:

@@ -1,15 +1,16 @@
 """The door's own page, at an origin of its own: where people see what they are about to sign, touch
 their passkey, and make one. No relay has a word in it but those that are signed too.
 
-It is a process of its own, as an account that may ask the desk and nothing else; what is signed goes
-back to the relay's page, which keeps and posts it, and the door judges it. The front says who is
-calling, and nobody but the front's account opens the socket.
+It is a process of its own, as an account that may ask the desk and nothing else; what is signed
+goes back to the relay's page, which keeps and posts it, and the door judges it. The front says who
+is calling, and nobody but the front's account opens the socket.
 """
 
 import base64
 import logging
 import os
 import re
+from collections.abc import Callable
 from typing import Any
 
 import flask
@@ -23,7 +24,7 @@ from steelnewt_client.names import PERSON
 from steelnewt_client.signed import ENROLS, PASSKEY, enrolling, list_signature, said_in
 from steelnewt_door.confirming import BadAsk, Page, Shown, signed_of, told_of, wanted
 from steelnewt_door.judge import JudgeAway, print_of_blob
-from steelnewt_door.passkeys import Assertion, Passkey, made_passkey
+from steelnewt_door.passkeys import Assertion, host_of, made_passkey
 from steelnewt_door.settings import BadSettings, Settings
 from steelnewt_door.signers import BadSigners, Signer, Signers
 from steelnewt_door.wire import BadSignature
@@ -128,33 +129,35 @@ def encoded(raw: bytes) -> str:
 def ceremony(signers: list[Signer]) -> dict[str, str]:
     """What the script is told of this page's site and of somebody's passkeys."""
     page = settings_here().page
-    here = Passkey(b"", {}, page.origin)
     ids = " ".join(encoded(it.passkey().id) for it in signers)
     is_verified = page.is_verified or any(it.is_verified for it in signers)
-    return {"rp": here.site, "ids": ids, "verification": "required" if is_verified else "preferred"}
+    rp = host_of(page.origin)
+    return {"rp": rp, "ids": ids, "verification": "required" if is_verified else "preferred"}
 
 
-def show_confirm() -> str:
-    """Shows all that somebody is about to sign, and asks for one touch."""
-    settings, form, at = settings_here(), flask.request.form, stamp(now())
-    back = check_origin(*settings.page.relays)
+def shown_of(kind: str) -> list[Shown]:
+    """What a relay's page leads here for, as the door shows it."""
+    settings, form = settings_here(), flask.request.form
     desk = Desk(f"unix:{settings.questions}", "")
-    page = Page(desk, flask.g.person, at, settings.rules.by_ssh)
-    why, kind = form.get("why", ""), form.get("kind", "request")
+    page = Page(desk, flask.g.person, stamp(now()), settings.rules.by_ssh)
     whys, tickets = form.getlist("reason"), form.getlist("ticket")
     if kind == "request":
         texts = form.getlist("message")
         if not len(texts) == len(whys) == len(tickets) == 1:
             raise BadAsk("one request is asked at a time")
-        shown = [page.asked(texts[0], whys[0], tickets[0])]
-    else:
-        why = tidy(why)
-        if len(why) > MOST_WHY:
-            raise BadAsk(f"a reason has at most {MOST_WHY} characters")
-        shown = page.verdicts(kind, told_of(form.getlist("name"), whys, tickets), why)
+        return [page.asked(texts[0], whys[0], tickets[0])]
+    why = tidy(form.get("why", ""))
+    if len(why) > MOST_WHY:
+        raise BadAsk(f"a reason has at most {MOST_WHY} characters")
+    return page.verdicts(kind, told_of(form.getlist("name"), whys, tickets), why)
+
+
+def show_confirm() -> str:
+    """Shows all that somebody is about to sign, and asks for one touch."""
+    settings, form = settings_here(), flask.request.form
+    back, kind = check_origin(*settings.page.relays), form.get("kind", "request")
+    shown, mine = shown_of(kind), passkeys_of(flask.g.person)
     asked, listed = wanted(settings.site, shown)
-    mark = list_signature("", listed, f"{PASSKEY}-list").split(":")[2] if listed else ""
-    mine = passkeys_of(flask.g.person)
     return flask.render_template(
         "confirm.html",
         person=flask.g.person,
@@ -162,12 +165,13 @@ def show_confirm() -> str:
         title=title_of(kind, shown),
         does=DOES.get(kind, "Ask"),
         kind=kind,
-        why=why,
+        # (a reason of this person's own is the same for all)
+        why="" if shown[0].is_of_request else shown[0].why,
         back=back,
         to_request=form.get("back", "")[:1],
         has_passkey=bool(mine),
         challenge=encoded(asked),
-        listed=mark,
+        listed=list_signature("", listed).rpartition(":")[2] if listed else "",
         **ceremony(mine),
     )
 
@@ -215,9 +219,8 @@ def keep_passkey() -> str:
     if not WORD.fullmatch(word):
         raise BadAsk("the word has 16 digits and letters from a to f")
     blob = made_passkey(decoded(form.get("attested", ""))).blob()
-    signer = Signer(person, PASSKEY, base64.b64encode(blob).decode("ascii"), "")
-    page = settings.page
-    made = Signer(**vars(signer) | {"origin": page.origin, "is_verified": page.is_verified})
+    page, key = settings.page, base64.b64encode(blob).decode("ascii")
+    made = Signer(person, PASSKEY, key, "", "", False, page.origin, page.is_verified)
     Assertion.of(assertion).check(made.passkey(), ENROLS, enrolling(settings.site, person, word))
     path = os.path.join(page.made, person)
     with open(f"{path}.new", "w", encoding="ascii") as file:
@@ -234,7 +237,7 @@ def decoded(text: str) -> bytes:
         raise BadAsk("this is no new passkey") from None
 
 
-def serve(settings: Settings) -> int:
+def serve(settings: Settings, told_ready: Callable[[], None]) -> int:
     """Serves the page until SIGTERM, at a socket that its own group alone may open."""
     if not settings.page.origin or not settings.page.relays:
         raise BadSettings("the page needs origin and relay_pages in door.toml")
@@ -243,5 +246,6 @@ def serve(settings: Settings) -> int:
     server = waitress.create_server(app, unix_socket=place, unix_socket_perms="660", **LIMITS)
     os.umask(before)
     print(f"listening unix:{place}", flush=True)
+    told_ready()
     server.run()
     return 0

@@ -1,6 +1,6 @@
-"""Signatures of passkeys and of security keys in a browser (W3C Web Authentication, Level 2): an
-authenticator signs what the door's own page asked it for, and each check of section 7.2 stands here.
-python3-fido2 reads the keys (COSE, RFC 9052) and verifies with them."""
+"""Signatures of passkeys, and of security keys in a browser (W3C Web Authentication, Level 2): an
+authenticator signs what the door's own page asked it for, and each check of section 7.2 stands
+here. python3-fido2 reads the keys (COSE, RFC 9052) and verifies with them."""
 
 import base64
 import binascii
@@ -14,10 +14,10 @@ from functools import lru_cache
 from fido2 import cbor
 from fido2.cose import CoseKey
 
-from steelnewt_client.signed import ENROLS, LIST, NAMESPACE, PASSKEY, challenge
+from steelnewt_client.signed import ENROLS, LIST, NAMESPACE, challenge
 from steelnewt_door.wire import BadSignature
 
-# The authenticator's data: the digest of the site, the flags, and the counter; then what more it has.
+# The authenticator's data: the digest of the site, the flags, the counter; then what more it has.
 DATA = struct.Struct(">32sBI")
 IS_TOUCHED, IS_VERIFIED, HAS_KEY = 0x01, 0x04, 0x40
 PURPOSES = (NAMESPACE, LIST, ENROLS)
@@ -110,8 +110,8 @@ def decoded(text: str) -> bytes:
 
 @dataclass(frozen=True)
 class Assertion:
-    """What an authenticator answers that was touched: which credential it is, its own data, what the
-    browser says of who asked, and the signature over both."""
+    """What an authenticator answers that was touched: which credential it is, its own data, what
+    the browser says of who asked, and the signature over both."""
 
     id: bytes
     data: bytes
@@ -148,7 +148,7 @@ class Assertion:
         return found
 
     def check(self, passkey: Passkey, namespace: str, what: bytes) -> None:
-        """Raises where this passkey was not touched at its page for these bytes and this purpose."""
+        """Raises where it was not touched at its page for these bytes and this purpose."""
         said, (site, flags, _) = self.told, self.fields
         wanted = base64.urlsafe_b64encode(challenge(namespace, what)).decode("ascii").rstrip("=")
         if said.get("type") != "webauthn.get" or namespace not in PURPOSES:
@@ -173,4 +173,4 @@ class Assertion:
 
 def assertion_in(signature: str) -> Assertion:
     """The assertion of a message's signature."""
-    return Assertion.of(signature.removeprefix(f"{PASSKEY}-list").removeprefix(PASSKEY).split(":")[1])
+    return Assertion.of(signature.split(":")[1])

@@ -183,8 +183,7 @@ def confirm(settings: Settings) -> int:
     check_place(settings.page.listen)
     for number in (signal.SIGTERM, signal.SIGINT):
         signal.signal(number, lambda *_: sys.exit(0))
-    told_ready()
-    return serve_page(settings)
+    return serve_page(settings, told_ready)
 
 
 def file_key(settings: Settings, said: argparse.Namespace) -> int:

@@ -44,8 +44,8 @@ class BadSettings(ValueError):
 @dataclass(frozen=True)
 class Page:
     """The page at which people sign with passkeys: its origin, empty where there is none; whether a
-    new passkey has to know its owner; the pages of relays that lead to it; its socket; and where the
-    passkeys are that people made there."""
+    new passkey has to know its owner; the pages of relays that lead to it; its socket; and where
+    the passkeys are that people made there."""
 
     origin: str
     is_verified: bool

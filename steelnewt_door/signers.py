@@ -148,9 +148,9 @@ class Version:
             if not said and not LOST_LINE.fullmatch(line):
                 raise BadSigners(f"{self.path(PASSKEYS)}: line {number} is none of desk-signer's")
             if said:
-                name, first, last, *where, key = said.groups()
-                more = {"origin": where[0], "is_verified": bool(where[1])}
-                found.append(Signer(name, PASSKEY, key, first, last or "", **more))
+                name, first, last, origin, is_verified, key = said.groups()
+                where = origin, bool(is_verified)
+                found.append(Signer(name, PASSKEY, key, first, last or "", False, *where))
         try:
             for it in found:
                 it.passkey()

@@ -1,5 +1,5 @@
-"""A passkey's counter: whoever copied a passkey goes on from the number that it had then, so the two
-go on beside each other, and one of them shows (Web Authentication, section 6.1.1)."""
+"""A passkey's counter: whoever copied a passkey goes on from the number that it had then, so the
+two go on beside each other, and one of them shows (Web Authentication, section 6.1.1)."""
 
 from collections.abc import Iterable
 from dataclasses import dataclass

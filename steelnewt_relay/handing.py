@@ -94,8 +94,8 @@ def line_of(signed: Signed) -> Signed:
 
 
 def keep(visit: Visit, signed: Signed, why: str) -> Kept:
-    """Keeps a message that this person signed: a verdict was written by the door, with the reason of
-    its request, or of its own."""
+    """Keeps a message that this person signed: a verdict was written by the door, with the reason
+    of its request, or of its own."""
     try:
         message = said_in(signed.message)
     except BadLine:

@@ -79,7 +79,8 @@ class Authenticator:
     ) -> Signed:
         """A message with its signature, of an approval about a request's bytes."""
         said = Signed(message, "", digest(request) if request else "", why)
-        made = self.touched(challenge(NAMESPACE, said.payload(site)), **other)  # type: ignore[arg-type]
+        wanted = challenge(NAMESPACE, said.payload(site))
+        made = self.touched(wanted, **other)  # type: ignore[arg-type]
         return replace(said, signature=f"webauthn:{made}")
 
     def sign_list(self, said: list[Signed]) -> list[Signed]:
@@ -102,9 +103,15 @@ def word_for(doored: Doored, name: str) -> str:
 
 
 def add(
-    doored: Doored, name: str, key: Authenticator, job: str = "add", status: int = 0, **other: object
+    doored: Doored,
+    name: str,
+    key: Authenticator,
+    job: str = "add",
+    status: int = 0,
+    **other: object,
 ) -> str:
     """Somebody enrols a passkey in person: what desk-signer says."""
     path = Path(doored.folder / f"{name}.passkey")
-    path.write_text(key.enrolment(name, word_for(doored, name), **other) + "\n")  # type: ignore[arg-type]
+    line = key.enrolment(name, word_for(doored, name), **other)  # type: ignore[arg-type]
+    path.write_text(f"{line}\n")
     return doored.signer(job, name, str(path), status=status)

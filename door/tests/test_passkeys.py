@@ -99,7 +99,8 @@ FORGED: dict[str, dict[str, object]] = {
 @pytest.mark.parametrize("name", FORGED)
 def test_a_touch_for_something_else(keyed: Keyed, name: str) -> None:
     request, forged = keyed.asked(), FORGED[name]
-    made = keyed.carols.sign(keyed.approval(), **({"request": request} | forged))  # type: ignore[arg-type]
+    said = {"request": request} | forged
+    made = keyed.carols.sign(keyed.approval(), **said)  # type: ignore[arg-type]
     wanted = Signed(keyed.approval(), made.signature, digest(request))
     assert keyed.post(wanted) == REFUSED
     assert keyed.doored.held() == [request]

@@ -86,8 +86,9 @@ if (form) {
   });
 }
 
-// A person's own time beside each moment
+// A person's own time beside each moment, where that is another
 for (const each of document.querySelectorAll("time")) {
-  const here = new Date(each.dateTime).toLocaleString(undefined, { dateStyle: "medium", timeStyle: "long" });
-  each.textContent += " (" + here + ")";
+  const at = new Date(each.dateTime);
+  const here = at.toLocaleString("sv-SE", { dateStyle: "short", timeStyle: "long" });
+  if (at.getTimezoneOffset()) each.textContent += " (" + here + ")";
 }
