@@ -9,8 +9,8 @@ from contextlib import suppress
 from dataclasses import dataclass
 
 from steelnewt_client.signed import ENROLS, PASSKEY, enrolling
+from steelnewt_door.assertions import Assertion
 from steelnewt_door.changing import KEY, emptied, plainly, written
-from steelnewt_door.passkeys import Assertion
 from steelnewt_door.signers import BadSigners, Signer
 from steelnewt_door.wire import BadSignature, check, parts_of
 

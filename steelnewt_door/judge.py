@@ -11,7 +11,7 @@ from dataclasses import dataclass, field
 from functools import lru_cache
 
 from steelnewt_client.signed import BadLine, Signed
-from steelnewt_door.passkeys import Assertion
+from steelnewt_door.assertions import Assertion
 from steelnewt_door.signers import ALLOWED, KRL, REVOKED, Signer, Version
 from steelnewt_door.wire import BadSignature, Parts, check, parts_of
 

@@ -22,9 +22,10 @@ from steelnewt_client.letters import plain, tidy
 from steelnewt_client.moments import now, stamp
 from steelnewt_client.names import PERSON
 from steelnewt_client.signed import ENROLS, PASSKEY, enrolling, list_signature, said_in
+from steelnewt_door.assertions import Assertion
 from steelnewt_door.confirming import BadAsk, Page, Shown, signed_of, told_of, wanted
 from steelnewt_door.judge import JudgeAway, print_of_blob
-from steelnewt_door.passkeys import Assertion, host_of, made_passkey
+from steelnewt_door.passkeys import host_of, made_passkey
 from steelnewt_door.settings import BadSettings, Settings
 from steelnewt_door.signers import BadSigners, Signer, Signers
 from steelnewt_door.wire import BadSignature
@@ -115,7 +116,10 @@ def check_origin(*origins: str) -> str:
 
 def passkeys_of(person: str) -> list[Signer]:
     """A person's passkeys that count now."""
-    version, at = Signers(settings_here().signers).now(), stamp(now())
+    signers, at = Signers(settings_here().signers), stamp(now())
+    if not signers.moments():
+        return []  # (nobody has enrolled yet)
+    version = signers.now()
     lost = version.revoked()
     mine = [it for it in version.passkeys() if it.name == person and it.public not in lost]
     here = settings_here().page.origin

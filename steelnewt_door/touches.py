@@ -5,7 +5,7 @@ from collections.abc import Iterable
 from dataclasses import dataclass
 
 from steelnewt_client.signed import Signed
-from steelnewt_door.passkeys import assertion_in
+from steelnewt_door.assertions import assertion_in
 
 
 @dataclass(frozen=True)

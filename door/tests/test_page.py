@@ -273,8 +273,9 @@ def test_a_passkey_is_made_with_a_word(visited: Visited) -> None:
         return visited.ask("/passkey", fields, person="erin")
 
     assert made(new, "a word", word)[0] == 400
-    assert made(new, word, "0123456789abcdef") == (400, "its passkey was touched for something else")
-    assert made(new, word, word, "ann") == (400, "its passkey was touched for something else")
+    other = 400, "its passkey was touched for something else"
+    assert made(new, word, "0123456789abcdef") == other
+    assert made(new, word, word, "ann") == other
     elsewhere = Authenticator(visited.relay)
     assert "another page asked" in made(elsewhere, word, word)[1]
     status, mark = made(new, word, word)
