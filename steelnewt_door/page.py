@@ -192,9 +192,9 @@ def look_at_signed() -> str:
     judges it when it comes.)"""
     settings, form = settings_here(), flask.request.form
     check_origin(settings.page.origin)
-    lists = [form.getlist(it) for it in ("message", "about", "digest")]
+    texts, abouts, whys = (form.getlist(it) for it in ("message", "about", "digest"))
     version, judge = Signers(settings.signers).now(), settings.judge()
-    for signed in signed_of(*lists, form.get("signature", "")):
+    for signed in signed_of(texts, abouts, whys, form.get("signature", "")):
         if said_in(signed.message).by != flask.g.person:
             raise BadAsk("this is a message of somebody else's")
         judge.key_of(version, flask.g.person, signed, stamp(now()))

@@ -85,7 +85,8 @@ def serve(settings: Settings) -> int:
         locks, keys, shared = Locks(LOCKS), Locks(LOCKS), Shared()
 
         def work(ends: list[Line], line: Line) -> None:
-            locks.own(), keys.own()
+            locks.own()
+            keys.own()
             # (it has of a journal, and of a share, what a door uses as it takes messages)
             asked: Any = Asked(settings.journal, ends, shared)
             door = replace(settings.door(asked), locks=locks, keys=keys, share=asked)

@@ -56,7 +56,7 @@ class Visited(Paged):
             self.headers = dict(reply.getheaders())
             return reply.status, reply.read().decode("utf-8")
 
-    def asked(self, no: int, by: str = "ann", command: str = "/usr/bin/id", why: str = "") -> str:
+    def holds(self, no: int, by: str = "ann", command: str = "/usr/bin/id", why: str = "") -> str:
         """A request that the desk holds."""
         text = self.doored.request(by=by, no=no, command=command)
         reason = reason_digest(why, "")
@@ -107,7 +107,7 @@ def visited(shared_visit: Visited) -> Visited:
 def test_it_shows_what_the_desk_holds(visited: Visited) -> None:
     """And of a relay's words none that is not signed."""
     no = visited.doored.block + 1
-    request = visited.asked(1, why="<b>disk</b>")
+    request = visited.holds(1, why="<b>disk</b>")
     fields = [("kind", "approve"), ("back", "1"), ("title", "harmless"), ("cmnds", "/bin/true")]
     fields += [("name", f"ann {no}"), ("reason", "<b>disk</b>"), ("ticket", "")]
     status, page = visited.ask("/confirm", fields)
@@ -127,7 +127,7 @@ def test_it_shows_what_the_desk_holds(visited: Visited) -> None:
 def test_another_reason_than_was_asked_with(visited: Visited) -> None:
     """A relay's reason is shown, and signed: the door compares it with what the asker signed."""
     no = visited.doored.block + 1
-    visited.asked(1, why="disk")
+    visited.holds(1, why="disk")
     fields = [("kind", "approve"), ("name", f"ann {no}"), ("reason", "audit"), ("ticket", "")]
     _, page = visited.ask("/confirm", fields)
     told = dict(fields_in(page))
@@ -138,7 +138,7 @@ def test_another_reason_than_was_asked_with(visited: Visited) -> None:
 def test_of_a_list_each_is_shown_and_none_beside(visited: Visited) -> None:
     names = [f"ann {visited.doored.block + no}" for no in (1, 2)]
     for no in (1, 2, 3):
-        visited.asked(no)
+        visited.holds(no)
     _, page = visited.ask("/confirm", verdict("approve", *names))
     assert page.count("<article") == 2 and all(f"{it}: root on db1" in page for it in names)
     signature, fields = visited.touched(page), fields_in(page)
@@ -166,18 +166,19 @@ def triples(rows: Fields) -> list[tuple[str, str, str]]:
 
 def test_what_nobody_approves(visited: Visited) -> None:
     block = visited.doored.block
-    visited.asked(1, command="ALL")
-    visited.asked(2)
+    visited.holds(1, command="ALL")
+    visited.holds(2)
     wait_for_next_second()
-    visited.asked(2)
-    for names, why in (
+    visited.holds(2)
+    cases: list[tuple[list[str], str]] = [
         (["ann"], "is no request"), (["ann 1 2"], "is no request"), (["Ann 1"], "is no person"),
         ([f"ann {block + 9}"], "yet, and nobody approves it unseen"),
         ([f"ann {block + 1}"], f"counts: mydesk approve ann {block + 1}"),
         ([f"ann {block + 2}"], "the desk holds 2 requests"),
         ([f"ann {block + no}" for no in range(65)], "1 to 64 requests"),
         ([f"ann {block + 1}"] * 2, "named twice"), ([], "1 to 64 requests"),
-    ):  # fmt: skip
+    ]  # fmt: skip
+    for names, why in cases:
         status, page = visited.ask("/confirm", verdict("approve", *names))
         assert status == 400 and why.lower() in page.lower(), (names, page)
         assert "<form" not in page
@@ -211,7 +212,7 @@ def test_what_is_asked_is_of_now_and_ones_own(visited: Visited) -> None:
 def test_letters_that_show_something_else(visited: Visited) -> None:
     """A reason that would turn the page round, or hide in it."""
     no = visited.doored.block + 1
-    visited.asked(1)
+    visited.holds(1)
     text = "no\u202ereverse\u200b\u2066x"
     fields = [("kind", "approve"), ("name", f"ann {no}"), ("reason", text), ("ticket", "")]
     _, page = visited.ask("/confirm", fields)
@@ -239,15 +240,15 @@ def test_who_may_lead_here(visited: Visited) -> None:
 def test_what_the_page_takes_back(visited: Visited) -> None:
     """Whatever a script sends that is not this page's: it is told at once that this is nothing."""
     no = visited.doored.block + 1
-    visited.asked(1)
+    visited.holds(1)
     _, page = visited.ask("/confirm", verdict("approve", f"ann {no}"))
     rows = [it for it in fields_in(page) if it[0] in ("message", "about", "digest")]
     message = dict(rows)["message"]
     good = visited.touched(page)
     thief = Authenticator(visited.relay)
     thief.id, thief.key = visited.key.id, visited.key.key
-    said = Signed(message, "", dict(rows)["about"], dict(rows)["digest"])
-    asked = challenge(NAMESPACE, said.payload(SITE))
+    shown = Signed(message, "", dict(rows)["about"], dict(rows)["digest"])
+    asked = challenge(NAMESPACE, shown.payload(SITE))
     elsewhere = f"webauthn:{thief.touched(asked, rp='localhost')}"
     for fields, why in (
         ([*rows, ("signature", elsewhere)], "another page asked for it"),

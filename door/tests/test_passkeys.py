@@ -240,11 +240,12 @@ def test_several_of_one_person_that_end_and_are_lost(keyed: Keyed) -> None:
 def test_who_enrols(keyed: Keyed) -> None:
     """A passkey of somebody who did not sign the word, here, at the door's page, is nobody's."""
     new = Authenticator()
-    for wrong in (
+    forged: list[dict[str, object]] = [
         {"origin": "https://desk.example:8443"}, {"rp": "thief.example"}, {"flags": VERIFIED},
         {"flags": TOUCHED}, {"site": "trial.example"},
-    ):  # fmt: skip
-        said = add(keyed.doored, "frank", new, status=2, **wrong)
+    ]  # fmt: skip
+    for wrong in forged:
+        said = add(keyed.doored, "frank", new, status=2, **wrong)  # type: ignore[arg-type]
         assert "frank did not sign the word with this key" in said, wrong
     path = keyed.doored.folder / "line"
     path.write_text(new.enrolment("frank", "0123456789abcdef"))
