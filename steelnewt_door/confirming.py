@@ -1,8 +1,8 @@
 """What somebody is about to sign on the door's page: by what the desk holds, and from the bytes.
 
 A relay says which verdict a person wants to give, or brings the request that they want to ask; what
-is shown is made here. Of the relay's own words there are a reason and a ticket alone, which are
-signed too, and which the door compares with what the asker signed.
+is shown is made here. The relay's own words are a reason and a ticket alone: both are signed too,
+and the door compares them with what the asker signed.
 """
 
 import re
@@ -41,8 +41,8 @@ class Moment:
 
 @dataclass(frozen=True)
 class Shown:
-    """A message that somebody is about to sign, the request that it is or is about, and why. What
-    the door itself has to say of it is in `notes`."""
+    """A message that somebody is about to sign, the request that it is or is about, and why.
+    `notes` is what the door itself says beside that."""
 
     signed: Signed
     message: Request | Verdict
@@ -145,7 +145,7 @@ class Page:
 
     def verdict(self, kind: str, told: Told, why: str) -> Shown:
         verdict = Verdict(self.person, kind, told.of, told.no, self.at)
-        requests = self.held(told)
+        requests = self.held(told.of, told.no)
         if kind == "approve":
             request = self.approvable(told, requests)
             reason = reason_digest(told.why, told.ticket)
@@ -157,9 +157,10 @@ class Page:
         held = "two requests of this name" if requests else "no request of this name yet"
         return Shown(signed, verdict, None, why, "", (f"The desk holds {held}.",))
 
-    def held(self, told: Told) -> list[str]:
+    def held(self, who: str, no: int) -> list[str]:
+        """The requests that the desk holds by a name."""
         try:
-            return held_at(self.desk, told.of, told.no)[0]
+            return held_at(self.desk, who, no)[0]
         except Refused as fault:
             raise BadAsk(f"the desk does not answer: {fault.why}") from None
 
@@ -186,6 +187,9 @@ class Page:
         if abs(seconds(request.at) - seconds(self.at)) > CLOCKS:
             raise BadAsk("this was written ten minutes ago, or a clock is wrong: begin again")
         self.check_ceiling(request, "mydesk ask")
+        # (whoever has two of one name can have them dispute each other)
+        if any(it != text for it in self.held(request.by, request.no)):
+            raise BadAsk(f"the desk holds another request {request.by} {request.no}: begin again")
         signed = Signed(text, "", "", reason_digest(why, ticket))
         return Shown(signed, request, request, why, ticket)
 

@@ -28,7 +28,7 @@ class Passkey:
     is_verified: bool = False
 
     def blob(self) -> bytes:
-        """Its one text in bytes, as the file of signers has it in base64."""
+        """The credential's bytes, which the file of signers has in base64."""
         public: bytes = cbor.encode(dict(self.key))
         return SIZE.pack(len(self.id)) + self.id + public
 

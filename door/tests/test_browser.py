@@ -102,7 +102,7 @@ def test_from_the_notices_link_to_the_grant(
 ) -> None:
     ann, bob = people["ann"], people["bob"]
     paged.asked(ann, "/usr/bin/id", "it won't start")
-    see(ann, "Ask for this?", "You sign as ann", "ann wrote: it won't start", "root on db1, 1 hour")
+    see(ann, "Ask for this?", "You sign as ann", "You write: it won't start", "root on db1, 1 hour")
     shoot(ann, "ask")
     press(ann, "#yes")
     see(ann, "ann 1: It waits for approval.")
@@ -225,7 +225,7 @@ def test_a_ceiling_of_ssh_alone_is_said_on_the_page(
     ann = people["ann"]
     ann.get(paged.relay)
     press(ann, "#ceiling option[value='db-emergency']")
-    for field, words in (("hosts", "db1"), ("commands", "ALL"), ("length", "1h"), ("why", "x")):
+    for field, words in (("hosts", "db1"), ("commands", "ALL"), ("length", "15m"), ("why", "x")):
         ann.find_element(By.ID, field).send_keys(words)
     press(ann, "#show")
     see(ann, "Ask with your passkey")

@@ -209,6 +209,17 @@ def test_what_is_asked_is_of_now_and_ones_own(visited: Visited) -> None:
         assert status == 400 and why in page.lower(), (text, page)
 
 
+def test_a_number_is_signed_once(visited: Visited) -> None:
+    """Two requests of one name dispute each other: nobody is shown the second."""
+    first = visited.holds(1)
+    wait_for_next_second()
+    second = visited.doored.request(no=1)
+    for text, status in ((first, 200), (second, 400)):
+        fields = [("message", text), ("reason", ""), ("ticket", "")]
+        found, page = visited.ask("/confirm", fields, person="ann")
+        assert found == status and ("holds another request ann" in page) == (status == 400)
+
+
 def test_letters_that_show_something_else(visited: Visited) -> None:
     """A reason that would turn the page round, or hide in it."""
     no = visited.doored.block + 1

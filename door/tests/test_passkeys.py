@@ -183,7 +183,7 @@ def test_what_was_signed_later_may_come_first(keyed: Keyed) -> None:
 
 
 def test_a_passkey_without_a_counter(keyed: Keyed) -> None:
-    """Those that a vendor copies to all of somebody's machines say 0 each time."""
+    """A vendor copies some passkeys to all of a person's machines: each of these says 0."""
     own = Authenticator()
     add(keyed.doored, "heidi1", own, step=0)
     for no in (1, 2):

@@ -143,7 +143,7 @@ def test_a_list_has_each_of_its_messages() -> None:
 
 
 def test_what_a_passkey_is_asked_for() -> None:
-    """Its challenge differs where the purpose or the bytes do; a list needs each message too."""
+    """A challenge differs where the purpose or the bytes do; a list needs each message too."""
     asked = [challenge(purpose, what) for purpose in ("a", "b") for what in (b"", b"x", b"a")]
     assert len(set(asked)) == 6 and {len(it) for it in asked} == {32}
     assert challenge("a", b"x") == hashlib.sha256(b"a\0x").digest()
