@@ -62,7 +62,7 @@ class Shown:
         if self.request is None:
             return self.name
         wish = self.request.wish
-        where = wish.hosts[0] if len(wish.hosts) == 1 else f"{len(wish.hosts)} hosts"
+        where = plain(wish.hosts[0]) if len(wish.hosts) == 1 else f"{len(wish.hosts)} hosts"
         return f"{self.name}: {wish.runas} on {where}, {length(self.request)}"
 
     @property
