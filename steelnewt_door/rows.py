@@ -67,9 +67,9 @@ def draft_of(row: Row) -> Draft:
 
 
 def noted_of(row: Row) -> Noted:
-    """What the index notes of a row: of a message that came the values of the message's line there
-    but the number, and behind those the touch of a passkey that signed the message; of an answer
-    the message's number and the code; and of others nothing."""
+    """What the index notes of a row. A message that came: the values of the message's line there
+    but the number, and then the touch of the passkey, if one signed the message. An answer: the
+    message's number, and the code. Any other row: nothing."""
     if row["row"] == "answered":
         return row["of"], row["code"]
     if row["row"] != "came":

@@ -12,16 +12,19 @@ from door.tests.doors import SITE, Doored, ran
 from relays.tests.site import wait_for_next_second
 from steelnewt_client.signed import Signed, digest
 from steelnewt_door import verify_program
+from steelnewt_door.bringing import Copy
+from steelnewt_door.shown import rows_after, versions_after
 
 REFUSED = "A20 BadSignature"
 
 
-def verified(doored: Doored, status: int) -> list[str]:
+def verified(doored: Doored, status: int, kept: Path | None = None) -> list[str]:
     """What desk-verify says of a journal, and of all that the desk holds."""
+    folder = kept or doored.folder
     messages = doored.folder / "messages.txt"
     messages.write_text("".join(f"{it}\n" for it in doored.all_held()))
-    words = ["--site", SITE, "--journal", str(doored.folder / "journal"), "--sample", "1"]
-    words += ["--signers", str(doored.folder / "signers"), "--messages", str(messages)]
+    words = ["--site", SITE, "--journal", str(folder / "journal"), "--sample", "1"]
+    words += ["--signers", str(folder / "signers"), "--messages", str(messages)]
     return ran(verify_program.main, words, status).splitlines()
 
 
@@ -75,6 +78,32 @@ def test_approved_by_a_touch(keyed: Keyed) -> None:
     assert "1 approvals, 1 over the very request" in said
     assert keyed.post(keyed.carols.sign(keyed.revocation())) == "ack"
     assert not keyed.doored.in_force()
+
+
+def test_auditors_verify_it_elsewhere(tmp_path: Path) -> None:
+    """By a copy of what the door answers to them alone: a passkey's origin stands beside it."""
+    keyed = Keyed(tmp_path)
+    try:
+        request = keyed.asked()
+        assert keyed.post(keyed.carols.sign(keyed.approval(), request)) == "ack"
+
+        def ask(path: str) -> bytes:
+            last = path.rpartition("/")[2]
+            if "/signers/" in path:
+                return versions_after(str(tmp_path / "signers"), last)
+            return rows_after(str(tmp_path / "journal"), int(last))
+
+        copy = Copy(str(tmp_path / "copy"))
+        assert list(copy.bring(ask)) == []
+        copy.bring_signers(ask)
+        said = verified(keyed.doored, 0, tmp_path / "copy")
+        assert "2 signatures, 1 of passkeys, 1 by ssh-keygen again" in said
+        [file] = tmp_path.glob("copy/signers/2*/passkeys")
+        file.write_text(file.read_text().replace("door", "desk").replace("8444", "8443"))
+        said = verified(keyed.doored, 1, tmp_path / "copy")
+        assert any("another page asked for it" in it for it in said)
+    finally:
+        keyed.doored.close()
 
 
 # What each is, and what of the browser's or the authenticator's words differs.
@@ -269,6 +298,9 @@ def test_a_line_that_somebody_wrote_into_the_file(tmp_path: Path) -> None:
         text = (version / "passkeys").read_text()
         (version / "passkeys").write_text(text + text.replace(",verify-required", ",any"))
         assert keyed.post(keyed.carols.sign(keyed.revocation())) == "K25 NoSigners"
+        # (lost, though nobody said until when it counted)
+        (version / "passkeys").write_text(f"{text}revoked {keyed.carols.public}\n")
+        assert keyed.post(keyed.carols.sign(keyed.revocation())) == REFUSED
         (version / "passkeys").write_text(text)
         assert keyed.post(keyed.carols.sign(keyed.revocation())) == "ack"
     finally:
