@@ -5,6 +5,7 @@ import json
 from collections.abc import Iterator
 from pathlib import Path
 from typing import Any
+from zoneinfo import ZoneInfo
 
 import pytest
 from selenium import webdriver
@@ -15,6 +16,7 @@ from door.tests.doors import SITE, Doored
 from door.tests.paged import Paged
 from relays.tests.chromium import press, see
 from relays.tests.site import ROOT
+from steelnewt_client.moments import of_stamp
 from steelnewt_client.signed import NAMESPACE, Signed, challenge, digest
 
 SHOTS = ROOT / "build" / "door-screenshots"
@@ -106,12 +108,16 @@ def test_from_the_notices_link_to_the_grant(
     shoot(ann, "ask")
     press(ann, "#yes")
     see(ann, "ann 1: It waits for approval.")
+    bob.execute_cdp_cmd("Emulation.setTimezoneOverride", {"timezoneId": "Europe/Berlin"})
     bob.get(f"{paged.relay}/r/ann/1")
     see(bob, "Approve with your passkey", "Or write: mydesk approve ann 1")
     shoot(bob, "request")
     press(bob, "#yes")
     see(bob, "The desk’s door", "Approve ann 1?", "/usr/bin/id", "ann wrote: it won't start")
     assert bob.current_url == f"{paged.door}/confirm"
+    ends = of_stamp(json.loads(newest(paged))["until"])
+    here = ends.astimezone(ZoneInfo("Europe/Berlin"))
+    see(bob, f"{ends:%Y-%m-%d %H:%M:%S} UTC ({here:%Y-%m-%d %H:%M:%S}")
     shoot(bob, "approve")
     press(bob, "#yes")
     see(bob, "ann 1: The desk has your approval.")
