@@ -196,6 +196,9 @@ def test_whoever_has_no_passkey_or_no_finger_for_it(paged: Paged, tmp_path: Path
     carol = paged.browser("carol", tmp_path / "carol")
     bob = paged.browser("bob", tmp_path / "other", is_known=False)
     held = paged.doored.held()
+    carol.get(paged.relay)
+    link = carol.find_element(By.LINK_TEXT, "Your passkeys")
+    assert link.get_attribute("href") == f"{paged.door}/passkey"
     carol.get(f"{paged.relay}/r/ann/{json.loads(newest(paged))['no']}")
     press(carol, "#yes")
     see(carol, "You have no passkey here: make one, or write mydesk approve.")
