@@ -1,8 +1,8 @@
 #!/usr/bin/env bash
 # Tests the door (docs/SIGNING.md) over build/desk, or the program that DESK names: forgeries, a
-# real sshd and agent, a journal that is killed, cut and full. It installs what it needs of Debian,
-# where this is root. `whole` is the long form, and says how fast the door is; other words are
-# passed on to pytest. The last line is 'N checks, M wrong'.
+# real sshd and agent, a browser with passkeys, a journal that is killed, cut and full. It installs
+# what it needs of Debian, where this is root. `whole` is the long form, and says how fast the door
+# is; other words are passed on to pytest. The last line is 'N checks, M wrong'.
 set -euo pipefail
 cd "$(dirname "$0")/.."
 export PATH="$PATH:/usr/sbin:/sbin"

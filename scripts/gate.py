@@ -91,7 +91,7 @@ PARTS = (
     Part("soak/inputs", "/usr/bin/python3 -m tests.soak.soak --short", SOAK, cores=2),
     Part("types", "bash scripts/types.sh", APT),
     Part("relays/tests", "bash relays/test.sh rest", APT, 8, cores=2),
-    Part("door", "bash door/test.sh", APT, 3, cores=2),
+    Part("door", "bash door/test.sh", APT, 5, cores=2),
     Part("relays/crowd", "bash relays/test.sh crowd", APT, alone=True),
     Part("tools", "bash tools/test.sh", APT, 6, cores=2),
     Part("hosts", "/usr/bin/python3 -m tests.hosts.hosts --short", HOSTS, 7, cores=2),

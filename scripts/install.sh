@@ -111,6 +111,8 @@ for kind in gssapi openidc; do
 done
 put 0755 examples/front-ca.sh "$PREFIX/share/doc/steelnewt-relay/examples/front-ca.sh"
 put 0644 examples/door/desk.conf "$PREFIX/share/doc/steelnewt-door/examples/desk.conf"
+put 0644 examples/nginx/confirm.conf \
+    "$PREFIX/share/doc/steelnewt-door/examples/desk-confirm.conf"
 put 0644 door/auditor.example.toml "$PREFIX/share/doc/steelnewt-door/examples/auditor.toml"
 [ -e "$root/etc/desk/door.toml" ] || put 0644 door/door.example.toml /etc/desk/door.toml
 [ -e "$root/etc/desk/backup.toml" ] || put 0644 packaging/backup.toml /etc/desk/backup.toml

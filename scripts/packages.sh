@@ -11,8 +11,9 @@ relays_packages=(
     python3-pytest python3-pytest-xdist python3-selenium jq nodejs perl
 )
 door_packages=(
-    openssh-server openssh-client openssh-tests python3-cryptography python3-pytest
-    python3-pytest-xdist strace
+    openssh-server openssh-client openssh-tests openssl python3-cryptography python3-pytest
+    python3-pytest-xdist strace python3-fido2 python3-flask python3-waitress python3-selenium
+    chromium chromium-driver fonts-dejavu-core nginx-light curl
 )
 tools_packages=(
     python3-jsonschema python3-pytest python3-pytest-xdist sudo rsyslog faketime util-linux
@@ -26,7 +27,7 @@ release_packages=(apt-utils gnupg)
 picture_packages=(graphviz)
 # (mypy reads the types of what is imported, so all of that has to be there)
 types_packages=(
-    mypy python3-typeshed python3-flake8 python3-cryptography
+    mypy python3-typeshed python3-flake8 python3-cryptography python3-fido2
     python3-aiosmtpd python3-flask python3-jsonschema python3-pika python3-pytest
     python3-requests python3-selenium python3-waitress
 )

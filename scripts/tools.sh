@@ -35,7 +35,7 @@ command -v strace >/dev/null || wanted+=(strace)
 command -v zsh >/dev/null || wanted+=(zsh)
 /usr/bin/python3 -c 'import jsonschema' 2>/dev/null || wanted+=(python3-jsonschema)
 # (the packages of the relay and of the broker depend on these)
-for name in flask waitress pika cryptography; do
+for name in flask waitress pika cryptography fido2; do
     /usr/bin/python3 -c "import ${name//-/_}" 2>/dev/null || wanted+=("python3-$name")
 done
 /usr/bin/python3 -c 'import pytest' 2>/dev/null || wanted+=(python3-pytest)

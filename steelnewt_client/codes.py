@@ -161,6 +161,14 @@ SENTENCES = {
         "an approval was given over another reason or ticket than the request was signed with",
         "do not approve it: find out who showed its approver something else",
     ),
+    "A26 CopiedKey": (
+        "a passkey's counter was not higher than with what it signed before",
+        "somebody may have a copy of it: ask its owner what they signed, and desk-signer lost",
+    ),
+    "A27 NotBySsh": (
+        "under this ceiling (`by_ssh`) no passkey counts",
+        "ask and approve with mydesk",
+    ),
 }
 # What somebody reads who only asks or approves, where the table speaks to whoever runs the desk.
 FOR_PEOPLE = {
@@ -175,6 +183,10 @@ FOR_PEOPLE = {
     "A21 NotOfNow": (
         "the message came too late",
         "say it anew, and tell the operator if that does not help: a clock may be wrong",
+    ),
+    "A26 CopiedKey": (
+        "your passkey's counter went back, so somebody may have a copy of it",
+        "tell the operator at once, and sign with another key",
     ),
 }
 

@@ -6,7 +6,8 @@ program here carries:
 No message has a tab, so `cut -f1` gives the messages back. ABOUT, of an approval alone, is the
 SHA-256 of the request that the approver was shown; WHY is that of the reason and the ticket.
 
-A signature is `ssh:` and the base64 of ssh-keygen's. For a list it is `list:`, the same base64, a
+A signature is `ssh:` and the base64 of ssh-keygen's, or `webauthn:` and a passkey's assertion: four
+parts in base64url with dots between them. For a list it is `list:` or `webauthn-list:`, the same, a
 colon, and the base64 of the digests of all that was signed with one touch.
 """
 
@@ -29,13 +30,21 @@ FILES = "steelnewt-file@v1"
 NAMESPACES = (NAMESPACE, LIST, ENROLS, CHANGES, FILES)
 # A site's own name, which is signed too: what was said to a desk for trials says nothing elsewhere.
 SITE = re.compile(r"[a-z0-9][a-z0-9.-]{0,63}")
+# Where a browser finds a page: by TLS, or on the person's own machine.
+ORIGIN = r"https://[a-z0-9-]+(?:\.[a-z0-9-]+)*(?::[0-9]{1,5})?|http://localhost(?::[0-9]{1,5})?"
 # How many messages one signature may be over.
 MOST_LISTED = 64
 MOST_SIGNATURE = 8_192
 # The longest line: the message, the signature, two digests, and the tabs between them.
 MOST_LINE = MOST_BYTES + MOST_SIGNATURE + 2 * 64 + 3
-BASE64 = r"[A-Za-z0-9+/]+={0,2}"
-SIGNATURE = re.compile(rf"ssh:({BASE64})|list:({BASE64}):({BASE64})")
+BASE64, BASE64URL = r"[A-Za-z0-9+/]+={0,2}", r"[A-Za-z0-9_-]+"
+# The credential, the authenticator's data, the browser's, and the signature.
+ASSERTION = rf"{BASE64URL}(?:\.{BASE64URL}){{3}}"
+SIGNATURE = re.compile(
+    rf"ssh:({BASE64})|list:({BASE64}):({BASE64})"
+    rf"|webauthn:({ASSERTION})|webauthn-list:({ASSERTION}):({BASE64})"
+)
+PASSKEY = "webauthn"
 DIGEST = re.compile(r"[0-9a-f]{64}")
 NAME = re.compile(PERSON)
 MOST_NO = 999_999_999
@@ -77,18 +86,23 @@ class Signed:
         """The digest of that, as a list has it."""
         return hashlib.sha256(self.payload(site)).hexdigest()
 
+    @property
+    def is_by_passkey(self) -> bool:
+        return self.signature.startswith(PASSKEY)
+
     def signed_bytes(self, site: str) -> tuple[str, bytes, bytes]:
-        """The namespace, the bytes that were signed, and the signature: where that is of a list,
-        this message has to be in it."""
+        """The namespace, the bytes that were signed, and the signature, which is an assertion's
+        text where a passkey made it. Where it is of a list, this message has to be in that."""
         found = SIGNATURE.fullmatch(self.signature)
         try:
             if not found:
                 raise ValueError("it has not the form of a signature")
-            alone, of_list, digests = found.groups()
-            raw = base64.b64decode(alone or of_list, validate=True)
-            if alone:
+            ssh, ssh_list, ssh_listed, passkey, passkey_list, passkey_listed = found.groups()
+            given = passkey or passkey_list
+            raw = given.encode() if given else base64.b64decode(ssh or ssh_list, validate=True)
+            if ssh or passkey:
                 return NAMESPACE, self.payload(site), raw
-            listed = listed_in(base64.b64decode(digests, validate=True))
+            listed = listed_in(base64.b64decode(ssh_listed or passkey_listed, validate=True))
         except (binascii.Error, ValueError) as fault:
             raise BadLine(f"A20 BadSignature: {fault}") from None
         if self.said(site) not in listed:
@@ -126,10 +140,20 @@ def listed_in(raw: bytes) -> list[str]:
     return found
 
 
-def list_signature(raw: str, listed: list[str]) -> str:
-    """The field of each message of a list, of the base64 of the signature over it."""
+def list_signature(raw: str, listed: list[str], kind: str = "list") -> str:
+    """The field of each message of a list, of the signature over it."""
     digests = base64.b64encode(bytes.fromhex("".join(listed))).decode("ascii")
-    return f"list:{raw}:{digests}"
+    return f"{kind}:{raw}:{digests}"
+
+
+def challenge(namespace: str, what: bytes) -> bytes:
+    """What a passkey is asked to sign in the place of bytes that ssh-keygen would sign."""
+    return hashlib.sha256(namespace.encode("ascii") + b"\0" + what).digest()
+
+
+def enrolling(site: str, person: str, word: str) -> bytes:
+    """What somebody signs with a key that they enrol: the word was made for them."""
+    return "\n".join([site, person, word]).encode("ascii")
 
 
 def read_line(line: bytes) -> Signed:

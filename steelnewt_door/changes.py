@@ -5,13 +5,14 @@ import base64
 import hashlib
 import os
 import re
-from dataclasses import dataclass
+from dataclasses import dataclass, replace
 
 from steelnewt_client.messages import canonical
 from steelnewt_client.names import PERSON
 from steelnewt_client.signed import CHANGES, DIGEST
 from steelnewt_door.judge import Judge, print_of_blob
-from steelnewt_door.signers import ALLOWED, REVOKED, YESES, BadSigners, Signer, Signers, Version
+from steelnewt_door.signers import ALLOWED, PASSKEYS, REVOKED, YESES
+from steelnewt_door.signers import BadSigners, Signer, Signers, Version
 from steelnewt_door.wire import BadSignature
 
 YES = re.compile(rf"({PERSON}) ssh:([A-Za-z0-9+/]+={{0,2}})")
@@ -24,6 +25,7 @@ def digest_of(version: Version | None) -> str:
     if version is None:
         return "0" * 64
     parts = {"allowed": version.text(ALLOWED), "revoked": version.text(REVOKED)}
+    parts |= {PASSKEYS: version.text(PASSKEYS)} if version.has(PASSKEYS) else {}
     return hashlib.sha256(canonical(parts | {"krl": version.krl()}).encode("ascii")).hexdigest()
 
 
@@ -34,8 +36,9 @@ def span_of(signer: Signer) -> str:
 def named(signer: Signer) -> str:
     """A signer's line, as people read it."""
     mark = print_of_blob(signer.blob)
-    whose = "an authority:" if signer.is_authority else signer.name
-    return f"{whose} {signer.kind} {mark} {span_of(signer)}"
+    who = "an authority:" if signer.is_authority else signer.name
+    where = f" at {signer.origin}{', with a PIN or a finger' * signer.is_verified}"
+    return f"{who} {signer.kind} {mark}{where * signer.is_passkey} {span_of(signer)}"
 
 
 def lines_of(before: Version | None, after: Version) -> list[str]:
@@ -58,11 +61,16 @@ def text_of(site: str, before: Version | None, after: Version) -> str:
     return "\n".join([*lines, f"after {digest_of(after)}", ""])
 
 
+def whose(signer: Signer) -> Signer:
+    """A signer but for when it counts."""
+    return replace(signer, first="", last="")
+
+
 def takes_away(before: Version, after: Version) -> bool:
     """Whether a change only ends keys, or revokes more: nobody signs more by it."""
-    old = {(it.name, it.kind, it.key, it.is_authority): it for it in before.signers()}
+    old = {whose(it): it for it in before.signers()}
     for it in after.signers():
-        was = old.get((it.name, it.kind, it.key, it.is_authority))
+        was = old.get(whose(it))
         if was is None or it.first < was.first:
             return False
         if was.last and (not it.last or it.last > was.last):

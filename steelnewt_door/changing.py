@@ -11,8 +11,8 @@ from codecs import BOM_UTF8, BOM_UTF16_BE, BOM_UTF16_LE
 
 from steelnewt_client.moments import stamp_of
 from steelnewt_door.changes import Two, takes_away, text_of
-from steelnewt_door.judge import print_of_blob
-from steelnewt_door.signers import ALLOWED, CHANGE, KINDS, KRL, REVOKED, YESES
+from steelnewt_client.signed import PASSKEY
+from steelnewt_door.signers import ALLOWED, CHANGE, KINDS, KRL, PASSKEYS, REVOKED, YESES
 from steelnewt_door.signers import BadSigners, Signer, Signers, Version
 
 DRAFT, TO_SIGN = "draft", "to-sign"
@@ -86,6 +86,18 @@ def lines_of(signers: list[Signer]) -> str:
     return "".join(f"{it.line()}\n" for it in signers)
 
 
+def texts_of(signers: list[Signer], revoked: list[str]) -> dict[str, bytes]:
+    """The files with who signs and which keys are revoked. (ssh-keygen reads none of passkeys.)"""
+    mine = [it for it in signers if it.is_passkey]
+    lost = [it for it in revoked if it.startswith(f"{PASSKEY} ")]
+    passkeys = lines_of(mine) + "".join(f"revoked {it}\n" for it in lost)
+    found = {
+        ALLOWED: lines_of([it for it in signers if not it.is_passkey]),
+        REVOKED: "".join(f"{it}\n" for it in revoked if it not in lost),
+    } | ({PASSKEYS: passkeys} if passkeys else {})
+    return {name: text.encode("ascii") for name, text in found.items()}
+
+
 def written(path: str, given: bytes) -> None:
     with open(path, "xb") as file:
         file.write(given)
@@ -139,10 +151,6 @@ class Changing:
         now = self.now()
         return (now.signers(), now.revoked()) if now else ([], [])
 
-    def prints(self) -> dict[str, str]:
-        """Whose each key is that signs, or did, by its fingerprint."""
-        return {print_of_blob(it.blob): it.name for it in self.held()[0]}
-
     def write_draft(
         self, signers: list[Signer], revoked: list[str], change: str, krl: bytes | None = None
     ) -> Version:
@@ -150,8 +158,7 @@ class Changing:
         now, draft = self.now(), self.draft
         if krl is None and now and now.has(KRL):
             krl = now.bytes(KRL)
-        texts = {ALLOWED: lines_of(signers).encode("ascii"), CHANGE: f"{change}\n".encode("ascii")}
-        texts[REVOKED] = "".join(f"{it}\n" for it in revoked).encode("ascii")
+        texts = {CHANGE: f"{change}\n".encode("ascii")} | texts_of(signers, revoked)
         texts |= {KRL: krl} if krl else {}
         try:
             emptied(draft.folder)

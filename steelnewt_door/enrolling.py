@@ -6,10 +6,12 @@ import os
 import secrets
 import time
 from contextlib import suppress
+from dataclasses import dataclass
 
-from steelnewt_client.signed import ENROLS
+from steelnewt_client.signed import ENROLS, PASSKEY, enrolling
+from steelnewt_door.assertions import Assertion
 from steelnewt_door.changing import KEY, emptied, plainly, written
-from steelnewt_door.signers import BadSigners
+from steelnewt_door.signers import BadSigners, Signer
 from steelnewt_door.wire import BadSignature, check, parts_of
 
 FOLDER, LASTS = "enrolling", 900  # seconds that somebody may take, who is here
@@ -37,29 +39,58 @@ def nonces(signers: str, name: str) -> list[str]:
     return []
 
 
-def words_of(site: str, person: str, nonce: str) -> bytes:
-    """What is signed."""
-    return "\n".join([site, person, nonce]).encode("ascii")
-
-
-def enrolled_in(given: bytes, signers: str, site: str, name: str) -> str:
-    """The public key of a line that mydesk wrote: KIND KEY ssh:SIGNATURE."""
-    key, _, proof = given.decode("utf-8", "replace").strip().rpartition(" ssh:")
-    found = KEY.fullmatch(key)
-    if not found:
-        raise BadSigners(f"this is no line of `mydesk enrol`: {ascii(key)[:80]}")
-    public = plainly(f"{found[1]} {found[2]}")
-    waiting = nonces(signers, name)
+def enrolled_in(given: bytes, name: str, changing: "Enrolling") -> Signer:
+    """The signer of a line that mydesk wrote, KIND KEY ssh:SIGNATURE, or the door's page, which is
+    webauthn KEY webauthn:ASSERTION."""
+    text = given.decode("utf-8", "replace").strip()
+    is_passkey = text.startswith(f"{PASSKEY} ")
+    key, _, proof = text.rpartition(f" {PASSKEY if is_passkey else 'ssh'}:")
+    waiting = nonces(changing.signers, name)
     if not waiting:
         raise BadSigners(f"nobody is enrolling as {name}: desk-signer enrol {name}")
+    words = enrolling(changing.site, name, waiting[0])
     try:
-        parts = parts_of(base64.b64decode(proof, validate=True))
-        if parts.key != base64.b64decode(public.split(" ")[1]):
-            raise BadSignature("another key made it")
-        check(parts, ENROLS, words_of(site, name, waiting[0]))
+        if is_passkey:
+            return changing.passkey(name, key, proof, words)
+        return changing.ssh_key(name, key, proof, words)
     except (BadSignature, ValueError) as fault:
         raise BadSigners(f"{name} did not sign the word with this key: {fault}") from None
-    return public
+
+
+@dataclass(frozen=True)
+class Enrolling:
+    """Where somebody enrols: the folder of signers, the site, from when on the key counts, and the
+    page of passkeys."""
+
+    signers: str
+    site: str
+    at: str
+    origin: str = ""
+    is_verified: bool = False
+
+    def ssh_key(self, name: str, key: str, proof: str, words: bytes) -> Signer:
+        found = KEY.fullmatch(key)
+        if not found:
+            raise BadSigners(f"this is no line of `mydesk enrol`: {ascii(key)[:80]}")
+        kind, public = plainly(f"{found[1]} {found[2]}").split(" ")
+        parts = parts_of(base64.b64decode(proof, validate=True))
+        if parts.key != base64.b64decode(public):
+            raise BadSignature("another key made it")
+        check(parts, ENROLS, words)
+        return Signer(name, kind, public, self.at)
+
+    def passkey(self, name: str, key: str, proof: str, words: bytes) -> Signer:
+        if not self.origin:
+            raise BadSigners("this door knows no page: say its origin in door.toml")
+        public = key.removeprefix(f"{PASSKEY} ")
+        where = self.origin, self.is_verified
+        signer = Signer(name, PASSKEY, public, self.at, "", False, *where)
+        made = signer.passkey()
+        touched = Assertion.of(proof)
+        if touched.id != made.id:
+            raise BadSignature("another passkey made it")
+        touched.check(made, ENROLS, words)
+        return signer
 
 
 def done(signers: str, name: str) -> None:

@@ -11,6 +11,7 @@ from dataclasses import dataclass
 
 from steelnewt_client.signed import Signed, digest
 from steelnewt_door.rows import FIRST, Last, Noted, line_digest
+from steelnewt_door.touches import Touch
 
 SCHEMA = """
 CREATE TABLE IF NOT EXISTS lines (
@@ -26,10 +27,20 @@ CREATE TABLE IF NOT EXISTS lines (
 ) STRICT;
 CREATE INDEX IF NOT EXISTS by_message ON lines (message);
 CREATE INDEX IF NOT EXISTS unanswered ON lines (no) WHERE code = '';
+CREATE TABLE IF NOT EXISTS touches (
+    key TEXT NOT NULL,
+    counter INTEGER NOT NULL,
+    at TEXT NOT NULL,
+    mark TEXT NOT NULL,
+    PRIMARY KEY (key, counter, mark)
+) STRICT, WITHOUT ROWID;
 CREATE TABLE IF NOT EXISTS last (one INTEGER PRIMARY KEY, no INTEGER, chain TEXT) STRICT;
 """
 # (a line that was refused and is judged anew has a new row)
 CAME = "INSERT OR REPLACE INTO lines (no, line, at, how, message, about, why, key, code)"
+# (with one touch a list is signed)
+TOUCHED = "INSERT OR IGNORE INTO touches (key, counter, at, mark) VALUES (?, ?, ?, ?)"
+VALUES, KEY = 8, 6  # of a line that came, and which of them is the key
 BEFORE = """
 SELECT line, key, no, at, how, code FROM lines WHERE line = ?1
 UNION
@@ -122,7 +133,10 @@ class Index:
         if len(noted) == 2:
             self.base.execute("UPDATE lines SET code = ?2 WHERE no = ?1", noted)
         elif noted:
-            self.base.execute(f"{CAME} VALUES (?, ?, ?, ?, ?, ?, ?, ?, ?)", (no, *noted))
+            values = (no, *noted[:VALUES])
+            self.base.execute(f"{CAME} VALUES (?, ?, ?, ?, ?, ?, ?, ?, ?)", values)
+            if touch := noted[VALUES:]:
+                self.base.execute(TOUCHED, (noted[KEY], *touch))
 
     def beginnings(self) -> Iterator[str]:
         """How the digests of all messages begin."""
@@ -171,6 +185,12 @@ class Index:
         where = "SELECT why FROM lines WHERE message = ? AND how = 'signed'"
         with self.lock:
             return {it[0] for it in self.base.execute(where, (request,))}
+
+    def touches_from(self, key: str, counter: int) -> list[Touch]:
+        """The touches of a passkey with this counter or a higher one."""
+        where = "SELECT counter, at, mark FROM touches WHERE key = ? AND counter >= ?"
+        with self.lock:
+            return [Touch(*it) for it in self.base.execute(where, (key, counter))]
 
     def unanswered(self) -> list[int]:
         """The rows with messages of which nobody knows what became of them."""

@@ -1,6 +1,7 @@
 """Whose key made a signature. `ssh-keygen -Y verify` judges the first one of each key under a
 version of the signers, and each one by a certificate; python3-cryptography the others, which takes
-a fiftieth of the time. `desk-verify` looks at a sample by ssh-keygen again."""
+a fiftieth of the time. `desk-verify` looks at a sample by ssh-keygen again. (Of passkeys each is
+judged by passkeys.py.)"""
 
 import base64
 import hashlib
@@ -10,6 +11,7 @@ from dataclasses import dataclass, field
 from functools import lru_cache
 
 from steelnewt_client.signed import BadLine, Signed
+from steelnewt_door.assertions import Assertion
 from steelnewt_door.signers import ALLOWED, KRL, REVOKED, Signer, Version
 from steelnewt_door.wire import BadSignature, Parts, check, parts_of
 
@@ -34,10 +36,31 @@ class Judge:
         """The key with which somebody signed a message, by a version, at a moment: its
         fingerprint."""
         try:
-            namespace, what, raw = signed.signed_bytes(self.site)
+            made = signed.signed_bytes(self.site)
         except BadLine as fault:
             raise BadSignature(str(fault).partition(": ")[2]) from None
-        return self.signer_of(version, who, (namespace, what, raw), at)
+        if signed.is_by_passkey:
+            return self.passkey_of(version, who, made, at)
+        return self.signer_of(version, who, made, at)
+
+    def passkey_of(
+        self, version: Version, who: str, made: tuple[str, bytes, bytes], at: str
+    ) -> str:
+        """The passkey of somebody's that was touched for these bytes and this purpose."""
+        namespace, what, raw = made
+        touched = Assertion.of(raw.decode("ascii"))
+        state = (version.state(), who, touched.id)
+        signer = self.known.get(state) or passkey_in(version, who, touched.id)
+        if not signer.counts_at(at):
+            raise BadSignature("its passkey does not count at that moment")
+        touched.check(signer.passkey(), namespace, what)
+        self.know(state, signer)
+        return print_of_blob(signer.blob)
+
+    def know(self, state: tuple[object, str, bytes], signer: Signer) -> None:
+        if len(self.known) >= MOST_KNOWN:
+            self.known.clear()
+        self.known[state] = signer
 
     def signer_of(
         self, version: Version, who: str, made: tuple[str, bytes, bytes], at: str
@@ -53,9 +76,7 @@ class Judge:
             return print_of_blob(parts.key)
         said = by_ssh_keygen(version, who, made, at)
         if parts.is_plain and (signer := signer_in(version, who, parts)):
-            if len(self.known) >= MOST_KNOWN:
-                self.known.clear()
-            self.known[state] = signer
+            self.know(state, signer)
         return said
 
 
@@ -64,6 +85,17 @@ def signer_in(version: Version, who: str, parts: Parts) -> Signer | None:
     public = base64.b64encode(parts.key).decode("ascii")
     found = [it for it in version.signers() if (it.name, it.key) == (who, public)]
     return found[0] if len(found) == 1 else None
+
+
+def passkey_in(version: Version, who: str, id: bytes) -> Signer:
+    """The one line with a person's passkey, which was not lost."""
+    lost = version.revoked()
+    found = [it for it in version.passkeys() if it.name == who and it.passkey().id == id]
+    if len(found) != 1:
+        raise BadSignature(f"{who} has no such passkey")
+    if found[0].public in lost:
+        raise BadSignature("its passkey was lost")
+    return found[0]
 
 
 @lru_cache(maxsize=1_024)

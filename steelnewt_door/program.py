@@ -53,6 +53,7 @@ def parser() -> argparse.ArgumentParser:
     said = "a folder with its `journal` and `signers`, in place of the door itself"
     bringing.add_argument("--from", dest="source", default="", metavar="DIR", help=said)
     jobs.add_parser("answer", help="answer hosts with the door's own signature, until SIGTERM")
+    jobs.add_parser("confirm", help="show people what they sign with passkeys, until SIGTERM")
     said = "make the key of these signatures, and print what hosts have of it"
     key = jobs.add_parser("file-key", help=said).add_mutually_exclusive_group()
     key.add_argument("--next", action="store_true", help="make another one, for all hosts to have")
@@ -90,13 +91,14 @@ def serve(settings: Settings) -> int:
                 (settings.listen, 0o660, False), (settings.root, 0o600, True)
             )
         ]  # fmt: skip
-        locks, shared = Locks(LOCKS), Shared()
+        locks, keys, shared = Locks(LOCKS), Locks(LOCKS), Shared()
 
         def work(ends: list[Line], line: Line) -> None:
             locks.own()
+            keys.own()
             # (it has of a journal, and of a share, what a door uses as it takes messages)
             asked: Any = Asked(settings.journal, ends, shared)
-            door = replace(settings.door(asked), locks=locks, share=asked)
+            door = replace(settings.door(asked), locks=locks, keys=keys, share=asked)
             asyncio.run(until_ended(Serving(door, settings.questions), places, line))
 
         for place, is_root in places:
@@ -184,6 +186,16 @@ def answer(settings: Settings) -> int:
         asyncio.run(Answering(key, kept, settings.questions).serve(place))
     log.info("ended, as it was asked to")
     return 0
+
+
+def confirm(settings: Settings) -> int:
+    """Shows people what they sign, until SIGTERM."""
+    from steelnewt_door.page import serve as serve_page  # (no other job needs Flask)
+
+    check_place(settings.page.listen)
+    for number in (signal.SIGTERM, signal.SIGINT):
+        signal.signal(number, lambda *_: sys.exit(0))
+    return serve_page(settings, told_ready)
 
 
 def file_key(settings: Settings, said: argparse.Namespace) -> int:
@@ -298,7 +310,7 @@ def check(settings: Settings) -> int:
 def main(words: list[str] | None = None) -> int:
     said = parser().parse_args(words)
     logging.basicConfig(level=logging.INFO, format="%(name)s: %(message)s")
-    jobs = {"serve": serve, "begin": begin, "check": check, "answer": answer}
+    jobs = {"serve": serve, "begin": begin, "check": check, "answer": answer, "confirm": confirm}
     try:
         settings = read_settings(said.config)
         if said.job == "file-key":

@@ -14,6 +14,8 @@ STATUSES = {
     "A23 NoRequest": 403,
     "A24 NameTaken": 403,
     "A25 OtherReason": 403,
+    "A26 CopiedKey": 403,
+    "A27 NotBySsh": 403,
     "K20 DeskAway": 503,
     "K21 NotYet": 503,
     "K22 NoRequestYet": 503,

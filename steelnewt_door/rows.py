@@ -16,7 +16,8 @@ from dataclasses import dataclass
 from typing import Any
 
 from steelnewt_client.messages import canonical
-from steelnewt_client.signed import Signed
+from steelnewt_client.signed import PASSKEY, Signed, said_in
+from steelnewt_door.touches import touch_of
 
 FIRST = "0" * 64
 COMMON = {"no": int, "row": str, "before": str, "chain": str}
@@ -84,8 +85,9 @@ def draft_of(row: Row) -> Draft:
 
 
 def noted_of(row: Row) -> Noted:
-    """What the index notes of a row: of a message that came the values of its line there but the
-    number, of an answer the message's number and the code, and of others nothing."""
+    """What the index notes of a row. A message that came: the values of the message's line there
+    but the number, and then the touch of the passkey, if one signed the message. An answer: the
+    message's number, and the code. Any other row: nothing."""
     if row["row"] == "answered":
         return row["of"], row["code"]
     if row["row"] not in MESSAGES:
@@ -93,7 +95,14 @@ def noted_of(row: Row) -> Noted:
     signed = Signed(row["message"], row["signature"], row["about"], row["why"])
     code = ACK if row["how"] == "before" else ""
     parts = line_digest(signed), row["at"], row["how"], signed.digest
-    return *parts, signed.about, signed.why, row["key"], code
+    touch = touch_of(signed, said_in(signed.message).at) if has_touch(row) else None
+    more = (touch.counter, touch.at, touch.mark) if touch else ()
+    return *parts, signed.about, signed.why, row["key"], code, *more
+
+
+def has_touch(row: Row) -> bool:
+    """Whether a row's message was signed by a passkey."""
+    return row["how"] == "signed" and str(row["signature"]).startswith(PASSKEY)
 
 
 def digest_in(noted: Noted) -> str:

@@ -1,13 +1,14 @@
 """The door's settings: one file of TOML (door/door.example.toml)."""
 
 import os
+import re
 import tomllib
 from dataclasses import dataclass
 
 from steelnewt_client.desk import BadAddress, Desk, Place
 from steelnewt_client.moments import FORM as MOMENT
-from steelnewt_client.names import LABELS
-from steelnewt_client.signed import SITE
+from steelnewt_client.names import LABEL, LABELS
+from steelnewt_client.signed import ORIGIN, SITE
 from steelnewt_door.changes import Two
 from steelnewt_door.journal import Journal, Room
 from steelnewt_door.judge import Judge
@@ -32,13 +33,31 @@ TEXTS = {
     "certificate": "",
     "key": "",
     "ca": "",
+    "origin": "",
+    "verified": "yes",
+    "page": "unix:/run/desk-confirm/page.sock",
+    "made": "/var/lib/desk-confirm",
 }
+LISTS = ("by_ssh", "relay_pages")
 NUMBERS = {"late": 86_400, "changes_by": 1, "journal_bytes": 4 << 30, "file_bytes": 16 << 20}
 LEAST = {"late": 60, "changes_by": 1, "journal_bytes": 1 << 20, "file_bytes": 1 << 16}
 
 
 class BadSettings(ValueError):
     """The settings cannot be used."""
+
+
+@dataclass(frozen=True)
+class Page:
+    """The page at which people sign with passkeys: its origin, empty where there is none; whether a
+    new passkey has to know its owner; the pages of relays that lead to it; its socket; and where
+    the passkeys are that people made there."""
+
+    origin: str
+    is_verified: bool
+    relays: tuple[str, ...]
+    listen: str
+    made: str
 
 
 @dataclass(frozen=True)
@@ -55,6 +74,7 @@ class Settings:
     answers: str
     file_key: str
     doors: dict[str, Desk]
+    page: Page
 
     def judge(self) -> Judge:
         return Judge(self.site)
@@ -117,13 +137,40 @@ def programs_of(found: dict[str, object]) -> frozenset[str]:
     return frozenset(map(str, told))
 
 
-def checked(found: dict[str, object]) -> tuple[dict[str, str], dict[str, int]]:
-    """The settings that are texts and numbers, each of its kind."""
+def listed(name: str, value: object) -> tuple[str, ...]:
+    """A list of ceilings, or of the pages of relays."""
+    found = value if isinstance(value, list) else [None]
+    form = LABEL if name == "by_ssh" else ORIGIN
+    if not all(isinstance(it, str) and re.fullmatch(form, it) for it in found):
+        wanted = "ceilings" if name == "by_ssh" else "origins, as https://desk.example:8443"
+        raise BadSettings(f"{name} is a list of {wanted}")
+    return tuple(found)
+
+
+def page_of(texts: dict[str, str], relays: tuple[str, ...]) -> Page:
+    origin = texts["origin"]
+    if origin and not re.fullmatch(ORIGIN, origin):
+        raise BadSettings("origin is where browsers find the page, as https://desk.example:8444")
+    if origin in relays:
+        raise BadSettings("origin is the door's own: no page of a relay has it")
+    if texts["verified"] not in ("yes", "no"):
+        raise BadSettings('verified is "yes", or "no" for passkeys without a PIN or a finger')
+    listen = socket_of("page", texts["page"])
+    return Page(origin, texts["verified"] == "yes", relays, listen, texts["made"])
+
+
+def checked(
+    found: dict[str, object],
+) -> tuple[dict[str, str], dict[str, int], dict[str, tuple[str, ...]]]:
+    """The settings, each of its kind."""
     found = {name: value for name, value in found.items() if name not in ("doors", "programs")}
-    if unknown := found.keys() - TEXTS.keys() - NUMBERS.keys():
+    if unknown := found.keys() - TEXTS.keys() - NUMBERS.keys() - set(LISTS):
         raise BadSettings(f"no setting is named {', '.join(sorted(unknown))}")
     texts, numbers = dict(TEXTS), dict(NUMBERS)
+    lists = {name: listed(name, found.get(name, [])) for name in LISTS}
     for name, value in found.items():
+        if name in LISTS:
+            continue
         if name in TEXTS and isinstance(value, str):
             texts[name] = value
         elif name in NUMBERS and type(value) is int and value >= LEAST[name]:
@@ -138,14 +185,14 @@ def checked(found: dict[str, object]) -> tuple[dict[str, str], dict[str, int]]:
         raise BadSettings('signing is "yes", or "no" where the door keeps the journal alone')
     if texts["signed_since"] and not MOMENT.fullmatch(texts["signed_since"]):
         raise BadSettings("signed_since is a moment as 20260105090000Z")
-    return texts, numbers
+    return texts, numbers, lists
 
 
 def read_settings(path: str) -> Settings:
     try:
         with open(path, "rb") as file:
             found = tomllib.load(file)
-        texts, numbers = checked(found)
+        texts, numbers, lists = checked(found)
         return Settings(
             site=texts["site"],
             desk=socket_of("desk", texts["desk"]),
@@ -156,12 +203,13 @@ def read_settings(path: str) -> Settings:
             journal=texts["journal"],
             rules=Rules(
                 texts["signing"] == "yes", numbers["late"], numbers["changes_by"],
-                texts["signed_since"], programs_of(found),
+                texts["signed_since"], programs_of(found), frozenset(lists["by_ssh"]),
             ),
             room=Room(numbers["journal_bytes"], numbers["file_bytes"]),
             answers=socket_of("answers", texts["answers"]),
             file_key=texts["file_key"],
             doors=doors_of(found, texts),
+            page=page_of(texts, lists["relay_pages"]),
         )  # fmt: skip
     except (OSError, ValueError) as fault:
         raise BadSettings(f"{path}: {fault}") from None

@@ -9,10 +9,11 @@ from collections.abc import Iterable, Iterator
 
 from steelnewt_client.messages import canonical
 from steelnewt_door.journal import files_of
-from steelnewt_door.signers import ALLOWED, CHANGE, KRL, REVOKED, YESES, Signers, Version
+from steelnewt_door.signers import ALLOWED, CHANGE, KRL, PASSKEYS, REVOKED, YESES
+from steelnewt_door.signers import Signers, Version
 
 MOST_PAGE = 1 << 20  # bytes of a page, which has one line at least
-NAMES = (ALLOWED, REVOKED, KRL, CHANGE, YESES)
+NAMES = (ALLOWED, REVOKED, KRL, PASSKEYS, CHANGE, YESES)
 # (a text of a row has no such bytes: each of its quotes has a backslash before it)
 NUMBER = re.compile(rb',"no":([0-9]{1,12}),')
 

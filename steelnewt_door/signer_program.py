@@ -45,14 +45,15 @@ def parser() -> argparse.ArgumentParser:
 
 def add_jobs(jobs: "argparse._SubParsersAction[argparse.ArgumentParser]") -> None:
     """What it does; first what is done with keys, and then with what people said yes to."""
-    said = "print a word that a person signs, who is here: `mydesk enrol WORD`"
+    said = "print a word that a person signs, who is here, by `mydesk enrol WORD` or on the page"
     jobs.add_parser("enrol", help=said).add_argument("name", metavar="NAME")
     adding = jobs.add_parser("add", help="a person signs with the key that they enrol")
     rotating = jobs.add_parser("rotate", help="the same; their other keys end some days later")
     rotating.add_argument("--days", type=int, default=7, help="how many (7)")
     for it in (adding, rotating):
         it.add_argument("name", metavar="NAME")
-        it.add_argument("file", metavar="FILE", help="what mydesk wrote, - is the standard input")
+        said = "what mydesk or the page wrote, - is the standard input"
+        it.add_argument("file", metavar="FILE", help=said)
         said = "FILE is a public key alone, whose owner is not here: compare its fingerprint"
         it.add_argument("--unproved", action="store_true", help=said)
     authority = jobs.add_parser("add-authority", help="who has a certificate of this key signs")
@@ -123,26 +124,31 @@ class Job:
     def enrol(self) -> int:
         name = checked(self.said.name)
         print(enrolling.nonce_for(self.settings.signers, name))
-        print(f"(within 15 minutes {name} writes: mydesk enrol WORD)", file=sys.stderr)
+        page = self.settings.page
+        more = f", or makes a passkey at {page.origin}/passkey" if page.origin else ""
+        print(f"(within 15 minutes {name} writes: mydesk enrol WORD{more})", file=sys.stderr)
         return DONE
 
     def new_signer(self, name: str, at: str) -> Signer:
         """The signer of a key that nobody has, or had."""
-        given, site = text_in(self.said.file), self.settings.site
+        given, page = text_in(self.said.file), self.settings.page
         if self.said.unproved:
-            public = plainly(public_in(self.said.file, given))
+            kind, key = plainly(public_in(self.said.file, given)).split(" ")
+            new = Signer(name, kind, key, at)
         else:
-            public = enrolling.enrolled_in(given, self.settings.signers, site, name)
-        self.check_new(public)
-        kind, key = public.split(" ")
-        return Signer(name, kind, key, at)
+            where = self.settings.signers, self.settings.site, at, page.origin, page.is_verified
+            new = enrolling.enrolled_in(given, name, enrolling.Enrolling(*where))
+        self.check_new(new)
+        return new
 
-    def check_new(self, public: str) -> None:
-        mark, (_, revoked) = fingerprint(public), self.changing.held()
-        if public in revoked:
+    def check_new(self, new: Signer) -> None:
+        signers, revoked = self.changing.held()
+        mark = print_of_blob(new.blob) if new.is_passkey else fingerprint(new.public)
+        if new.public in revoked:
             raise BadSigners(f"{mark} was lost: it never counts again")
-        if whose := self.changing.prints().get(mark):
-            raise BadSigners(f"{mark} is {whose}'s, or was: a key is one person's, once")
+        same = [it.name for it in signers if print_of_blob(it.blob) == mark or is_same(it, new)]
+        if same:
+            raise BadSigners(f"{mark} is {same[0]}'s, or was: a key is one person's, once")
 
     def add(self) -> int:
         name = checked(self.said.name)
@@ -160,9 +166,9 @@ class Job:
     def add_authority(self) -> int:
         signers, revoked = self.changing.held()
         public = plainly(public_in(self.said.file, text_in(self.said.file)))
-        self.check_new(public)
         kind, key = public.split(" ")
         new = Signer("*", kind, key, self.changing.next_moment(), is_authority=True)
+        self.check_new(new)
         return self.change([*signers, new], revoked, "add-authority")
 
     def end(self) -> int:
@@ -265,6 +271,14 @@ class Job:
         return DONE
 
 
+def is_same(one: Signer, other: Signer) -> bool:
+    """Whether two passkeys have the same name, or the same key."""
+    if not (one.is_passkey and other.is_passkey):
+        return False
+    first, second = one.passkey(), other.passkey()
+    return first.id == second.id or first.key == second.key
+
+
 def checked(name: str) -> str:
     if not re.fullmatch(PERSON, name):
         raise BadSigners(f"{ascii(name)} is no person's name, such as ann")
@@ -282,7 +296,8 @@ def show(signers: Signers, at: str) -> int:
     for it in version.signers():
         span = f"since {it.first}" + (f" until {it.last}" if it.last else "")
         mark = print_of_blob(it.blob)
-        print(f"{it.name} {mark} {it.kind} {span}{' authority' * it.is_authority}")
+        where = f" at {it.origin}{' verify-required' * it.is_verified}" * it.is_passkey
+        print(f"{it.name} {mark} {it.kind} {span}{' authority' * it.is_authority}{where}")
     return DONE
 
 

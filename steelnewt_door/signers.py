@@ -3,6 +3,7 @@
     /etc/desk/signers/20260105090000Z/allowed_signers   ssh-keygen(1), ALLOWED SIGNERS
                                       revoked_keys      public keys that count no more, lost ones
                                       revoked.krl       a site's own list, ssh-keygen(1), KRL
+                                      passkeys          the keys of browsers, and lost ones of these
                                       change            who changed what, in a line
                                       signatures        of the people who said yes to it
 
@@ -18,11 +19,13 @@ from dataclasses import dataclass, replace
 
 from steelnewt_client.moments import FORM as MOMENT
 from steelnewt_client.names import PERSON
-from steelnewt_client.signed import CHANGES, LIST, NAMESPACE
+from steelnewt_client.signed import CHANGES, LIST, NAMESPACE, ORIGIN, PASSKEY
+from steelnewt_door.passkeys import Passkey, passkey_of
+from steelnewt_door.wire import BadSignature
 
 SIGNERS = "/etc/desk/signers"
 ALLOWED, REVOKED, CHANGE = "allowed_signers", "revoked_keys", "change"
-KRL, YESES = "revoked.krl", "signatures"
+KRL, YESES, PASSKEYS = "revoked.krl", "signatures", "passkeys"
 KINDS = (
     r"ssh-ed25519|ssh-rsa|ecdsa-sha2-nistp(?:256|384|521)"
     r"|sk-ssh-ed25519@openssh\.com|sk-ecdsa-sha2-nistp256@openssh\.com"
@@ -34,6 +37,10 @@ LINE = re.compile(
     rf'({PERSON}|\*) (cert-authority,)?namespaces="{re.escape(PURPOSES)}",{SPAN}'
     rf" ({KINDS}) ([A-Za-z0-9+/]+={{0,2}})"
 )
+PASSKEY_LINE = re.compile(
+    rf'({PERSON}) {SPAN},origin="({ORIGIN})"(,verify-required)? {PASSKEY} ([A-Za-z0-9+/]+={{0,2}})'
+)
+LOST_LINE = re.compile(rf"revoked ({PASSKEY} [A-Za-z0-9+/]+={{0,2}})")
 
 
 class BadSigners(Exception):
@@ -43,7 +50,8 @@ class BadSigners(Exception):
 @dataclass(frozen=True)
 class Signer:
     """A key, whose it is, and from when until when it counts; `last` is empty while it has no end.
-    An authority's signs certificates in everybody's name: its name is `*`."""
+    An authority's signs certificates in everybody's name: its name is `*`. A passkey has the origin
+    of the page that may ask for it, and whether it has to know its owner each time."""
 
     name: str
     kind: str
@@ -51,9 +59,21 @@ class Signer:
     first: str
     last: str = ""
     is_authority: bool = False
+    origin: str = ""
+    is_verified: bool = False
+
+    @property
+    def is_passkey(self) -> bool:
+        return self.kind == PASSKEY
+
+    def passkey(self) -> Passkey:
+        return passkey_of(self.blob, self.origin, self.is_verified)
 
     def line(self) -> str:
         span = f'valid-after="{self.first}"' + (f',valid-before="{self.last}"' if self.last else "")
+        if self.is_passkey:
+            where = f'origin="{self.origin}"' + ",verify-required" * self.is_verified
+            return f"{self.name} {span},{where} {self.public}"
         what = "cert-authority," if self.is_authority else ""
         return f'{self.name} {what}namespaces="{PURPOSES}",{span} {self.kind} {self.key}'
 
@@ -98,7 +118,7 @@ class Version:
     def state(self) -> tuple[object, ...]:
         """Marks of the version's files, which differ if somebody changed one, against the rules."""
         found: list[object] = [self.folder]
-        for name in (ALLOWED, REVOKED, *([KRL] if self.has(KRL) else [])):
+        for name in (ALLOWED, REVOKED, *(it for it in (KRL, PASSKEYS) if self.has(it))):
             try:
                 it = os.stat(f"{self.folder}/{name}")
             except OSError as fault:
@@ -118,10 +138,33 @@ class Version:
                 raise BadSigners(f"{self.path(ALLOWED)}: line {number} is none of desk-signer's")
             name, authority, first, last, kind, key = said.groups()
             found.append(Signer(name, kind, key, first, last or "", bool(authority)))
+        return [*found, *self.passkeys()]
+
+    def passkeys(self) -> list[Signer]:
+        """The passkeys, by their file's order."""
+        found = []
+        for number, line in enumerate(self.passkey_lines(), 1):
+            said = PASSKEY_LINE.fullmatch(line)
+            if not said and not LOST_LINE.fullmatch(line):
+                raise BadSigners(f"{self.path(PASSKEYS)}: line {number} is none of desk-signer's")
+            if said:
+                name, first, last, origin, is_verified, key = said.groups()
+                where = origin, bool(is_verified)
+                found.append(Signer(name, PASSKEY, key, first, last or "", False, *where))
+        try:
+            for it in found:
+                it.passkey()
+        except (BadSignature, ValueError) as fault:
+            raise BadSigners(f"{self.path(PASSKEYS)}: {fault}") from None
         return found
 
+    def passkey_lines(self) -> list[str]:
+        return self.text(PASSKEYS).splitlines() if self.has(PASSKEYS) else []
+
     def revoked(self) -> list[str]:
-        return self.text(REVOKED).splitlines()
+        """The public keys that count no more, those of passkeys too."""
+        lost = [it[1] for line in self.passkey_lines() if (it := LOST_LINE.fullmatch(line))]
+        return [*self.text(REVOKED).splitlines(), *lost]
 
     def krl(self) -> str:
         """The site's own list, in base64; empty where it has none."""

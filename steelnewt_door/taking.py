@@ -3,9 +3,10 @@ and then what the desk itself says."""
 
 import base64
 import json
+import logging
 import time
 from collections.abc import Callable
-from contextlib import suppress
+from contextlib import nullcontext, suppress
 from dataclasses import dataclass, field
 
 from steelnewt_client.desk import Desk, Silent
@@ -21,8 +22,10 @@ from steelnewt_door.others import Others
 from steelnewt_door.refusals import Refused, Share
 from steelnewt_door.rows import ACK, Arrival, Row, answered, brought, came, came_broken
 from steelnewt_door.signers import BadSigners, Signers, Version
+from steelnewt_door.touches import touch_of
 from steelnewt_door.wire import BadSignature, parts_of
 
+log = logging.getLogger("desk-door")
 AHEAD = 60  # seconds that a message's moment may be ahead of the door's clock
 WAITS = 120  # seconds that an approval may wait for its request, before it is refused for good
 TAKES_AWAY = ("refuse", "revoke")
@@ -33,14 +36,15 @@ Message = Request | Verdict
 @dataclass(frozen=True)
 class Rules:
     """What a site chose: whether people sign, for how many seconds a request or an approval may be
-    on its way, how many people say yes to signers and rosters, since when all is signed, and which
-    relays' requests are not."""
+    on its way, how many people say yes to signers and rosters, since when all is signed, which
+    relays' requests are not, and under which ceilings no passkey counts."""
 
     is_signing: bool
     late: int
     changes_by: int = 1
     since: str = ""
     programs: frozenset[str] = frozenset()
+    by_ssh: frozenset[str] = frozenset()
 
     def is_signed(self, at: str) -> bool:
         """Whether what comes at a moment has to be signed."""
@@ -89,6 +93,21 @@ def name_of(message: Message) -> tuple[str, int]:
     return (message.by if isinstance(message, Request) else message.of), message.no
 
 
+def held_at(desk: Desk, who: str, no: int) -> tuple[list[str], list[str]]:
+    """The requests and verdicts that a desk holds by a name, each as its text."""
+    path = f"/v1/requests/{who}/{no}"
+    try:
+        names = json.loads(desk.get(path))["names"]
+        found = [it for it in names if (it["by"], it["no"]) == (who, no)]
+        requests = [canonical(it) for entry in found for it in entry["requests"]]
+        verdicts = [canonical(it["verdict"]) for entry in found for it in entry["verdicts"]]
+    except Silent as fault:
+        raise Refused("K20 DeskAway", str(fault)) from None
+    except (ValueError, KeyError, TypeError):
+        raise Refused("K20 DeskAway", f"the desk answers {path} otherwise") from None
+    return requests, verdicts
+
+
 @dataclass
 class Door:
     """The door before one desk. `post` posts a message as a relay's to that desk, and `desk`
@@ -102,6 +121,7 @@ class Door:
     post: Callable[[str, str], Reply]
     clock: Callable[[], float] = time.time
     locks: Locks = field(default_factory=lambda: Locks(LOCKS))
+    keys: Locks = field(default_factory=lambda: Locks(LOCKS))
     share: Share = field(default_factory=Share)
     others: Others = Others()
     checked: tuple[float, tuple[str, str]] = (0.0, ("", ""))
@@ -219,6 +239,7 @@ class Door:
             self.check_site()
         if how in ("signed", "program"):
             if isinstance(message, Request):
+                self.check_ceilings(signed, [message.wish.ceiling])
                 self.check_name(message, signed.digest)
             elif not self.is_asked(message, signed):
                 is_over = known is not None and seconds(at) - seconds(known.at) > WAITS
@@ -229,8 +250,27 @@ class Door:
             return same.no, same
         row = came(signed, at, way.names, how, key, version)
         row = brought(row, way.arrival) if way.arrival else row
-        [no] = self.append([row], message)
+        # (no other touch of a passkey is noted between the look at its counter and this one's row)
+        with self.keys.held(key) if signed.is_by_passkey else nullcontext():
+            self.check_counter(signed, key, message)
+            [no] = self.append([row], message)
         return no, None
+
+    def check_counter(self, signed: Signed, key: str, message: Message) -> None:
+        """Refuses a passkey of which there is a copy. (Its owner may still take away what that
+        gave.)"""
+        touch = touch_of(signed, message.at)
+        if touch and touch.is_behind(self.journal.index.touches_from(key, touch.counter)):
+            why = f"{message.by}'s {key} says {touch.counter}"
+            if not takes_away(message):
+                raise Refused("A26 CopiedKey", why)
+            log.warning("A26 CopiedKey: what takes rights away is taken all the same: %s", why)
+
+    def check_ceilings(self, signed: Signed, ceilings: list[str]) -> None:
+        """Refuses what a passkey gives under a ceiling that wants a signature by ssh."""
+        found = self.rules.by_ssh.intersection(ceilings)
+        if found and signed.is_by_passkey:
+            raise Refused("A27 NotBySsh", f"under {', '.join(sorted(found))}")
 
     def how(self, way: Way, signed: Signed, message: Message, moment: str) -> str:
         """As what it may be taken: whether it needs a signature, and has one."""
@@ -351,6 +391,7 @@ class Door:
         if not signed.about:
             raise Refused("A22 OtherRequest", "an approval that does not say of what bytes")
         requests, _ = self.held(verdict.of, verdict.no)
+        self.check_ceilings(signed, [json.loads(it)["ceiling"] for it in requests])
         if requests and signed.about not in [digest(it) for it in requests]:
             raise Refused("A22 OtherRequest", f"{verdict.by} was shown another request")
         whys = self.journal.index.whys(signed.about)
@@ -360,17 +401,7 @@ class Door:
 
     def held(self, who: str, no: int) -> tuple[list[str], list[str]]:
         """The requests and verdicts that the desk holds by a name, each as its text."""
-        path = f"/v1/requests/{who}/{no}"
-        try:
-            names = json.loads(self.desk.get(path))["names"]
-            found = [it for it in names if (it["by"], it["no"]) == (who, no)]
-            requests = [canonical(it) for entry in found for it in entry["requests"]]
-            verdicts = [canonical(it["verdict"]) for entry in found for it in entry["verdicts"]]
-        except Silent as fault:
-            raise Refused("K20 DeskAway", str(fault)) from None
-        except (ValueError, KeyError, TypeError):
-            raise Refused("K20 DeskAway", f"the desk answers {path} otherwise") from None
-        return requests, verdicts
+        return held_at(self.desk, who, no)
 
     # what was before
 

@@ -4,10 +4,12 @@ rows are missing or were changed."""
 
 import base64
 import json
+from bisect import bisect_left, insort
 from collections import defaultdict
 from collections.abc import Iterable, Iterator
 from dataclasses import dataclass, field
 from functools import lru_cache
+from operator import attrgetter
 
 from steelnewt_client.messages import Request, Verdict
 from steelnewt_client.moments import seconds
@@ -16,6 +18,7 @@ from steelnewt_door.journal import files_of
 from steelnewt_door.judge import Judge, by_ssh_keygen, print_of_blob
 from steelnewt_door.rows import MESSAGES, BadRow, Last, Row, moment_of, read_row
 from steelnewt_door.signers import BadSigners, Copied, Signers, Version
+from steelnewt_door.touches import Touch, touch_of
 from steelnewt_door.wire import BadSignature
 
 # How many seconds a clock may be set back, before it is said.
@@ -26,6 +29,7 @@ HOWS = {
     "program": "its relay signs for nobody",
     "before": "the desk held it before there was a door",
 }
+COUNTER = attrgetter("counter")
 Counting = set[tuple[str, str, int, str]]
 Theirs = dict[str, tuple[str, str]]  # a row's digest: the moment of it, and its message
 
@@ -130,6 +134,7 @@ class Verifier:
     codes: dict[int, str] = field(default_factory=dict)
     texts: dict[int, str] = field(default_factory=dict)
     cut: str = ""  # up to which moment the desk says that its history was cut
+    touches: dict[str, list[Touch]] = field(default_factory=lambda: defaultdict(list))
 
     def look(
         self, journal: str, messages: list[str] | None, counting: Counting | None = None
@@ -197,13 +202,28 @@ class Verifier:
             version = self.version_of(row)
             key = self.judge.key_of(version, said.by, signed, moment_of(row))
             found.counts["signatures"] += 1
-            if found.counts["signatures"] % self.step == 1 or self.step == 1:
+            self.look_at_touch(signed, row, said, found)
+            is_sampled = found.counts["signatures"] % self.step == 1 or self.step == 1
+            if is_sampled and not signed.is_by_passkey:
                 found.counts["by ssh-keygen"] += 1
                 made = signed.signed_bytes(self.judge.site)
                 by_ssh_keygen(version, said.by, made, moment_of(row))
         except (BadSignature, BadSigners, BadLine) as fault:
             return str(fault)
         return "" if key == row["key"] else f"it is of {key}, and not of {row['key']}"
+
+    def look_at_touch(
+        self, signed: Signed, row: Row, said: Request | Verdict, found: Found
+    ) -> None:
+        """Whether a passkey's counter went on from one message to the next."""
+        if not (touch := touch_of(signed, said.at)):
+            return
+        found.counts["touches"] += 1
+        mine = self.touches[row["key"]]
+        if touch.is_behind(mine[bisect_left(mine, touch.counter, key=COUNTER) :]):
+            why = f"row {row['no']}: {row['key']} says {touch.counter}, and said that before"
+            found.add("COPIED KEY", why, row["message"])
+        insort(mine, touch, key=COUNTER)
 
     def version_of(self, row: Row) -> Version:
         """The version by which a row was judged, where that held when it came (in the second of a
@@ -336,7 +356,9 @@ def said_of(text: str) -> Request | Verdict:
 def summary(found: Found, is_counted: bool) -> Iterator[str]:
     counts = found.counts
     yield f"{counts['rows']} rows, {counts['refused']} messages were refused by the door"
-    yield f"{counts['signatures']} signatures, {counts['by ssh-keygen']} by ssh-keygen again"
+    touches = f", {counts['touches']} of passkeys" if counts["touches"] else ""
+    again = f"{counts['by ssh-keygen']} by ssh-keygen again"
+    yield f"{counts['signatures']} signatures{touches}, {again}"
     yield f"{counts['messages']} messages at the desk, {counts['signed']} signed by their authors"
     if counts["brought"]:
         yield f"{counts['brought']} were brought from other doors"

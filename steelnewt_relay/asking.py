@@ -8,7 +8,7 @@ import flask
 
 from steelnewt_client.messages import BadWord, Wish, checked, command_of, few, number_of
 from steelnewt_client.messages import MOST_COMMANDS, MOST_HOSTS
-from steelnewt_relay import heads, telling
+from steelnewt_relay import handing, heads, telling
 from steelnewt_relay.admission import faults
 from steelnewt_relay.moments import BadTime, in_units, length_of, moment_of
 from steelnewt_relay.outbox import Kept
@@ -134,6 +134,7 @@ def show_form_or_wish(visit: Visit, words: Words) -> Page:
         ceiling=visit.roster.ceilings.get(wish.ceiling),
         warning="; ".join(form.wrong.values()),
         is_signed=visit.config.is_signed,
+        handed=handing.request(visit, wish, reason),
         token=wish_token(visit, wish, reason),
     )
 

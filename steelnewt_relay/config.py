@@ -8,7 +8,7 @@ from datetime import tzinfo
 
 from steelnewt_client.desk import ANSWERS_IN, AnyDesk, BadAddress, Desk, Place
 from steelnewt_client.names import is_label
-from steelnewt_client.signed import SITE
+from steelnewt_client.signed import ORIGIN, SITE
 from steelnewt_relay.caller import Files
 from steelnewt_relay.desks import Desks
 from steelnewt_relay.moments import zone_of
@@ -21,7 +21,7 @@ KEYS = {"desk", "desks", "patience", "relay", "roster", "outbox", "zone", "numbe
 KEYS |= {"tls", "page", "why", "notify", "ssh", "signing"}
 KEYS |= {"share", "days"}
 MOST_DAYS = 36_500
-SIGNING_KEYS = {"site", "required"}
+SIGNING_KEYS = {"site", "required", "confirm"}
 NOTIFY_KEYS = {"program", "seconds", "link", "first", "minutes", "urgent"}
 MOST_MINUTES = 1440  # for which the people who are told first are the only ones
 MOST_PATIENCE = 20  # seconds for which people wait for a desk
@@ -82,23 +82,27 @@ def notify_of(table: dict[str, object]) -> Notify:
 
 @dataclass(frozen=True)
 class Signing:
-    """How people sign (docs/SIGNING.md): the site's name, and whether what is not signed is taken
-    here."""
+    """How people sign (docs/SIGNING.md): the site's name, whether what is not signed is taken here,
+    and the origin of the door's page, where the relay's page leads; empty where there is none."""
 
     site: str
     required: bool
+    confirm: str = ""
 
 
 def signing_of(table: object) -> Signing:
     """The settings below [signing]."""
     if not isinstance(table, dict) or table.keys() - SIGNING_KEYS:
-        raise ValueError("[signing] has site and required, and nothing else")
+        raise ValueError("[signing] has site, required and confirm, and nothing else")
     site, required = table.get("site"), table.get("required", True)
+    confirm = table.get("confirm", "")
     if not isinstance(site, str) or not SITE.fullmatch(site):
         raise ValueError("[signing] site is the name that door.toml has, as desk.example")
     if not isinstance(required, bool):
         raise ValueError("[signing] required is true or false")
-    return Signing(site, required)
+    if not isinstance(confirm, str) or (confirm and not re.fullmatch(ORIGIN, confirm)):
+        raise ValueError("[signing] confirm is the origin of the door's page, https://HOST:8444")
+    return Signing(site, required, confirm)
 
 
 @dataclass(frozen=True)
@@ -127,6 +131,11 @@ class Config:
     def is_signed(self) -> bool:
         """Whether nothing unsigned is sent from here."""
         return self.signing is not None and self.signing.required
+
+    @property
+    def confirm(self) -> str:
+        """Where people sign with passkeys what they send from the page; empty if they do not."""
+        return self.signing.confirm if self.signing and self.signing.required else ""
 
     def open_desk(self, asks_for: float = ANSWERS_IN) -> AnyDesk:
         """The desk, or several that are asked as one. A question takes so many seconds at most."""

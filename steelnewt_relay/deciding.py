@@ -10,7 +10,7 @@ from werkzeug.wrappers import Response
 
 from steelnewt_client.messages import VERDICTS, BadWord, Verdict, Wish, checked, number_of
 from steelnewt_client.moments import stamp
-from steelnewt_relay import heads, telling
+from steelnewt_relay import handing, heads, telling
 from steelnewt_relay.admission import faults
 from steelnewt_relay.asking import wish_token
 from steelnewt_relay.moments import as_asked
@@ -74,6 +74,7 @@ def show_request(by: str, no: int) -> str | tuple[str, int]:
         kinds=kinds_for(visit, standing),
         is_signed=visit.config.is_signed,
         approval=approval_token(visit, standing),
+        handed=approval_handed(visit, standing),
         again=again_token(visit, standing),
         save=visit.token("send-save", no=no) if by == visit.person else "",
     )
@@ -135,6 +136,14 @@ def approval_token(visit: Visit, standing: Standing) -> str:
     return verdict_token(visit, "approve", [(standing.request.by, standing.request.no)], True)
 
 
+def approval_handed(visit: Visit, standing: Standing) -> handing.Handed | None:
+    """The way from there to the door's page, where people sign on one."""
+    if not visit.config.confirm or not approval_token(visit, standing):
+        return None
+    name = standing.request.by, standing.request.no
+    return handing.verdicts(visit, "approve", [name], True)
+
+
 def verdict_token(visit: Visit, kind: str, names: list[Name], is_back: bool = False) -> str:
     """(`is_back` leads to the request's own page again)"""
     return visit.token("send-verdict", kind=kind, names=names, back=is_back)
@@ -174,6 +183,7 @@ def show_verdict() -> str:
     left_out = [it for it in asked if it.warning] if len(names) > 1 else []
     shown = [it for it in asked if it not in left_out]
     sent = [it.name for it in shown] if asked else names
+    is_back = bool(flask.request.args.get("back"))
     return flask.render_template(
         "verdict.html",
         visit=visit,
@@ -184,7 +194,8 @@ def show_verdict() -> str:
         left_out=left_out,
         notes=unseen,
         is_signed=visit.config.is_signed,
-        token=verdict_token(visit, kind, sent, bool(flask.request.args.get("back"))),
+        handed=handing.verdicts(visit, kind, sent, is_back) if shown or unseen else None,
+        token=verdict_token(visit, kind, sent, is_back),
     )
 
 

@@ -6,13 +6,13 @@ from datetime import UTC, timedelta, tzinfo
 
 from steelnewt_client.codes import in_words
 from steelnewt_client.desk import Silent
+from steelnewt_client.letters import plain
 from steelnewt_client.messages import Verdict
 from steelnewt_client.moments import stamp
 from steelnewt_client.told import Grant
 from steelnewt_relay import telling
 from steelnewt_relay.config import Config
 from steelnewt_relay.fates import ARCHIVED, UNKNOWN
-from steelnewt_relay.letters import plain
 from steelnewt_relay.moments import shown
 from steelnewt_relay.outbox import Kept
 from steelnewt_relay.standing import Knowledge, Said, Standing, name_of

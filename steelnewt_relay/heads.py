@@ -5,10 +5,10 @@ from collections.abc import Mapping, Sequence
 from dataclasses import dataclass
 from datetime import UTC, datetime, timedelta, tzinfo
 
+from steelnewt_client.letters import plain
 from steelnewt_client.messages import Wish
 from steelnewt_client.moments import of_stamp, stamp
 from steelnewt_relay import fates
-from steelnewt_relay.letters import plain
 from steelnewt_relay.moments import as_asked, spoken
 from steelnewt_relay.outbox import Kept
 from steelnewt_relay.standing import Said, Standing

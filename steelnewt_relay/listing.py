@@ -7,12 +7,12 @@ import sys
 from collections.abc import Callable
 from datetime import datetime, timedelta, tzinfo
 
+from steelnewt_client.letters import columns, pieces, plain
 from steelnewt_client.messages import BadWord
 from steelnewt_client.moments import now, of_stamp, stamp
 from steelnewt_relay import telling
 from steelnewt_relay.call import DONE, KEPT, Call
 from steelnewt_relay.lists import MOST_LISTED
-from steelnewt_relay.letters import columns, pieces, plain
 from steelnewt_relay.moments import clock, in_units, moment_of, shown
 from steelnewt_relay.outbox import Kept
 from steelnewt_relay.standing import Knowledge, Standing

@@ -23,6 +23,7 @@ from waitress.parser import HTTPRequestParser
 from werkzeug.exceptions import HTTPException
 
 from steelnewt_client.desk import Silent
+from steelnewt_client.letters import plain
 from steelnewt_client.messages import BadWord
 from steelnewt_client.moments import of_stamp
 from steelnewt_client.names import PERSON
@@ -32,7 +33,7 @@ from steelnewt_relay.asking import FIELDS, show_same, show_usual, show_wish
 from steelnewt_relay.config import BadConfig, Config
 from steelnewt_relay.deciding import kinds_waiting, notices, own_kinds, send, show_let
 from steelnewt_relay.deciding import show_request, show_verdict
-from steelnewt_relay.letters import plain
+from steelnewt_relay.handing import take_back
 from steelnewt_relay.moments import BadTime, shown
 from steelnewt_relay.outbox import Kept, OutOfNumbers
 from steelnewt_relay.roster import BadRoster, Roster
@@ -77,17 +78,32 @@ LIMITS: dict[str, Any] = {
     "asyncore_use_poll": True,
     "ident": None,
 }
+POLICY = (
+    "default-src 'none'; style-src 'self'; img-src 'self'; form-action {}; base-uri 'none'; "
+    "frame-ancestors 'none'"
+)
 HEADERS = {
-    "Content-Security-Policy": "default-src 'none'; style-src 'self'; img-src 'self'; "
-    "form-action 'self'; base-uri 'none'; frame-ancestors 'none'",
     "X-Content-Type-Options": "nosniff",
-    "Referrer-Policy": "same-origin",
     "Cache-Control": "no-store",
     "Cross-Origin-Opener-Policy": "same-origin",
 }
 
 
-def caller(secret: str) -> tuple[str, str]:
+def headers_of(confirm: str) -> dict[str, str]:
+    """The headers of each answer. A form may lead to the door's page, where people sign; that is
+    told from which origin it comes."""
+    policy = POLICY.format(f"'self' {confirm}".rstrip())
+    referrer = "strict-origin" if confirm else "same-origin"
+    return HEADERS | {"Content-Security-Policy": policy, "Referrer-Policy": referrer}
+
+
+def is_from_door(confirm: str) -> bool:
+    """Whether a form brings back what was signed on the door's page."""
+    is_signed = flask.request.endpoint == "take_back"
+    return bool(confirm) and is_signed and flask.request.headers.get("Origin") == confirm
+
+
+def caller(secret: str, confirm: str) -> tuple[str, str]:
     """Who is calling and by which key, by the front's word; nobody else has the front's secret. (A
     front sets one header anew, so what it says of the key stands there too, behind the name and a
     mark that no name has: where there is no name, no other word is taken for it.)"""
@@ -98,7 +114,7 @@ def caller(secret: str) -> tuple[str, str]:
     if not re.fullmatch(PERSON, person):
         flask.abort(403, NOBODY)
     if flask.request.headers.get("Sec-Fetch-Site", "none") not in ("none", "same-origin"):
-        if flask.request.method != "GET":
+        if flask.request.method != "GET" and not is_from_door(confirm):
             flask.abort(403, "The form came from another site.")
     return person, by_page(key.strip())
 
@@ -110,14 +126,14 @@ def create_app(config: Config) -> flask.Flask:
     secret, signing_key = config.page_keys()
     tokens = URLSafeTimedSerializer(signing_key, salt="desk-relay page")
     server = Server(config, tokens, Shared(), Shared(PAST_PAUSE), Seen())
-    places = Places(MOST_OF_ONE)
+    places, headers = Places(MOST_OF_ONE), headers_of(config.confirm)
 
     @app.before_request
     def begin() -> flask.Response | None:
         if not HOST.fullmatch(flask.request.headers.get("Host", "")):
             # (no page: its links would need a host)
             return flask.Response(NO_HOST, 400, mimetype="text/plain")
-        person, way = caller(secret)
+        person, way = caller(secret, config.confirm)
         if not FORM.fullmatch(flask.request.headers.get("Content-Type", "")):
             flask.abort(415, "The form is not from this page. Begin again.")
         if flask.request.endpoint != "static":
@@ -138,7 +154,7 @@ def create_app(config: Config) -> flask.Flask:
 
     @app.after_request
     def guard(reply: flask.Response) -> flask.Response:
-        reply.headers.update(HEADERS)
+        reply.headers.update(headers)
         return reply
 
     ours = (OutOfNumbers, BadRoster, Silent, sqlite3.Error, Crowded)
@@ -154,6 +170,8 @@ def create_app(config: Config) -> flask.Flask:
     app.add_url_rule("/verdict", "verdict", show_verdict)
     app.add_url_rule("/let", "let", show_let)
     app.add_url_rule("/send", "send", send, methods=["POST"])
+    if config.confirm:
+        app.add_url_rule("/signed", "take_back", take_back, methods=["POST"])
     app.jinja_env.globals.update(
         telling=telling, heads=heads, shown=shown, of_stamp=of_stamp,
         by_reach=by_reach, unescaped=unescaped, few=few, fields=FIELDS, own_kinds=own_kinds,

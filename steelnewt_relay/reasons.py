@@ -6,8 +6,8 @@ import sqlite3
 from collections.abc import Iterator
 from dataclasses import dataclass, field
 
+from steelnewt_client.letters import plain, tidy
 from steelnewt_client.messages import BadWord
-from steelnewt_relay.letters import plain, tidy
 
 MOST_WHY, MOST_TICKET = 500, 64  # characters
 TICKET = r"[!-~]+"

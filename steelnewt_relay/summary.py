@@ -4,9 +4,9 @@ for how long. Whoever says yes to it has read at least that."""
 from collections.abc import Sequence
 from datetime import datetime, timedelta
 
+from steelnewt_client.letters import plain
 from steelnewt_client.messages import Wish
 from steelnewt_client.moments import of_stamp
-from steelnewt_relay.letters import plain
 from steelnewt_relay.moments import as_asked, spoken
 from steelnewt_relay.reasons import Reason
 from steelnewt_relay.words import unescaped

@@ -4,11 +4,11 @@ from collections.abc import Iterator, Sequence
 from datetime import datetime, timedelta, tzinfo
 
 from steelnewt_client.codes import in_words
+from steelnewt_client.letters import plain, wrapped
 from steelnewt_client.messages import BadWord, Verdict, Wish
 from steelnewt_client.moments import of_stamp, stamp
 from steelnewt_client.told import Grant, Told
 from steelnewt_relay import fates
-from steelnewt_relay.letters import plain, wrapped
 from steelnewt_relay.moments import as_asked, shown, spoken
 from steelnewt_relay.outbox import UNASKED, Kept
 from steelnewt_relay.reasons import Demand, Reason

@@ -9,9 +9,8 @@ import pytest
 
 from door.tests.doors import SITE, Doored, keygen
 from steelnewt_client.desk import Desk
-from steelnewt_client.signed import CHANGES, ENROLS
+from steelnewt_client.signed import CHANGES, ENROLS, enrolling
 from steelnewt_door.changes import Two
-from steelnewt_door.enrolling import words_of
 from steelnewt_door.judge import Judge
 from steelnewt_door.signers import BadSigners, Signers, Version
 
@@ -25,7 +24,7 @@ def still(tmp_path: Path) -> Doored:
 def enrolled(doored: Doored, name: str, key: str, word: str, namespace: str = ENROLS) -> Path:
     """What mydesk writes of a key: the key, and its signature over a word."""
     public = Path(doored.public(key)).read_text().split()[:2]
-    raw = doored.signature(key, words_of(SITE, name, word), namespace)
+    raw = doored.signature(key, enrolling(SITE, name, word), namespace)
     path = doored.folder / f"{key}.enrol"
     path.write_text(f"{' '.join(public)} ssh:{raw}\n")
     return path

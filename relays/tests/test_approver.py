@@ -8,9 +8,9 @@ import pytest
 
 from relays.tests.site import Site
 from relays.tests.test_fuzz import answer
+from steelnewt_client.letters import columns, wrapped
 from steelnewt_relay import telling
 from steelnewt_relay.config import read_config
-from steelnewt_relay.letters import columns, wrapped
 from steelnewt_relay.reasons import Reason
 from steelnewt_relay.summary import by_reach
 

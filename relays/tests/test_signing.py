@@ -6,12 +6,13 @@ import sqlite3
 from contextlib import closing
 from types import SimpleNamespace
 from typing import cast
+from urllib.parse import urlencode
 
 import pytest
 
-from relays.tests.site import Site
-from steelnewt_client.messages import BadWord
-from steelnewt_client.moments import now
+from relays.tests.site import SECRET, PageConnection, Site
+from steelnewt_client.messages import BadWord, Request, Verdict, Wish
+from steelnewt_client.moments import now, stamp
 from steelnewt_client.signed import Signed, reason_digest
 from steelnewt_relay.config import BadConfig, read_config
 from steelnewt_relay.deciding import keep
@@ -123,6 +124,60 @@ def test_what_cannot_be_prepared(quiet_site: Site) -> None:
         assert ran.returncode == 2 and why in ran.stderr, (words, ran)
 
 
+DOOR = "https://door.example:8444"
+
+
+def sent(
+    site: Site, path: str, fields: list[tuple[str, str]], origin: str = DOOR, person: str = "bob"
+) -> tuple[int, str, dict[str, str]]:
+    """What the page answers to a form that comes from an origin."""
+    headers = {"X-Desk-Person": person, "X-Desk-Front": SECRET, "Origin": origin}
+    headers |= {"Sec-Fetch-Site": "cross-site", "Host": "desk.example:8443"}
+    headers["Content-Type"] = "application/x-www-form-urlencoded"
+    with closing(PageConnection(site.socket)) as peer:
+        peer.request("POST", path, urlencode(fields), headers)
+        reply = peer.getresponse()
+        return reply.status, reply.read().decode("utf-8"), dict(reply.getheaders())
+
+
+def test_what_comes_back_from_the_doors_page(quiet_site: Site) -> None:
+    """The form that a person's browser brings back: it is theirs, signed, and from the door."""
+    site = quiet_site
+    signing(site, f'site = "desk.example"\nconfirm = "{DOOR}"')
+    site.start_page()
+    at, assertion = stamp(now()), "webauthn:AA.AA.AA.AA"
+
+    def revoke(by: str = "bob", no: int = 4, signature: str = assertion) -> list[tuple[str, str]]:
+        text = Verdict(by, "revoke", "ann", no, at).text()
+        fields = {"message": text, "about": "", "digest": reason_digest("over", "")}
+        return [*fields.items(), ("why", "over"), ("signature", signature)]
+
+    asked = Request("bob", 1, at, Wish("db-care", ("db1",), "root", ("/usr/bin/id",), at, at))
+    approve = Verdict("bob", "approve", "ann", 4, at).text()
+    rows = [("about", ""), ("digest", ""), ("signature", assertion)]
+    for fields, why in (
+        (revoke(signature="ssh:AAAA"), "nothing was signed"),
+        (revoke(signature=""), "nothing was signed"),
+        (revoke() + revoke()[:1], "nothing was signed"),
+        (revoke(by="carol"), "not prepared for you here"),
+        ([it for it in revoke() if it[0] != "why"], "another reason"),
+        ([("message", asked.text()), *rows], "not prepared for you here"),
+        ([("message", approve), *rows], "there is no ann 4 here"),
+    ):
+        status, page, _ = sent(site, "/signed", fields)
+        assert status == 400 and why in page.lower(), (fields, page)
+    for path, origin in (("/signed", "https://thief.example"), ("/signed", ""), ("/send", DOOR)):
+        status, page, _ = sent(site, path, revoke(), origin)
+        assert status == 403 and "came from another site" in page, (path, origin)
+    assert not site.kept()
+    status, _, headers = sent(site, "/signed", [*revoke(), ("back", "1")])
+    assert status == 303 and headers["Location"].endswith("/r/ann/4?sent=1")
+    assert f"form-action 'self' {DOOR};" in headers["Content-Security-Policy"]
+    [kept] = Outbox(str(site.folder / "outbox.db")).unposted()
+    assert kept.line.decode().split("\t")[1:] == [assertion, "", reason_digest("over", "")]
+    assert kept.reason.why == "over"
+
+
 @pytest.mark.parametrize(
     ("settings", "why"),
     [
@@ -130,6 +185,8 @@ def test_what_cannot_be_prepared(quiet_site: Site) -> None:
         ("", "site is the name"),
         ('site = "a"\nrequired = "yes"', "required is true or false"),
         ('site = "a"\nother = 1', "and nothing else"),
+        ('site = "a"\nconfirm = "door.example"', "confirm is the origin"),
+        ('site = "a"\nconfirm = "https://door.example/"', "confirm is the origin"),
     ],
 )
 def test_settings(quiet_site: Site, settings: str, why: str) -> None:

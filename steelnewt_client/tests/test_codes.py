@@ -9,7 +9,7 @@ import pytest
 from steelnewt_client.codes import FRONT_MEANS, SENTENCES, Fate, in_words, judge
 
 DOCS = Path(__file__).resolve().parents[2] / "docs"
-ADMISSION, DOOR = (range(1, 9), range(20, 26))
+ADMISSION, DOOR = (range(1, 9), range(20, 28))
 FINAL = ["M1", "M2", "M3", *(f"A{number}" for number in (*ADMISSION, *DOOR))]
 MEND = ["P1", "P2", "P20", "T1", "T2", "T3", "T4", "T5", "T6", "T8"]
 AGAIN = ["T7", "K4", "K5", "G1", *(f"K{number}" for number in range(20, 27))]

@@ -1,6 +1,7 @@
 """A message with its signature, as a line; and the one reading that a message has, beside what the
 desk answers by cases/print-messages.toml."""
 
+import hashlib
 import json
 import tomllib
 from pathlib import Path
@@ -8,8 +9,9 @@ from pathlib import Path
 import pytest
 
 from steelnewt_client.messages import Request, Verdict
-from steelnewt_client.signed import MOST_LINE, BadLine, Signed, digest, is_too_long
-from steelnewt_client.signed import list_payload, list_signature, read_line, reason_digest, said_in
+from steelnewt_client.signed import MOST_LINE, BadLine, Signed, challenge, digest, enrolling
+from steelnewt_client.signed import is_too_long, list_payload, list_signature, read_line
+from steelnewt_client.signed import reason_digest, said_in
 
 CASES = Path(__file__).resolve().parents[2] / "cases" / "print-messages.toml"
 VERDICT = '{"at":"20260105083000Z","by":"bob","kind":"approve","no":7,"of":"ann"}'
@@ -78,6 +80,8 @@ def test_a_line_and_back() -> None:
         Signed(VERDICT), Signed(VERDICT, SIGNATURE), Signed(VERDICT, SIGNATURE, ABOUT),
         Signed(VERDICT, SIGNATURE, "", ABOUT), Signed(VERDICT, SIGNATURE, ABOUT, ABOUT),
         Signed(VERDICT, "list:AAAA:AAAA", ABOUT),
+        Signed(VERDICT, "webauthn:A_A.-A.AA.A", ABOUT),
+        Signed(VERDICT, "webauthn-list:AA.AA.AA.AA:AAAA", ABOUT),
     ):  # fmt: skip
         assert read_line(signed.line().encode()) == signed
         assert signed.line().partition("\t")[0] == VERDICT
@@ -87,6 +91,8 @@ def test_a_line_and_back() -> None:
     "rest",
     ["\tx", "\tssh:", "\tssh:A A", "\tgpg:AAAA", "\tssh:AAAA\tx", "\tssh:AAAA\t" + "A" * 64,
      "\tssh:AAAA\t\t2026", "\tssh:AAAA\t\t\t", f"\tssh:AAAA\t\t{ABOUT}\tx",
+     "\twebauthn:AA.AA.AA", "\twebauthn:AA.AA.AA.A=", "\twebauthn:AA.AA.AA.AA:AAAA",
+     "\twebauthn-list:AA.AA.AA.AA", "\twebauthn-list:AA.AA.AA.AA:A_AA", "\twebauthn:AAAA",
      "\tlist:AAAA", "\tlist:AAAA:", "\tssh:AAAA\nx", "\t ssh:AAAA", "\tssh:" + "A" * 8_189],
 )  # fmt: skip
 def test_what_is_no_line(rest: str) -> None:
@@ -134,6 +140,21 @@ def test_a_list_has_each_of_its_messages() -> None:
             strange.signed_bytes("a")
     with pytest.raises(BadLine, match="does not have"):
         Signed(said[0].message, signature, ABOUT).signed_bytes("b")
+
+
+def test_what_a_passkey_is_asked_for() -> None:
+    """A challenge differs where the purpose or the bytes do; a list needs each message too."""
+    asked = [challenge(purpose, what) for purpose in ("a", "b") for what in (b"", b"x", b"a")]
+    assert len(set(asked)) == 6 and {len(it) for it in asked} == {32}
+    assert challenge("a", b"x") == hashlib.sha256(b"a\0x").digest()
+    assert enrolling("site", "ann", "word") == b"site\nann\nword"
+    said = Signed(VERDICT, "", ABOUT)
+    signature = list_signature("AA.AA.AA.AA", [said.said("a")], "webauthn-list")
+    made = Signed(VERDICT, signature, ABOUT)
+    assert made.is_by_passkey and not said.is_by_passkey
+    assert made.signed_bytes("a")[::2] == ("steelnewt-list@v1", b"AA.AA.AA.AA")
+    with pytest.raises(BadLine, match="does not have"):
+        Signed(VERDICT, signature).signed_bytes("a")
 
 
 def test_the_digest_of_a_reason() -> None:

@@ -29,7 +29,7 @@ from tests.packages import package_broker, package_relay, service, syscalls
 DEBS = os.path.join(desk.BUILD, "deb")
 NEEDED = "adduser,ca-certificates,curl,faketime,haproxy,nginx-light,openssl,python3"
 NEEDED += ",python3-jsonschema,sqlite3,openssh-client,tzdata,python3-flask,python3-waitress"
-NEEDED += ",python3-pika,strace,sudo,systemd"
+NEEDED += ",python3-cryptography,python3-fido2,python3-pika,strace,sudo,systemd"
 DOC = "/usr/share/doc/steelnewt"
 TOOLS = ("desk-lint", "desk-import", "desk-used", "desk-roster", "desk-standing")
 TOOLS += ("desk-change-roster", "desk-change-base")
@@ -42,6 +42,7 @@ STORE = "/var/lib/desk/desk.db"
 SOCKET = "unix:/run/desk/desk.sock"
 SECOND = "unix:/run/desk/second.sock"
 AT_DOOR, AT_DOORS_ROOT = (f"/run/desk-door/{it}desk.sock" for it in ("", "root/"))
+AT_PAGE = "/run/desk-confirm/page.sock"
 AT_POSTS = "/run/desk-posts/desk.sock"  # where the desk takes messages behind a door
 STEP = "\n(account|session)\trequired\t+pam_exec.so .*/usr/sbin/desk-host prompt"
 DPKG = ["dpkg", "--force-unsafe-io", "--no-triggers"]  # quick: the root is thrown away
@@ -745,6 +746,30 @@ def relay(trial: Trial) -> None:
     empty(trial)
 
 
+def doors_page(trial: Trial) -> None:
+    """The page at which people sign, as its unit starts it: the front's account opens it, and no
+    relay's."""
+    settings = trial.read("/etc/desk/door.toml")
+    new = settings.replace('origin = ""', 'origin = "https://door.example:8444"', 1)
+    new = new.replace("relay_pages = []", 'relay_pages = ["https://desk.example:8443"]', 1)
+    trial.write("/etc/desk/door.toml", new)
+    made = service.make_runtime(trial.root, "desk-confirm.service")
+    page = service.start(trial.root, "desk-confirm.service")
+    asked = [*asking(AT_PAGE, "/passkey"), "-H", "X-Desk-Person: ann"]
+    until = time.monotonic() + PATIENCE
+    while trial.run(*asked).returncode and time.monotonic() < until:
+        time.sleep(0.2)
+    for account, status in (("www-data", 0), ("desk-relay", 7), ("desk-door", 7), ("nobody", 7)):
+        group = trial.run("id", "-gn", account).stdout.strip()
+        becomes = ["setpriv", "--reuid", account, "--regid", group, "--init-groups"]
+        says = "" if status else "You sign as <strong>ann</strong>"
+        trial.does(f"{account} at the door's page", *becomes, *asked, status=status, says=says)
+    page.terminate()
+    page.communicate(timeout=PATIENCE)
+    service.remove(made)
+    trial.write("/etc/desk/door.toml", settings)
+
+
 def behind_a_door(trial: Trial) -> None:
     """By SIGNING's lines the socket that takes messages opens to the door and root alone, as the
     units start both; front and relay ask at the desk's other one, which takes no message, and bring
@@ -791,6 +816,7 @@ def behind_a_door(trial: Trial) -> None:
         trial.does(what, *by, *words, given=message, says=says)
     held = trial.run(*asking(AT_DOOR, "/v1/messages")).stdout
     trial.check("the desk has root's alone", held == f"{revoke}\n", held)
+    doors_page(trial)
     door.terminate()
     said, _ = door.communicate(timeout=PATIENCE)
     trial.check("the door ends", door.returncode == 0 and "ended, as it was" in said, said)
