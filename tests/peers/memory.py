@@ -243,8 +243,8 @@ def made_group() -> Group | None:
 
 
 def before_the_kernel(room: str) -> Iterator[Row]:
-    """In a unit whose memory is what its desk may have and the rest, the desk answers K5, and the
-    kernel ends nothing. Without the desk's own limit the kernel kills it there."""
+    """In a group of the kernel's that has what its desk may have and the rest, as the unit has, the
+    desk answers K5 and goes on: the kernel does not end it."""
     program = desk.named()
     if "NOT PROVED" in desk.run([*program, "--version"]).stdout:
         return
@@ -253,28 +253,21 @@ def before_the_kernel(room: str) -> Iterator[Row]:
     if unit is None:
         print("no control group can be made: that the kernel kills nothing is not tried")
         return
-    for what, has_limit in (("with its limit", True), ("without", False)):
-        address = f"unix:{room}/unit-{int(has_limit)}.sock"
-        words = ["sh", "-c", INTO, "sh", unit.folder, *program, "serve", *files, address]
-        with subprocess.Popen(words, stdout=subprocess.PIPE) as job:
-            assert job.stdout is not None
-            job.stdout.readline()
-            found = asked_within(job, unit, Desk(address), has_limit)
-            wanted = [503, 200, -signal.SIGTERM] if has_limit else [0, 0, -signal.SIGKILL]
-            yield f"a unit whose desk is {what}", found == wanted, f"{found}"
+    address = f"unix:{room}/unit.sock"
+    words = ["sh", "-c", INTO, "sh", unit.folder, *program, "serve", *files, address]
+    with subprocess.Popen(words, stdout=subprocess.PIPE) as job:
+        assert job.stdout is not None
+        job.stdout.readline()
+        found = asked_within(job, unit, Desk(address))
+        yield "in a group of the kernel's", found == [503, 200, -signal.SIGTERM], f"{found}"
     os.rmdir(unit.folder)
 
 
-def asked_within(
-    job: subprocess.Popen[bytes], unit: Group, peer: Desk, has_limit: bool
-) -> list[int]:
+def asked_within(job: subprocess.Popen[bytes], unit: Group, peer: Desk) -> list[int]:
     """The statuses of a question for all messages and of one behind it, and how the desk ended."""
     limit = data_of(job.pid) + ROOM
-    if has_limit:
-        subprocess.run(["prlimit", "--pid", str(job.pid), f"--data={limit}"], check=True)
-        unit.may_have(limit + REST)
-    else:
-        unit.may_have(data_of(job.pid, "RssAnon") + ROOM // 2)
+    subprocess.run(["prlimit", "--pid", str(job.pid), f"--data={limit}"], check=True)
+    unit.may_have(limit + REST)
     found = []
     for route in ("/v1/messages", "/v1/count"):
         try:
@@ -285,10 +278,10 @@ def asked_within(
     return [*found, job.wait()]
 
 
-def data_of(process: int, what: str = "VmData") -> int:
-    """The memory that a process has asked for, or another line of its status, in bytes."""
+def data_of(process: int) -> int:
+    """The memory that a process has asked for, in bytes."""
     status = desk.read(f"/proc/{process}/status")
-    return 1024 * int(next(it.split()[1] for it in status.splitlines() if what in it))
+    return 1024 * int(next(it.split()[1] for it in status.splitlines() if "VmData" in it))
 
 
 def main() -> None:
