@@ -287,8 +287,8 @@ class Door:
     def key_of(
         self, way: Way, signed: Signed, message: Message, moments: tuple[str, str]
     ) -> tuple[str, str]:
-        """The key that signed it, and the version by which that is its author's. `moments` are
-        those by which it is judged, and at which it came here first."""
+        """The key that signed a message, and the version by which that is its author's. `moments`
+        are the one by which the message is judged, and the one at which this door had it first."""
         if not signed.signature:
             return "", ""
         at, first = moments

@@ -88,7 +88,7 @@ class Acks:
         self._settled.add(tag)
 
     def set_aside(self, tag: int) -> None:
-        """Those behind it do not wait for it."""
+        """No message behind this one waits for its answer."""
         self._aside.add(tag)
 
     def due(self) -> list[tuple[int, bool]]:

@@ -176,9 +176,9 @@ def test_a_door_that_lags_in_its_signers(two: Two) -> None:
 
 
 def test_a_key_that_ended_on_the_way(two: Two) -> None:
-    """Signed and taken at the other door before the key was lost; it comes here behind that. What
-    is signed with it from then on is taken nowhere, and the other door's own signers give nothing
-    here."""
+    """A message that was signed and taken at the other door before the key was lost comes here
+    behind that. No door takes what the key signs later, and the signers of the other door give
+    nothing at this one."""
     line = two.there.sign("bob", two.there.verdict(kind="revoke"))
     assert two.there.post(line) == "ack"
     time.sleep(1.1)

@@ -104,7 +104,7 @@ def test_a_relay_that_signs_for_nobody(fresh: Doored) -> None:
     assert fresh.in_force()
     assert [it["how"] for it in fresh.came()] == ["program", "signed"]
     assert fresh.post(fresh.request(no=2, at=stamp(now() - timedelta(hours=2)))) == "A21 NotOfNow"
-    # what slept counts for no request of it either
+    # an approval that slept counts for no request of the program's relay
     assert Desk(fresh.site.url).post("chat", fresh.verdict(no=7).encode()).said == "ack"
     assert fresh.post(fresh.request(no=7)) == "A24 NameTaken"
 
@@ -128,8 +128,8 @@ def test_an_auditor_knows_such_relays(fresh: Doored) -> None:
 
 
 def test_the_auditors_settings(tmp_path: Path) -> None:
-    """They say by themselves since when all sign, which relays sign for nobody, and where other
-    doors' journals are."""
+    """The auditors' own file says since when all sign, which relays sign for nobody, and where
+    the journals of other doors are."""
     path = tmp_path / "auditor.toml"
     more = 'signed_since = "20260105090000Z"\nprograms = ["tickets"]\n[doors]\nb = "/copies/b"\n'
     path.write_text(f'site = "{SITE}"\ndesk = "unix:/x"\nroster = "r"\nbase = "b"\n{more}')

@@ -218,7 +218,7 @@ def test_a_feed_that_is_killed_forgets_nothing(tmp_path: Path, pair: Pair) -> No
 
 
 def test_behind_a_door_it_feeds_nothing(tmp_path: Path) -> None:
-    """It would post past the door, without anybody's signature."""
+    """A feed would post past the door, without anybody's signature."""
     environment = {"PATH": os.environ["PATH"], "ADDR": "unix:/run/desk-posts/desk.sock"}
     words = ["sh", FEED, "https://desk.example", "chat"]
     ran = subprocess.run(words, cwd=tmp_path, env=environment, capture_output=True, text=True)

@@ -17,7 +17,8 @@ from tests.several.sites import Post
 
 NAMES = ["a", "b", "c"]
 ROUNDS, COUNT = 3, 1_500
-LEAST, SHARE = 200, 0.5  # messages a second in memory; of the bare desks' on a disk
+# messages a second in memory, and the share of the bare desks' rate on a disk
+LEAST, SHARE = 200, 0.5
 
 
 def bare(posts: list[Post]) -> list[Post]:

@@ -115,7 +115,7 @@ class Door:
             self.start()
 
     def lose_journal(self) -> None:
-        """Its disk is gone, and the desk's too."""
+        """The disks of the door and of the desk are gone."""
         with self.lock:
             self.program.end(signal.SIGKILL)
             self.answers.end(signal.SIGKILL)

@@ -55,7 +55,7 @@ class Grant:
 
 
 class People:
-    """Those of the site, with their keys; what they say is drawn by chance."""
+    """The people of the site, with their keys. What these say is drawn by chance."""
 
     def __init__(self, seed: int) -> None:
         self.chance, self.no = random.Random(seed), 0
