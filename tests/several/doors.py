@@ -343,7 +343,7 @@ def run(words: argparse.Namespace, folder: pathlib.Path, started: Programs) -> i
     bench = DoorBench(plan, words.seed, words.desk or PROGRAM, folder, started)
     bench.tell(f"seed {words.seed}")
     start(bench)
-    posts = bench.people.traffic(plan.messages // 6)
+    posts = bench.people.traffic(plan.messages // 12)
     forged = forge(bench, posts)
     honest = withheld(bench)
     honest += disturb(bench, posts, words.seed)
