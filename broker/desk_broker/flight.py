@@ -207,13 +207,19 @@ class Flight:
             if until <= now:
                 self._failed[delivery.tag] = number, float("inf"), delivery
                 return delivery
-        for aside in self._aside.values():
-            if aside.due <= now:
-                aside.due = float("inf")
-                return aside.delivery
+        if aside := self._aside_due(now):
+            aside.due = float("inf")
+            return aside.delivery
         if self._waiting and self._waiting[0].tag <= self._last_acknowledged + AHEAD:
             return self._waiting.popleft()
         return None
+
+    def _aside_due(self, now: float) -> Aside | None:
+        """The one that waits and is posted again now: one at a time, so that whatever waits takes
+        little from what is new."""
+        first = min(self._aside.values(), key=lambda it: it.due, default=None)
+        is_one_posted = any(it.due == float("inf") for it in self._aside.values())
+        return first if first and first.due <= now and not is_one_posted else None
 
     def _begin(self, delivery: Delivery) -> None:
         try:

@@ -3,6 +3,7 @@ holds up no other: it is set aside, posted again, and put by in the end."""
 
 from __future__ import annotations
 
+import socket
 import time
 from typing import Any, cast
 
@@ -16,11 +17,14 @@ from desk_broker.fill import fill
 from desk_broker.flight import POSTS, Acks, Delivery, Flight
 from desk_broker.tally import Tally
 from steelnewt_client.codes import Answer, Fate, judge
-from steelnewt_client.desk import Desk
+from steelnewt_client.desk import Desk, Post
 from test_consume import BROKER, Queue
 
 TAKEN, AWAY = Answer(Fate.TAKEN, "ack"), judge(503, "K20 DeskAway\n")
 NO_REQUEST, LAGS = judge(503, "K22 NoRequestYet\n"), judge(503, "K27 DoorLags\n")
+
+
+LATER = b"HTTP/1.1 503 No\r\nContent-Length: 17\r\n\r\nK22 NoRequestYet\n"
 
 
 class Withheld:
@@ -32,6 +36,22 @@ class Withheld:
     def begin(self, relay: str, body: bytes) -> Answer:
         self.posted.append(body)
         return self.said if body in self.waiting else TAKEN
+
+
+class Held:
+    """A desk that says what it is told to, and holds each post of which it is told nothing."""
+
+    def __init__(self) -> None:
+        self.said, self.open, self.peers = dict[bytes, bytes](), list[bytes](), list[socket.socket]()
+
+    def begin(self, relay: str, body: bytes) -> Post:
+        ours, theirs = socket.socketpair()
+        self.peers.append(theirs)
+        if said := self.said.get(body):
+            theirs.sendall(said)
+        else:
+            self.open.append(body)
+        return Post(ours, 60.0)
 
 
 def started(desk: object, count: int) -> Flight:
@@ -61,6 +81,27 @@ def test_others_go_on_beside_one_that_waits(said: Answer) -> None:
     assert 3 <= desk.posted.count(b"3") < 20, "it is posted again, and not all the time"
     desk.waiting.clear()
     assert answered(flight, 4) == {3: TAKEN, 7: TAKEN}
+    flight.end()
+
+
+def test_what_waits_takes_little_from_what_is_new() -> None:
+    """Of 16 posts at a time one is of what waits, however much that is."""
+    waiting = [b"%d" % tag for tag in range(1, 101)]
+    posts = Held()
+    flight = Flight("a", cast(Desk, posts), Tally("a"))
+    for tag in range(1, 101):
+        flight.begin(Delivery(tag, "web", b"%d" % tag, None))
+    flight.acknowledged(10_000)
+    posts.said = {it: LATER for it in waiting}
+    answered(flight, 1)
+    assert len(list(flight.set_aside())) == 100
+    posts.said = {}
+    time.sleep(0.3)
+    for tag in range(101, 201):
+        flight.begin(Delivery(tag, "web", b"%d" % tag, None))
+    for _ in range(20):
+        flight.go_on(0.02)
+    assert len(posts.open) == POSTS and sum(it in waiting for it in posts.open) == 1
     flight.end()
 
 

@@ -134,7 +134,7 @@ def test_the_auditors_settings(tmp_path: Path) -> None:
     more = 'signed_since = "20260105090000Z"\nprograms = ["tickets"]\n[doors]\nb = "/copies/b"\n'
     path.write_text(f'site = "{SITE}"\ndesk = "unix:/x"\nroster = "r"\nbase = "b"\n{more}')
     site = read_auditor(str(path)).site()
-    assert (site.since, site.programs) == ("20260105090000Z", {"tickets"})
+    assert (site.since, site.programs) == ("20260105090000Z", frozenset({"tickets"}))
     assert site.others == {"b": "/copies/b"}
     example = Path(__file__).resolve().parents[1] / "auditor.example.toml"
     assert read_auditor(str(example)).site().others == {}

@@ -137,7 +137,7 @@ def enrol_late(bench: DoorBench) -> list[Post]:
 
 def wait_for_line(door: Door, line: str) -> bool:
     with contextlib.suppress(Failure):
-        wait_until(f"{line} of {door.desk.name}", lambda: line in door.program.text(), 300, 0.2)
+        wait_until(f"{line} of {door.desk.name}", lambda: line in door.program.text(), PATIENCE, 0.2)
         return True
     return False
 
@@ -343,7 +343,7 @@ def run(words: argparse.Namespace, folder: pathlib.Path, started: Programs) -> i
     bench = DoorBench(plan, words.seed, words.desk or PROGRAM, folder, started)
     bench.tell(f"seed {words.seed}")
     start(bench)
-    posts = bench.people.traffic(plan.messages // 6)
+    posts = bench.people.traffic(plan.messages // 12)
     forged = forge(bench, posts)
     honest = withheld(bench)
     honest += disturb(bench, posts, words.seed)
