@@ -13,6 +13,7 @@ from steelnewt_client.desk import Desk, Silent
 from steelnewt_client.messages import Request, Verdict, canonical
 from steelnewt_client.moments import seconds, stamp_of
 from steelnewt_client.signed import BadLine, Signed, digest, read_line, said_in
+from steelnewt_door.assertions import assertion_in
 from steelnewt_door.changes import Two
 from steelnewt_door.crew import Locks
 from steelnewt_door.index import Before, Known
@@ -78,10 +79,15 @@ def made_here(version: Version, who: str, signed: Signed, at: str) -> bool:
     """Whether a key that counts here says that it made a signature, so that no other signers would
     judge it otherwise; also where it has not the form of one."""
     try:
-        made = parts_of(base64.b64decode(signed.signature.split(":")[1])).key
+        if signed.is_by_passkey:
+            made = assertion_in(signed.signature).id
+            known = [(it, it.passkey().id) for it in version.passkeys()]
+        else:
+            made = parts_of(base64.b64decode(signed.signature.split(":")[1])).key
+            known = [(it, it.blob) for it in version.signers()]
     except (BadSignature, ValueError):
         return True
-    return any(it.blob == made for it in version.signers() if it.name == who and it.counts_at(at))
+    return any(key == made for it, key in known if it.name == who and it.counts_at(at))
 
 
 def takes_away(message: Message | None) -> bool:

@@ -13,6 +13,7 @@ from pathlib import Path
 
 import pytest
 
+from door.tests.authenticator import PAGE, Authenticator, add
 from door.tests.doors import SITE, TOP, Doored, posted, program, ran
 from steelnewt_client.codes import Fate, judge
 from steelnewt_client.messages import Request, Wish
@@ -173,6 +174,22 @@ def test_a_door_that_lags_in_its_signers(two: Two) -> None:
     time.sleep(1.2)
     two.bring()
     assert two.here.post(Signed(thief.message, broken.signature)) == "A20 BadSignature"
+
+
+def test_a_passkey_that_this_door_lacks(two: Two) -> None:
+    two.configure(PAGE)
+    for it in (two.there, two.here):
+        two.again(it)
+    key = Authenticator()
+    add(two.there, "carol", key)
+    line = key.sign(two.there.verdict(by="carol", kind="revoke"))
+    assert two.there.post(line) == "ack"
+    assert two.here.post(line) == "K27 DoorLags"
+    two.here.signer("take", str(two.there.folder / "signers"))
+    assert two.here.post(line) == "ack"
+    # what another page asked the same passkey for is a forgery at both
+    forged = key.sign(two.there.verdict(by="carol", kind="revoke", no=2), origin="https://x.example")
+    assert [it.post(forged) for it in (two.there, two.here)] == ["A20 BadSignature"] * 2
 
 
 def test_a_key_that_ended_on_the_way(two: Two) -> None:
