@@ -1,10 +1,9 @@
 //! The messages of archives, which a cut took from a store.
 
-use crate::sources::lines;
 use crate::trouble::Trouble;
 use desk_cut::fill;
-use desk_process::Lines;
 use desk_store::{Found, Keeper, MemoryKeeper};
+use line_input::{BoundedLines, lines_of};
 use messages::{Message, MessageFault, MessageReader};
 use std::alloc::Global;
 use std::fs::File;
@@ -18,7 +17,7 @@ pub(crate) fn bytes_of(rt: &HostRuntime, path: &str) -> Result<Vec<u8>, Trouble>
         Err(error) => return Err(Trouble::of_system(rt.alloc(), path, error)),
     };
     let mut bytes = Vec::new(rt.alloc());
-    match Lines::new(file).read_to_end(&mut bytes) {
+    match BoundedLines::new(file).read_to_end(&mut bytes) {
         Ok(_) => Ok(bytes),
         Err(error) => Err(Trouble::of_system(rt.alloc(), path, error)),
     }
@@ -39,7 +38,7 @@ fn at_line(rt: &HostRuntime, path: &str, number: usize, fault: MessageFault) -> 
 /// it was cut short.
 fn add_archive(rt: &HostRuntime, path: &str, messages: &mut Vec<Message>) -> Result<(), Trouble> {
     let bytes = bytes_of(rt, path)?;
-    let lines = lines(rt.alloc(), bytes.as_slice())?;
+    let lines = lines_of(rt.alloc(), bytes.as_slice())?;
     drop(bytes);
     let mut reader = MessageReader::new(rt.alloc());
     for (index, line) in lines.iter().enumerate() {

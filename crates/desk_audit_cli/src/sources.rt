@@ -2,10 +2,8 @@
 
 use crate::trouble::Trouble;
 use desk::{Desk, MemoryKeeper, Refusal};
-use desk_process::Lines;
-use std::alloc::Global;
+use line_input::{BoundedLines, lines_of};
 use std::io::{BufReader, Read, Write};
-use std::mem;
 
 /// The bytes of the standard input. A line that is too long for a message is cut short, but is
 /// still too long.
@@ -14,27 +12,10 @@ pub(crate) fn input(rt: &HostRuntime) -> Result<Vec<u8>, Trouble> {
         return Err(Trouble::NoMemory);
     };
     let mut bytes = Vec::new(rt.alloc());
-    match Lines::new(reader).read_to_end(&mut bytes) {
+    match BoundedLines::new(reader).read_to_end(&mut bytes) {
         Ok(_) => Ok(bytes),
         Err(error) => Err(Trouble::of_system(rt.alloc(), "standard input", error)),
     }
-}
-
-/// The lines of the bytes, and what comes after the last newline, unless that is empty.
-pub(crate) fn lines(alloc: Global, bytes: &[u8]) -> Result<Vec<Vec<u8>>, Trouble> {
-    let mut lines = Vec::new(alloc);
-    let mut line = Vec::new(alloc);
-    for byte in bytes {
-        if *byte == b'\n' {
-            lines.push(mem::replace(&mut line, Vec::new(alloc)))?;
-        } else {
-            line.push(*byte)?;
-        }
-    }
-    if !line.is_empty() {
-        lines.push(line)?;
-    }
-    Ok(lines)
 }
 
 /// Says on the standard error why the desk does not take a line. An archive is named before it.
@@ -77,7 +58,7 @@ pub(crate) fn take_lines(
     bytes: &[u8],
 ) -> Result<(), Trouble> {
     let relay = String::from_str(rt.alloc(), desk.roster().first_relay().as_str())?;
-    let lines = lines(rt.alloc(), bytes)?;
+    let lines = lines_of(rt.alloc(), bytes)?;
     for (index, line) in lines.iter().enumerate() {
         if let Some(refusal) = take(desk, relay.as_str(), line)? {
             complain(rt, archive, index.saturating_add(1), refusal)?;

@@ -17,7 +17,8 @@ use Rattle.desk_commands.specs.Files.{AreFilesOf}
 use Rattle.desk_commands.specs.Kept.{AroundJob, held_in, keeps, kept}
 use Rattle.desk_commands.specs.Leaving.{AreSomeTaken, KeepsAfterRefusal, LeavesDelivered, LeavesTaken}
 use Rattle.desk_commands.specs.Leaving.{OverOpened, SaysTaking, TellsBefore, TellsRefusal, WasOpened}
-use Rattle.desk_commands.specs.Lines.{AreRead, IsBrought, from_relay, input_lines}
+use Rattle.line_input.specs.Lines.{input_lines}
+use Rattle.desk_commands.specs.Lines.{AreRead, IsBrought, from_relay}
 use Rattle.desk_commands.specs.Taking.{Takes}
 use Rattle.desk_commands.specs.Telling.{AppendsFront, refusal_line}
 use Rattle.desk_commands.specs.declared.answer.Answer.{Answer}

@@ -1,4 +1,3 @@
-pub mod LineLemmas
 pub mod OverLemmas
 pub mod OpenedLemmas
 pub mod ComplaintLemmas
@@ -13,3 +12,4 @@ pub mod TellingLemmas
 pub mod LeavingLemmas
 pub mod WantLemmas
 pub mod LivingLemmas
+pub mod CutLine

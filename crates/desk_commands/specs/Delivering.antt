@@ -12,7 +12,8 @@ use Rattle.desk.specs.declared.refusal.Refusal.{Refusal}
 use Rattle.desk.specs.declared.refusal.Refusal.TheVariants.{Storage}
 use Rattle.desk_commands.specs.Files.{EndsMaking}
 use Rattle.desk_commands.specs.Kept.{AroundJob}
-use Rattle.desk_commands.specs.Lines.{from_relay, input_lines}
+use Rattle.line_input.specs.Lines.{input_lines}
+use Rattle.desk_commands.specs.Lines.{from_relay}
 use Rattle.desk_commands.specs.declared.refusal.JobRefusal.{JobRefusal}
 use Rattle.desk_commands.specs.declared.refusal.JobRefusal.TheVariants as reasons
 use Rattle.desk_args.specs.declared.status.ExitStatus.{ExitStatus}

@@ -12,7 +12,8 @@ use Rattle.desk.specs.declared.refusal.Refusal.{Refusal}
 use Rattle.desk_commands.specs.Answers.{HasAnswer, IsAnswer, IsCause, OfFiles}
 use Rattle.desk_commands.specs.Files.{AreFilesOf, IsRosterFile}
 use Rattle.desk_commands.specs.Kept.{Keeps, AroundJob, held}
-use Rattle.desk_commands.specs.Lines.{from_relay, input_lines}
+use Rattle.line_input.specs.Lines.{input_lines}
+use Rattle.desk_commands.specs.Lines.{from_relay}
 use Rattle.desk_commands.specs.Taking.{AreTaken, HeldWith}
 use Rattle.desk_commands.specs.Telling.{AppendsFront, refusal_line}
 use Rattle.desk_commands.specs.Wanting.{IsWanting, TellsWant}

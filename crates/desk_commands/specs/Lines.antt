@@ -1,19 +1,12 @@
 -- The lines of an input, as deliveries of a relay, and the messages that they bring.
-use Rattle.std.specs.Prelude.{◌≡◌, ◌==◌, ℕ, List, [], ◌∷◌, Contains}
-use Rattle.std.specs.Prelude.{IfSome, Option, if◌then◌else◌, map}
-use Rattle.std.specs.List.{onto_first}
+use Rattle.std.specs.Prelude.{◌≡◌, ℕ, List, Contains, IfSome, Option, map}
 use Rattle.sudo_words.specs.declared.cmnd.Cmnd.{Cmnd}
 use Rattle.messages.specs.declared.message.Message.{Message}
 use Rattle.roster.specs.Fields.{RosterFields}
 use Rattle.grants.specs.Admission.{Admits}
 use Rattle.desk_store.specs.Sets.{Lists}
+use Rattle.line_input.specs.Lines.{input_lines}
 use Rattle.desk.specs.Delivery.{Delivery, IsBodyOf}
-
--- The lines of an input: the bytes before each newline, and those after the last one, if there are
--- any.
-unfoldable pub input_lines : List ℕ → List (List ℕ)
-input_lines [] = []
-input_lines (b ∷ bs) = if b == 10 then [] ∷ input_lines bs else onto_first b (input_lines bs)
 
 -- each line, as the relay brings it
 abbrev pub from_relay : (relay : List ℕ) → List (List ℕ) → List Delivery

@@ -11,7 +11,8 @@ use Rattle.desk.specs.Delivery.{Answers, WasWanting}
 use Rattle.desk.specs.Refusals.{refusal_text}
 use Rattle.desk.specs.declared.ack.Ack.{Ack}
 use Rattle.desk.specs.declared.refusal.Refusal.{Refusal}
-use Rattle.desk_commands.specs.Lines.{AreBrought, IsBrought, from_relay, input_lines}
+use Rattle.line_input.specs.Lines.{input_lines}
+use Rattle.desk_commands.specs.Lines.{AreBrought, IsBrought, from_relay}
 use Rattle.desk_args.specs.declared.task.Store.{Store}
 use Rattle.desk_args.specs.declared.task.Store.TheVariants.{File, Memory}
 

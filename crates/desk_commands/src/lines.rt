@@ -2,13 +2,14 @@
 
 ghost use Rattle.std.specs.Prelude.{◌≡◌, ◌⊎◌, IfErr, IfOk, IfSome, map};
 ghost use Rattle.desk.specs.Delivery.{delivery_of};
-ghost use Rattle.desk_commands.specs.Lines.{AreRead, from_relay, input_lines};
+ghost use Rattle.line_input.specs.Lines.{input_lines};
+ghost use Rattle.desk_commands.specs.Lines.{AreRead, from_relay};
 ghost use Rattle.desk_commands.specs.declared.refusal.JobRefusal.TheVariants as reasons;
 
 use crate::refusal::JobRefusal;
+use line_input::lines_of;
 use std::alloc::{AllocError, Global};
-use std::io::Read;
-use std::{io, mem};
+use std::io::{self, Read};
 
 /// All that an input has left.
 fn whole<R: Read>(alloc: Global, input: &mut R) -> Result<Vec<u8>, JobRefusal>
@@ -23,26 +24,21 @@ fn whole<R: Read>(alloc: Global, input: &mut R) -> Result<Vec<u8>, JobRefusal>
     }
 }
 
-/// The lines of a text, each as the relay brings it: the bytes before each newline, and those after
-/// the last one, if there are any.
-fn lines(alloc: Global, relay: &str, bytes: &[u8]) -> Result<Vec<(String, Vec<u8>)>, AllocError>
+/// The lines of the bytes, each as the relay brings it.
+fn deliveries(
+    alloc: Global,
+    relay: &str,
+    bytes: &[u8],
+) -> Result<Vec<(String, Vec<u8>)>, AllocError>
     ensures { IfOk result
         (λ v. map delivery_of v.items ≡ from_relay relay.now (input_lines bytes.now)) }
 {
-    let mut lines = Vec::new(alloc);
-    let mut line = Vec::new(alloc);
-    for byte in bytes {
-        if *byte == b'\n' {
-            let name = String::from_str(alloc, relay)?;
-            lines.push((name, mem::replace(&mut line, Vec::new(alloc))))?;
-        } else {
-            line.push(*byte)?;
-        }
+    let mut deliveries = Vec::new(alloc);
+    for line in lines_of(alloc, bytes)? {
+        let name = String::from_str(alloc, relay)?;
+        deliveries.push((name, line))?;
     }
-    if !line.is_empty() {
-        lines.push((String::from_str(alloc, relay)?, line))?;
-    }
-    Ok(lines)
+    Ok(deliveries)
 }
 
 /// The lines that an input has left, each as the relay brings it.
@@ -56,5 +52,5 @@ pub fn read_lines<R: Read>(
     ensures err { IfErr result (λ e. (e ≡ reasons.FileFailed) ⊎ (e ≡ reasons.NoMemory)) }
 {
     let bytes = whole(alloc, input)?;
-    Ok(lines(alloc, relay, bytes.as_slice())?)
+    Ok(deliveries(alloc, relay, bytes.as_slice())?)
 }

@@ -6,7 +6,6 @@
 //! error.
 #![tactic(auto)]
 
-mod bounded;
 mod changes;
 mod changing;
 mod connection;
@@ -24,9 +23,9 @@ mod stores;
 mod streams;
 mod taking;
 mod trouble;
+mod watched;
 mod working;
 
-pub use bounded::Lines;
 pub use files::{MOST_POLICY, MOST_ROSTER, read_file};
 pub use streams::hold_streams;
 pub use working::work;

@@ -1,15 +1,16 @@
 //! Doing a job over the process's files, database, streams and sockets.
 
-use crate::bounded::{Lines, Watched};
 use crate::changing::tell_changes;
 use crate::files::files;
 use crate::listener::Words;
 use crate::serving::serve;
 use crate::stores::{Opened, close, open_store, place_of};
 use crate::trouble::{Trouble, tell_failed};
+use crate::watched::Watched;
 use desk::{Keeper, MemoryKeeper};
 use desk_commands::{ExitStatus, Job, JobRefusal, Sync, finish, run};
 use desk_store::SqliteKeeper;
+use line_input::BoundedLines;
 use sqlite::Alter;
 use sqlite_disk::{Start, Unknown, Wary};
 use std::io::{BufReader, BufWriter};
@@ -29,7 +30,7 @@ fn run_on_streams<K: Keeper + Drop>(
     let Ok(mut out) = BufWriter::new(alloc, Watched::new(rt.stdout())) else {
         return (Err(Trouble::from(JobRefusal::NoMemory)), keeper);
     };
-    let mut input = Lines::new(reader);
+    let mut input = BoundedLines::new(reader);
     let mut err = rt.stderr();
     let (status, keeper) = run(alloc, job, files, keeper, &mut input, &mut out, &mut err);
     let status = finish(status, &mut out, &mut err);
