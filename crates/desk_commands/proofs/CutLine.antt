@@ -34,10 +34,13 @@ long_answers : (f : RosterFields Cmnd) (relay a b : List ℕ) (answer : Result A
 long_answers f relay a b answer long longer (inl unknown) = inl unknown
 long_answers f relay a b answer long longer (inr (known, is)) = inr (known, long_alike f a b answer long longer is)
 
-pub answered_alike : (f : RosterFields Cmnd) (relay line : List ℕ) (answer : Result Ack Refusal)
-    → Answers f (record { relay = relay; body = take most_kept line }) answer ↔ Answers f (record { relay = relay; body = line }) answer
+abbrev IsAnsweredAlike : (f : RosterFields Cmnd) (relay line : List ℕ) (answer : Result Ack Refusal) → Type 0
+IsAnsweredAlike f relay line answer =
+    Answers f (record { relay = relay; body = take most_kept line }) answer ↔ Answers f (record { relay = relay; body = line }) answer
+
+pub answered_alike : (f : RosterFields Cmnd) (relay line : List ℕ) (answer : Result Ack Refusal) → IsAnsweredAlike f relay line answer
 answered_alike f relay line answer =
-    elim (cases_lt 16_384 (length line)) as (λ _. Answers f (record { relay = relay; body = take most_kept line }) answer ↔ Answers f (record { relay = relay; body = line }) answer) [
+    elim (cases_lt 16_384 (length line)) as (λ _. IsAnsweredAlike f relay line answer) [
       | inl long ↦
           let cut : 16_384 < length (take most_kept line) = omega (arith, long, length-take most_kept line) in
           (long_answers f relay (take most_kept line) line answer cut long, long_answers f relay line (take most_kept line) answer long cut)

@@ -1,5 +1,6 @@
 -- How bytes are cut, piece by piece.
-use Rattle.std.proofs.Common.{◌≡◌, ℕ, ◌+◌, ◌==◌, ◌<◌, nat_lt, List, [], ◌∷◌, ◌++◌, ◌∙◌, Option, Some, None, inl, inr, ap, append_assoc, arith, drop, get_or, length, refl, sym, take, unwrap_or}
+use Rattle.std.proofs.Common.{◌≡◌, ℕ, ◌+◌, ◌==◌, ◌<◌, nat_lt, List, [], ◌∷◌, ◌++◌, ◌∙◌, Option, Some, None, inl, inr, ap, append_assoc}
+use Rattle.std.proofs.Common.{arith, drop, get_or, length, refl, sym, take, unwrap_or}
 use Rattle.std.specs.Option.{option_map}
 use Rattle.std.specs.Io.KnownBytes.{Consumes, IsAtEnd, Keeps}
 use Rattle.std.proofs.lemmas.List.{append-nil, drop-drop, get_or-drop, take_more}
@@ -25,13 +26,15 @@ module _ (most : ℕ) where
   unfolding kept_after
   kept-first kept b bs = refl
 
-  pub cut-first : (kept b : ℕ) (bs : List ℕ)
-      → cut_after most kept (b ∷ bs) ≡ byte_of (with_byte most kept b) b ++ cut_after most (unwrap_or (with_byte most kept b) kept) bs
+  abbrev IsCutFirst : (kept b : ℕ) (bs : List ℕ) → Type 0
+  IsCutFirst kept b bs = cut_after most kept (b ∷ bs) ≡ byte_of (with_byte most kept b) b ++ cut_after most (unwrap_or (with_byte most kept b) kept) bs
+
+  pub cut-first : (kept b : ℕ) (bs : List ℕ) → IsCutFirst kept b bs
   unfolding cut_after
   cut-first kept b bs =
-      elim (cases_Bool (b == 10)) as (λ _. cut_after most kept (b ∷ bs) ≡ byte_of (with_byte most kept b) b ++ cut_after most (unwrap_or (with_byte most kept b) kept) bs) [
+      elim (cases_Bool (b == 10)) as (λ _. IsCutFirst kept b bs) [
         | inl is ↦ let newline : b ≡ 10 = eqb-true b 10 is in rw newline refl
-        | inr other ↦ elim (cases_Bool (nat_lt kept most)) as (λ _. cut_after most kept (b ∷ bs) ≡ byte_of (with_byte most kept b) b ++ cut_after most (unwrap_or (with_byte most kept b) kept) bs) [
+        | inr other ↦ elim (cases_Bool (nat_lt kept most)) as (λ _. IsCutFirst kept b bs) [
           | inl less ↦ rw (other, less) refl
           | inr full ↦ rw (other, full) refl
         ]
@@ -93,14 +96,17 @@ same_behind xs ys i same = sym (drop-drop 1 i xs) ∙ ap (drop 1) same ∙ drop-
 
 -- what is left once bytes were read, where those that are kept are passed on
 module _ (most kept line : ℕ) (bytes passed : List ℕ) (is : passed ≡ cut_after most kept bytes) (then : line ≡ kept_after most kept bytes) where
-  pub cut_consumed : (old new : Option (List ℕ)) → Consumes old new bytes → Consumes (option_map (cut_after most kept) old) (option_map (cut_after most line) new) passed
+  pub cut_consumed : (old new : Option (List ℕ)) → Consumes old new bytes
+      → Consumes (option_map (cut_after most kept) old) (option_map (cut_after most line) new) passed
   cut_consumed None new consumed = _
   cut_consumed (Some xs) None consumed = absurd consumed
   cut_consumed (Some xs) (Some ys) consumed =
-      ap (cut_after most kept) consumed ∙ cut_pieces most kept bytes ys ∙ ap (λ (front : List ℕ). front ++ cut_after most (kept_after most kept bytes) ys) (sym is)
+      ap (cut_after most kept) consumed ∙ cut_pieces most kept bytes ys
+      ∙ ap (λ (front : List ℕ). front ++ cut_after most (kept_after most kept bytes) ys) (sym is)
       ∙ ap (λ (k : ℕ). passed ++ cut_after most k ys) (sym then)
 
-  pub cut_dropped : (old new : Option (List ℕ)) → Consumes old new bytes → passed ≡ [] → Keeps (option_map (cut_after most kept) old) (option_map (cut_after most line) new)
+  pub cut_dropped : (old new : Option (List ℕ)) → Consumes old new bytes → passed ≡ []
+      → Keeps (option_map (cut_after most kept) old) (option_map (cut_after most line) new)
   cut_dropped None new consumed none = _
   cut_dropped (Some xs) None consumed none = absurd consumed
   cut_dropped (Some xs) (Some ys) consumed none = sym (cut_consumed (Some xs) (Some ys) consumed ∙ (rw none refl))

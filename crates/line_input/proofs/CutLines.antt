@@ -1,5 +1,6 @@
 -- The lines of a text that is cut are the first bytes of its lines.
-use Rattle.std.proofs.Common.{◌≡◌, ◌≢◌, ℕ, suc, ◌==◌, ◌<◌, ◌≤◌, false, true, nat_lt, List, [], ◌∷◌, ◌++◌, ◌∙◌, inl, inr, ap, arith, length, map, min, refl, subst, sym, take}
+use Rattle.std.proofs.Common.{◌≡◌, ◌≢◌, ℕ, suc, ◌==◌, ◌<◌, ◌≤◌, false, true, nat_lt, List, [], ◌∷◌, ◌++◌, ◌∙◌, inl, inr}
+use Rattle.std.proofs.Common.{ap, arith, length, map, min, refl, subst, sym, take}
 use Rattle.std.proofs.lemmas.Bool.{cases_Bool, eqb-true, eqb-false, ltb-true, ltb-false}
 use Rattle.std.proofs.lemmas.List.{length-take, length_push, take-append-le, take_all}
 use Rattle.line_input.specs.Bounded.{cut, cut_after, most_kept}
@@ -71,7 +72,8 @@ module _ (most : ℕ) where
               let long : most ≤ length front = omega (arith, ltb-false (min most (length front)) most full) in
               let as_before : min most (length front) ≡ min most (length (front ++ b ∷ [])) = omega (arith, long, length_push front b) in
               ap (λ (text : List ℕ). with_front (take most front) (input_lines text)) (cut-full (min most (length front)) b bs other full)
-              ∙ ap (λ (start : List ℕ). with_front start (input_lines (cut_after most (min most (length front)) bs))) (sym (take-append-le most front (b ∷ []) long))
+              ∙ ap (λ (start : List ℕ). with_front start (input_lines (cut_after most (min most (length front)) bs)))
+              (sym (take-append-le most front (b ∷ []) long))
               ∙ ap (λ (k : ℕ). with_front (take most (front ++ b ∷ [])) (input_lines (cut_after most k bs))) as_before
               ∙ behind room (front ++ b ∷ []) bs ∙ ap (map (take most)) (joined front b bs other)
         ]

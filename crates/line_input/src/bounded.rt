@@ -1,10 +1,8 @@
 //! An input of lines whose length is bounded.
 
-ghost use Rattle.std.specs.Prelude.{◌≡◌, ◌≤◌, ◌<◌, length, take, IfOk, MatchResult};
-ghost use Rattle.std.specs.Prelude.{MatchOption};
-ghost use Rattle.std.specs.Io.KnownBytes.{Consumes, IsAtEnd, Keeps};
+ghost use Rattle.std.specs.Prelude.{◌≡◌, ◌≤◌, length, take, IfOk, IfSome};
 ghost use Rattle.line_input.specs.Bounded.{bounded_remaining, cut_after, most_kept};
-ghost use Rattle.line_input.specs.private.Kept.{kept_after, with_byte};
+ghost use Rattle.line_input.specs.private.Kept.{IsReadOnce, kept_after, with_byte};
 
 use std::io::{self, ErrorKind, Read};
 
@@ -35,7 +33,9 @@ impl<R> BoundedLines<R> {
     }
 
     /// Why the last read failed, if it did.
-    pub fn failed(&self) -> Option<io::Error> {
+    pub fn failed(&self) -> Option<io::Error>
+        ensures told { result ≡ self.now.failed }
+    {
         self.failed
     }
 }
@@ -54,7 +54,7 @@ fn with_byte(kept: usize, byte: u8) -> Option<usize>
 }
 
 /// Moves the bytes that are kept to the front, and tells how many they are, and how many bytes of
-/// the last line are kept. Of the first line so many were kept before.
+/// the last line are kept, where `kept` bytes of the first one were kept before.
 fn shorten(kept: usize, bytes: &mut [u8]) -> (usize, usize)
     ensures within { result.0 ≤ length bytes.new }
     ensures bytes { take result.0 bytes.new ≡ cut_after most_kept kept bytes.old }
@@ -77,15 +77,9 @@ impl<R: Read> BoundedLines<R> {
     /// Reads once, and tells how many bytes it was, if any of them is kept or it was the end.
     fn read_once(&mut self, buf: &mut [u8]) -> io::Result<Option<usize>>
         ensures room { length buf.new ≡ length buf.old }
-        ensures bound { IfOk result (λ read. MatchOption read (Unit {0}) (λ n. n ≤ length buf.new)) }
-        ensures bytes { MatchResult result
-            (λ read. MatchOption read
-            (Keeps (bounded_remaining R.remaining self.old) (bounded_remaining R.remaining self.new))
-            (λ n. Consumes (bounded_remaining R.remaining self.old)
-            (bounded_remaining R.remaining self.new) (take n buf.new)
-            × (n ≡ 0 → 0 < length buf.new → IsAtEnd (bounded_remaining R.remaining self.new))))
-            (λ _. Keeps (bounded_remaining R.remaining self.old)
-            (bounded_remaining R.remaining self.new)) }
+        ensures bound { IfOk result (λ read. IfSome read (λ n. n ≤ length buf.new)) }
+        ensures bytes { IsReadOnce (bounded_remaining R.remaining self.old)
+            (bounded_remaining R.remaining self.new) buf.new result }
     {
         let len = match self.inner.read(buf) {
             Ok(len) => len,

@@ -36,4 +36,5 @@ returns-else-kept-gt0-clause-bytes g c =
     let zero : c.shorten-kept.result.0 ≡ 0 = omega (arith, c.if-kept-gt0.false.1) in
     let none : take c.shorten-kept.result.0 c.shorten-kept.new.bytes ≡ [] = rw zero refl in
     cut_dropped most_kept c.args.self.now.kept c.shorten-kept.result.1 (take len buf) (take c.shorten-kept.result.0 c.shorten-kept.new.bytes)
-    c.shorten-kept.ensures.bytes c.shorten-kept.ensures.line (g.R.Read.remaining c.args.self.now.inner) (g.R.Read.remaining c.read.new.self) c.in-Ok.ensures.bytes.0 none
+    c.shorten-kept.ensures.bytes c.shorten-kept.ensures.line (g.R.Read.remaining c.args.self.now.inner) (g.R.Read.remaining c.read.new.self)
+    c.in-Ok.ensures.bytes.0 none
