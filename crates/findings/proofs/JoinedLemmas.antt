@@ -1,5 +1,6 @@
 -- Lists that loops go through, and texts that are written with a comma before each but the first.
-use Rattle.std.proofs.Common.{◌≡◌, ℕ, ◌+◌, ◌<◌, ◌≤◌, Bool, true, false, List, [], ◌∷◌, ◌++◌, map, length, get_or, drop, refl, sym, ap, ◌∙◌, subst, suc, add-one}
+use Rattle.std.proofs.Common.{◌≡◌, ℕ, ◌+◌, ◌<◌, ◌≤◌, Bool, true, false, List, [], ◌∷◌, ◌++◌, map, length, get_or, drop, refl, sym, ap, ◌∙◌, subst}
+use Rattle.std.proofs.Common.{suc, add-one, arith}
 use Rattle.std.specs.List.{flat_map}
 use Rattle.std.proofs.Math.Seq.{drop-cons}
 use Rattle.std.proofs.lemmas.List.{append-nil, append_assoc, drop_all}
@@ -40,6 +41,21 @@ module _ {X Y : Type 0} (f : X → List Y) (xs : List X) (i : ℕ) (out total : 
 
   pub flat_all : length xs ≤ i → out ≡ total
   flat_all past = sym (append-nil out) ∙ sym (ap (λ (ys : List X). out ++ flat_map f ys) (drop_all i xs past)) ∙ before
+
+-- the same over a list that is taken apart
+pub flat_next : {X Y : Type 0} (f : X → List Y) (x : X) (xs rest : List X) (out new total : List Y) → xs ≡ x ∷ rest → out ++ flat_map f xs ≡ total
+    → new ≡ out ++ f x → new ++ flat_map f rest ≡ total
+flat_next {X} {Y} f x xs rest out new total is before added =
+    let others : List Y = flat_map f rest in
+    ap (λ (t : List Y). t ++ others) added
+    ∙ append_assoc out (f x) others
+    ∙ ap (λ (ys : List X). out ++ flat_map f ys) (sym is)
+    ∙ before
+
+pub nothing_left : {X Y : Type 0} (f : X → List Y) (xs : List X) (out total : List Y) (left : ℕ) → out ++ flat_map f xs ≡ total
+    → left ≡ length xs → left ≡ 0 → out ≡ total
+nothing_left f [] out total left before same none = sym (append-nil out) ∙ before
+nothing_left f (x ∷ xs) out total left before same none = absurd (omega (arith, same, none))
 
 -- ---- texts of which it is known only what they are
 

@@ -14,3 +14,7 @@ pub mod OneDocument
 pub mod OneText
 -- no word of a line is lost
 pub mod InkLemmas
+-- the word for what becomes of a grant
+pub mod WordLemmas
+-- the text of a change
+pub mod ChangeLemmas

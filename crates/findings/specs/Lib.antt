@@ -8,4 +8,7 @@ pub mod Picks
 pub mod Windows
 pub mod Document
 pub mod Terminal
+-- what another roster makes of each grant, and how that is told
+pub mod Becomes
+pub mod Changes
 pub mod private

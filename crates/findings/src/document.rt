@@ -23,7 +23,7 @@ use std::fmt::Write as _;
 use sudo_words::{Moment, Name, NoMemory};
 
 /// Adds a comma before each element but the first.
-fn push_comma(out: &mut String, is_first: bool) -> Result<(), NoMemory>
+pub(crate) fn push_comma(out: &mut String, is_first: bool) -> Result<(), NoMemory>
     ensures { OnOk result
         (string_bytes out.new ≡ string_bytes out.old ++ document.comma_before is_first) }
 {
@@ -198,7 +198,7 @@ fn push_lacks(
 }
 
 /// Adds two moments.
-fn push_span(out: &mut String, from: Moment, until: Moment) -> Result<(), NoMemory>
+pub(crate) fn push_span(out: &mut String, from: Moment, until: Moment) -> Result<(), NoMemory>
     ensures { OnOk result
         (string_bytes out.new ≡ string_bytes out.old ++ document.span_json from until) }
 {
@@ -272,7 +272,7 @@ fn push_status(out: &mut String, entry: &AuditEntry, denial: Option<Denial>) -> 
     Ok(())
 }
 
-fn push_entry(
+pub(crate) fn push_entry(
     alloc: Global,
     out: &mut String,
     roster: &Roster,

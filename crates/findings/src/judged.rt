@@ -49,7 +49,7 @@ pub(crate) struct Judged<'a> {
 }
 
 /// The ceiling of the first of the requests, if there is one and the roster has its ceiling.
-fn ceiling_of<'a>(roster: &'a Roster, requests: &'a [Request]) -> Option<&'a Ceiling>
+pub(crate) fn ceiling_of<'a>(roster: &'a Roster, requests: &'a [Request]) -> Option<&'a Ceiling>
     ensures { option_map (λ c. c.now) result ≡ says.ceiling_asked roster.now.says requests.now }
 {
     match requests {

@@ -24,6 +24,12 @@ ghost use Rattle.findings.specs.declared.entry.About.{About};
 ghost use Rattle.findings.specs.declared.entry.AuditEntry.{AuditEntry};
 ghost use Rattle.findings.specs.declared.pick.Pick.{Pick};
 
+// what another roster makes of each grant
+pub use crate::change_laws::{
+    each_has_one_word, moments_from_now_on, one_word, same_changes_nothing, worked_change_lines,
+    worked_revocations, worked_words,
+};
+
 /// The verdicts on a request decide when it was complete, if ever: the moment is the same by each
 /// set that has these verdicts on the request and no others on it.
 pub fn completion_by_its_verdicts()

@@ -3,7 +3,10 @@
 //! JSON document or as a text for a terminal.
 #![tactic(auto)]
 
+mod becomes;
 mod by_host;
+mod change_laws;
+mod changes;
 mod columns;
 mod document;
 mod effects;
@@ -14,6 +17,8 @@ mod pick;
 mod terminal;
 mod words;
 
+pub use becomes::{Change, Changed, Compared, change_of, changes_of};
+pub use changes::{changes_json, changes_text};
 pub use document::json;
 pub use effects::{Effect, counts};
 pub use entry::{About, AuditEntry};

@@ -23,7 +23,7 @@ use std::fmt::Write as _;
 use sudo_words::{Cmnd, HostName, Moment, Name, NoMemory, print_cmnd};
 
 /// Adds who asked, and the number.
-fn push_name(out: &mut String, by: &Name, no: u32) -> Result<(), NoMemory>
+pub(crate) fn push_name(out: &mut String, by: &Name, no: u32) -> Result<(), NoMemory>
     ensures { OnOk result (string_bytes out.new ≡ string_bytes out.old
         ++ terminal.name_text (record { by = by.now; no = no })) }
 {
@@ -32,7 +32,7 @@ fn push_name(out: &mut String, by: &Name, no: u32) -> Result<(), NoMemory>
 }
 
 /// Adds two moments.
-fn push_span(out: &mut String, start: Moment, end: Moment) -> Result<(), NoMemory>
+pub(crate) fn push_span(out: &mut String, start: Moment, end: Moment) -> Result<(), NoMemory>
     ensures { OnOk result
         (string_bytes out.new ≡ string_bytes out.old ++ terminal.span_text start end) }
 {
