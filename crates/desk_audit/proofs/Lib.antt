@@ -5,3 +5,4 @@ pub mod ByNameLemmas
 pub mod ByTextLemmas
 pub mod AuditLemmas
 pub mod OneText
+pub mod ComparisonLemmas

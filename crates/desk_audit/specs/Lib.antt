@@ -3,4 +3,6 @@ pub mod Told
 pub mod Audit
 -- what is told, as a document
 pub mod Documents
+-- what two rosters make of the same messages
+pub mod Comparison
 pub mod private

@@ -9,12 +9,17 @@
 
 mod any_text;
 mod as_json;
+mod changing;
+mod comparing;
 mod entry;
 mod gathering;
 mod one_name;
 
 pub use as_json::{document, document_of, open_document};
+pub use changing::changes_by;
+pub use comparing::changes;
 pub use entry::audit;
 pub use findings::{
-    About, AuditEntry, Effect, Pick, Question, WordsFault, asked_by, counts, json, text,
+    About, AuditEntry, Change, Changed, Effect, Pick, Question, WordsFault, asked_by, changes_json,
+    changes_text, counts, json, text,
 };

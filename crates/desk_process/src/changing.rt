@@ -1,22 +1,12 @@
 //! What a `rebuild` says before it changes anything.
 
-use crate::changes::{Change, changes_of};
+use crate::clock::now;
 use crate::trouble::Trouble;
 use desk::{Keeper, MemoryKeeper};
+use desk_audit::changes_by;
 use desk_commands::{JobRefusal, open_over};
 use desk_store::KeeperError;
 use std::alloc::Global;
-use std::io;
-use std::time::{SystemTime, UNIX_EPOCH};
-use sudo_words::Moment;
-
-/// This moment.
-fn now(rt: &HostRuntime) -> io::Result<Option<Moment>> {
-    match SystemTime::now(rt)?.duration_since(UNIX_EPOCH) {
-        Ok(since) => Ok(Moment::from_secs(since.as_secs())),
-        Err(_) => Ok(None),
-    }
-}
 
 /// Whether the files are refused as a roster and a base, whatever desk is rebuilt with them. The
 /// job names the fault.
@@ -30,16 +20,6 @@ fn are_refused(alloc: Global, roster: &[u8], base: &[u8]) -> bool {
             drop(refused);
             true
         }
-    }
-}
-
-/// Says which grants change from this moment on.
-fn tell(rt: &HostRuntime, changes: &[Change], now: Moment) {
-    if !changes.is_empty() {
-        let _ = eprintln!(rt; "from {now} on:");
-    }
-    for change in changes {
-        let _ = eprintln!(rt; "{change}");
     }
 }
 
@@ -61,8 +41,10 @@ pub(crate) fn tell_changes<K: Keeper>(
         let _ = eprintln!(rt; "what changes is not known: the clock cannot be read");
         return Ok(());
     };
-    match changes_of(rt.alloc(), roster, keeper, now) {
-        Ok(changes) => tell(rt, changes.as_slice(), now),
+    match changes_by(rt.alloc(), roster, keeper, now) {
+        Ok(lines) => {
+            let _ = eprint!(rt; "{}", lines.as_str());
+        }
         Err(KeeperError::NoMemory) => return Err(Trouble::from(JobRefusal::NoMemory)),
         Err(KeeperError::Storage) => {}
     }

@@ -7,8 +7,8 @@
 #![tactic(auto)]
 
 mod bounded;
-mod changes;
 mod changing;
+mod clock;
 mod connection;
 mod files;
 mod history;
@@ -27,6 +27,7 @@ mod trouble;
 mod working;
 
 pub use bounded::Lines;
+pub use clock::now;
 pub use files::{MOST_POLICY, MOST_ROSTER, read_file};
 pub use streams::hold_streams;
 pub use working::work;
