@@ -31,4 +31,6 @@ done
 cp crates/desk_cli/out/desk_cli build/desk
 cp crates/desk_audit_cli/out/desk_audit_cli build/desk-audit
 cp crates/desk_cut_cli/out/desk_cut_cli build/desk-cut
+# (another name of the same program)
+ln -sfn desk-audit build/desk-changes
 echo "built build/desk, build/desk-audit and build/desk-cut"

@@ -28,7 +28,9 @@ COUNT = re.compile(r"^(\d+) passed, (\d+) failed$", re.MULTILINE)
 
 TAKE = "install -D crates/{0}/out/{0} build/{1}"
 PROGRAMS = (("desk_cli", "desk"), ("desk_audit_cli", "desk-audit"), ("desk_cut_cli", "desk-cut"))
-PROVED = " && ".join(TAKE.format(*it) for it in PROGRAMS)
+# (another name of the same program)
+NAMED = "ln -sfn desk-audit build/desk-changes"
+PROVED = " && ".join([*(TAKE.format(*it) for it in PROGRAMS), NAMED])
 PROOF = Part("proof", f"bash -c 'python3 scripts/gate_times.py && {PROVED}'", minutes=75)
 
 # What the others stand on, one after another: a part of these that fails ends the gate.

@@ -36,6 +36,8 @@ python3 scripts/make_pages.py "$room/pages"
 put 0755 build/desk "$PREFIX/bin/desk"
 put 0755 build/desk-audit "$PREFIX/bin/desk-audit"
 put 0755 build/desk-cut "$PREFIX/bin/desk-cut"
+# (another name of the same program)
+ln -sfn desk-audit "$root$PREFIX/bin/desk-changes"
 put 0755 packaging/desk-serve "$libexec/desk-serve"
 put 0755 packaging/mydesk "$PREFIX/bin/mydesk"
 put 0755 packaging/desk-memory "$libexec/desk-memory"
@@ -55,7 +57,7 @@ for page in "$room"/pages/*.[1-8]; do
     put 0644 "$page" "$PREFIX/share/man/man${page##*.}/$(basename "$page")"
 done
 broker=(consume publish fill refused snapshot compare check-queues broker-definitions)
-for name in desk desk-audit desk-cut desk-lint desk-import desk-used desk-evidence \
+for name in desk desk-audit desk-changes desk-cut desk-lint desk-import desk-used desk-evidence \
     desk-change-roster desk-change-base desk-roster desk-standing desk-demo desk-relay \
     desk-relay-person desk-door desk-signer desk-verify desk-auditor mydesk desk-backup \
     desk-restore "${broker[@]/#/desk-}"; do

@@ -290,7 +290,7 @@ def unmapped() -> Iterator[str]:
     paths = [glob.glob(os.path.join(repository.ROOT, it, "desk-*")) for it in folders]
     programs = {os.path.basename(path) for found in paths for path in found}
     # (the programs of the crates, proved and by `make try`)
-    proved = ("desk", "desk-audit", "desk-cut")
+    proved = ("desk", "desk-audit", "desk-changes", "desk-cut")
     programs |= {f"{it}{end}" for it in proved for end in ("", "-unproved")}
     rows = re.findall(r"^\| (.+?) \|", repository.read(MAP), re.MULTILINE)
     named = {it for row in rows for it in re.findall(r"`(desk[\w-]*)", row)}

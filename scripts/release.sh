@@ -39,6 +39,7 @@ make_in() {
     mkdir -p "$1/build"
     git archive HEAD | tar -x -C "$1"
     cp build/desk build/desk-audit build/desk-cut "$1/build/"
+    ln -s desk-audit "$1/build/desk-changes"
     bash "$1/scripts/deb.sh" > /dev/null
 }
 

@@ -38,7 +38,7 @@ class Page:
         os.mkdir(os.path.join(folder, "build"))
         os.symlink(PROGRAM, os.path.join(folder, "build", "desk"))
         folder_of, name_of = os.path.split(PROGRAM)
-        for name in ("desk-audit", "desk-cut"):
+        for name in ("desk-audit", "desk-changes", "desk-cut"):
             beside = os.path.join(folder_of, name_of.replace("desk", name, 1))
             os.symlink(beside, os.path.join(folder, "build", name))
 

@@ -3,7 +3,7 @@
 
 A store that is made is named. A file, a stream or an address that fails is named with its cause. A
 device without an end, a folder, a file past its limit and a line without an end take no memory.
-`rebuild` says which grants change, as desk-change-roster does. `desk-serve` takes another roster
+`rebuild` says which grants change, as desk-changes does. `desk-serve` takes another roster
 and another base at SIGHUP only where the desk would, and its --check names each fault of a site.
 `desk-audit` answers while its store is written without a pause.
 
@@ -27,17 +27,12 @@ import sys
 import tempfile
 import threading
 import time
-import tomllib
 from collections.abc import Iterator, Sequence
 
-from tests.common import desk, store_files
+from tests.common import changes_peer, desk, store_files
 from tests.common.ports import free_port
 from tests.common.tally import PATIENCE, Count, program, try_parts
 from tests.soak.healing import SERVE, comes
-
-sys.path.insert(0, os.path.join(desk.ROOT, "tools"))
-
-from desk_tools import changes  # noqa: E402
 
 MOST_MEMORY = 700 << 10  # KiB that a run may have in memory
 LONG_LINE = 2 << 30
@@ -304,26 +299,24 @@ class Site:
         return found
 
 
-def audited(words: list[str], folder: str, roster: str, store: str) -> changes.Audit:
+def audited(words: list[str], folder: str, roster: str, store: str) -> changes_peer.Audit:
     path = desk.write(folder, "audited.toml", roster)
     out, err, status = answer([audit_of(words), path, desk.BASE, store, "--json"])
     assert status == 0, err
-    found: changes.Audit = json.loads(out)
+    found: changes_peer.Audit = json.loads(out)
     return found
 
 
-def line_of(change: changes.Change) -> str:
-    """What `rebuild` says of a change that desk-change-roster shows."""
-    shown = {line.split(None, 1)[0]: line.split(None, 1)[1] for line in change.lines}
-    none = "not in force"
-    before, after = (shown.get(it, none) for it in ("before", "after"))
-    kind = "GIVEN BACK" if change.kind == "given back" else change.kind.upper()
-    return f"{kind} {change.who} {change.no}: before {before}, after {after}"
+def changed(words: list[str], folder: str, store: str, now: str) -> Answer:
+    """What desk-changes says of the rosters o and n in the folder, from a moment on."""
+    name = audit_of(words).replace("desk-audit", "desk-changes")
+    paths = [os.path.join(folder, it) for it in ("o", "n")]
+    return answer([name, *paths, desk.BASE, store, "--from", now])
 
 
 def rebuilding(count: Count, words: list[str], folder: str) -> None:
-    """What `rebuild` says is what comparing desk-audit before and after says, and it says it of
-    each kind of change."""
+    """What `rebuild` says is what a second reading of desk-audit before and after says, and what
+    desk-changes says; and it says it of each kind of change."""
     picked = random.Random(56)
     seen: set[str] = set()
     for number in range(SETS):
@@ -334,18 +327,20 @@ def rebuilding(count: Count, words: list[str], folder: str) -> None:
         given = "".join(f"{it}\n" for it in site.messages()).encode()
         answer([*words, "deliver", paths[0], desk.BASE, store, "chat"], given)
         before = audited(words, folder, old, store)
+        spare = shutil.copy(store, os.path.join(folder, "spare.db"))
         out, err, status = answer([*words, "rebuild", paths[1], desk.BASE, store])
         count.same(f"rebuild {number}", (out, status), ("ok\n", 0))
         first, *lines = err.splitlines() or [""]
         now = first.removeprefix("from ").removesuffix(" on:") or desk.stamp(time.time())
-        people = {*tomllib.loads(new)["people"]}
-        found = changes.compare(before, audited(words, folder, new, store), now, people)
+        found = changes_peer.compare(before, audited(words, folder, new, store), now)
         seen |= {it.kind for it in found}
-        count.same(f"changes of {number}", sorted(lines), sorted(line_of(it) for it in found))
+        count.same(f"changes of {number}", lines, [changes_peer.line_of(it) for it in found])
+        asked = changed(words, folder, spare, now)
+        count.same(f"desk-changes of {number}", asked, (err, "", 0))
         again = answer([*words, "rebuild", paths[1], desk.BASE, store])
         count.same(f"the same roster again {number}", again, ("ok\n", "", 0))
     # (these are rare by chance: `longer_and_shorter` has them)
-    kinds = {*changes.KINDS} - {"moves", "grows", "shrinks"}
+    kinds = {*changes_peer.KINDS} - {"moves", "grows", "shrinks"}
     count.holds("each kind of change is seen", kinds <= seen, kinds - seen)
 
 

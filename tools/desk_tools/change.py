@@ -19,11 +19,11 @@ from contextlib import contextmanager
 from dataclasses import dataclass
 from typing import NamedTuple
 
-from desk_tools import changes, history, served
-from desk_tools.changes import Audit, Change
+from desk_tools import history, served, told_changes
 from desk_tools.history import History, Line
 from desk_tools.putting import synced, write
 from desk_tools.served import Count, Failed, Settings, digest
+from desk_tools.told_changes import Change
 from desk_tools.toml_text import read as read_toml
 
 SIGNALS = (signal.SIGINT, signal.SIGTERM, signal.SIGHUP)
@@ -55,7 +55,7 @@ class Desk:
     settings: Settings
     service: str
     desk: str
-    audit: str
+    changes: str
 
     def file(self, kind: str) -> str:
         """The roster's file, or the base's, itself, where its name is a link."""
@@ -119,26 +119,6 @@ def scratch() -> tempfile.TemporaryDirectory[str]:
     return tempfile.TemporaryDirectory(prefix=f"desk-change-{os.getpid()}-")
 
 
-def audit(desk: Desk, roster: str, copy: str, told: bytes, more: list[str]) -> Audit:
-    """What desk-audit tells by a roster: of the messages alone, which is quick; where the roster
-    does not admit them all, of the copy of the store, which the desk itself gives that roster."""
-    base = desk.settings.base
-    found = served.audit_messages(desk.audit, roster, base, told, more)
-    if found is None:
-        served.run([desk.desk, "rebuild", roster, base, copy])
-        found = served.audit_store(desk.audit, roster, base, copy, more)
-    return found
-
-
-def audits(desk: Desk, rosters: list[str], copy: str, told: bytes, now: str) -> list[Audit]:
-    """What is told by each roster: about the names with a window from now on, if these are the same
-    for all, else about every name."""
-    found = [audit(desk, it, copy, told, ["--from", now]) for it in rosters]
-    if any(served.names(it) != served.names(found[0]) for it in found):
-        found = [audit(desk, it, copy, told, []) for it in rosters]
-    return found
-
-
 def compare(desk: Desk, new: bytes, now: str) -> Compared:
     """What a roster changes, over a copy of the store that is thrown away. The desk serves on."""
     with scratch() as room:
@@ -148,8 +128,9 @@ def compare(desk: Desk, new: bytes, now: str) -> Compared:
         for path, text in zip(paths, (old, new), strict=True):
             with open(path, "wb") as file:
                 file.write(text)
-        before, after = audits(desk, paths, copy, told, now)
-    return Compared(now, old, digest(told), changes.compare(before, after, now, people_of(new)))
+        words = [desk.changes, *paths, desk.settings.base]
+        found = told_changes.changes(words, told, now, people_of(new))
+    return Compared(now, old, digest(told), found)
 
 
 def same_again(desk: Desk, new: bytes, shown: Compared) -> None:

@@ -10,8 +10,8 @@ import sys
 import time
 from contextlib import nullcontext
 
-from desk_tools import base_words, change, changes, cutting, desks, evidence, lint, renaming
-from desk_tools import roster_words, served
+from desk_tools import base_words, change, cutting, desks, evidence, lint, renaming
+from desk_tools import roster_words, served, told_changes
 from desk_tools.adding import added
 from desk_tools.change import Compared, Desk, Halfway
 from desk_tools.desks import Cuts, Machines
@@ -147,7 +147,7 @@ def show(found: Compared, new: bytes) -> None:
         said = f"{one} and {other}: the one gets what the other loses. If they are one person,"
         print(visible(f"{said} add --rename {one}={other}: each could approve what the other asks"))
     print(f"From {found.now} on, with it:")
-    sys.stdout.write(visible_lines(changes.text(found.found)))
+    sys.stdout.write(visible_lines(told_changes.text(found.found)))
 
 
 def visible_lines(text: str) -> str:
@@ -173,7 +173,7 @@ def desk_of(said: argparse.Namespace) -> Desk:
     if settings.store == served.NO_STORE:
         why = f"write its files, and reload {said.service}"
         raise Failed(f"{said.conf}: the desk has no store, so nothing of it is kept: {why}")
-    return Desk(settings, said.service, found, evidence.program_beside(found))
+    return Desk(settings, said.service, found, evidence.program_beside(found, "desk-changes"))
 
 
 def is_there(desk: Desk, kind: str, new: bytes) -> bool:
@@ -189,7 +189,7 @@ def changed_roster(said: argparse.Namespace, desk: Desk, new: bytes) -> int:
     found = change.compare(desk, new, stamp_of(int(time.time())))
     show(found, new)
     renames = [renaming.pair(it, found.old, new) for it in said.rename]
-    if said.show or not agreed(said, "roster", changes.is_back(found.found)):
+    if said.show or not agreed(said, "roster", told_changes.is_back(found.found)):
         print("Nothing was changed.")
         return DONE if said.show else NOT_CHANGED
     change.same_again(desk, new, found)

@@ -13,7 +13,7 @@ from concurrent.futures import ThreadPoolExecutor
 from dataclasses import dataclass, field
 from typing import Any, NamedTuple
 
-from desk_tools import base_words, pieces, used_program
+from desk_tools import base_words, pieces, told_changes, used_program
 from desk_tools.decisions import Desk
 from desk_tools.gaps import Gap, begins, gap_lines, gaps, numbers_of
 from desk_tools.judge import NoDesk
@@ -26,6 +26,7 @@ from desk_tools.served import Failed, digest, file_digest
 from desk_tools.signed import Door
 from desk_tools.signed import told as told_by_signers
 from desk_tools.summary import Data, Summary, Told
+from desk_tools.told_changes import Change
 from desk_tools.toml_text import read as read_toml
 from desk_tools.touched import Touched, wider
 from desk_tools.use import GIVEN
@@ -117,6 +118,7 @@ class Evidence:
     bases: list[Base]
     desk: str
     audit: str
+    changes: str
     reading: str
     logs: list[str]
     log_options: list[str]
@@ -237,6 +239,7 @@ class Evidence:
         part = Part([(self.messages[at], self.moments[at]) for at in self.touched.among(names)])
         whole, said = self.run(self.audit, *texts, "--json", given=part.text())
         refused = {int(at): why for at, why in REFUSED.findall(said)}
+        unread = {at for at, why in refused.items() if why.startswith("M")}
         lines = [why.encode() + b" " + part.said[at - 1][0] for at, why in refused.items()]
         self.put(f"{it.name}/refused", joined(lines))
         self.made(it, part, len(refused))
@@ -269,6 +272,7 @@ class Evidence:
                 if (message := message_of(part.said[at - 1][0]))
             ],
             is_same=is_same,
+            altered=self.altered(before, it, part.without(unread), set(document["people"])),
         )
 
     def made(self, it: Period, part: Part, refused: int) -> None:
@@ -290,6 +294,17 @@ class Evidence:
         self.put(f"{it.name}/audit.json", told)
         found: Data = json.loads(told)
         return found
+
+    def altered(
+        self, before: Period | None, it: Period, part: Part, people: set[str]
+    ) -> list[Change]:
+        """The requests, asked before a change, whose fate it altered from its moment on."""
+        if before is None or before.text == it.text:
+            return []
+        old, new = (os.path.join(self.folder, name, "roster.toml") for name in (before.name, it.name))
+        words = [self.changes, old, new, os.path.join(self.folder, it.name, "base.sudo")]
+        found = told_changes.changes(words, part.text(), it.first, people)
+        return [change for change in found if change.asked < it.first]
 
     def base_change(self, before: Period | None, it: Period) -> list[str]:
         """What another base opens up and takes away."""

@@ -147,6 +147,7 @@ def made(said: argparse.Namespace) -> None:
             bases=bases,
             desk=desk,
             audit=evidence.program_beside(desk),
+            changes=evidence.program_beside(desk, "desk-changes"),
             reading=reading(said),
             logs=said.log,
             log_options=options(said),

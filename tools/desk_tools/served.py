@@ -3,7 +3,6 @@
 from __future__ import annotations
 
 import hashlib
-import json
 import os
 import shlex
 import sqlite3
@@ -156,30 +155,3 @@ def run(words: Sequence[str], owner: str | None = None, **environment: str) -> s
         said = "; ".join(filter(None, lines)) or f"status {ran.returncode}"
         raise Failed(f"{os.path.basename(words[0])} {words[1]}: {said}")
     return str(ran.stdout.decode("utf-8", "replace"))
-
-
-def names(told: dict[str, Any]) -> set[tuple[str, int]]:
-    return {(it["by"], it["no"]) for it in told["names"]}
-
-
-def audit_messages(
-    program: str, roster: str, base: str, told: bytes, more: list[str]
-) -> dict[str, Any] | None:
-    """What desk-audit tells of these messages; None where the roster does not admit them all."""
-    words = [program, roster, base, "-", "--json", *more]
-    ran = subprocess.run(words, input=told, capture_output=True, check=False)
-    return as_audit(ran.stdout) if ran.returncode == 0 and not ran.stderr else None
-
-
-def audit_store(
-    program: str, roster: str, base: str, store: str, more: list[str]
-) -> dict[str, Any]:
-    """What desk-audit tells of a store that has this roster."""
-    return as_audit(run([program, roster, base, store, "--json", *more]))
-
-
-def as_audit(said: str | bytes) -> dict[str, Any]:
-    found = json.loads(said)
-    if not isinstance(found, dict):
-        raise Failed("desk-audit prints something else than is expected")
-    return found

@@ -10,12 +10,12 @@ from collections.abc import Iterable, Iterator
 from dataclasses import dataclass, field
 from typing import Any, NamedTuple
 
-from desk_tools.changes import KINDS, Entry, compare
 from desk_tools.gaps import Gap
 from desk_tools.rights import Right
 from desk_tools.roster_words import differences
 from desk_tools.sample import sample
 from desk_tools.standing_program import data_of
+from desk_tools.told_changes import KINDS, Change, Entry
 from steelnewt_client.moments import seconds
 
 QUICK = 30  # seconds
@@ -51,6 +51,7 @@ class Told(NamedTuple):
     used: Data | None
     refused: list[tuple[str, Data]]  # a code, and the message
     is_same: bool  # by the second reading
+    altered: list[Change]  # what the change did to requests that were asked before it
 
 
 def approvals(entry: Entry) -> Iterator[tuple[Data, bool, str]]:
@@ -63,19 +64,6 @@ def asked_at(entry: Entry) -> str | None:
     return min((it["at"] for it in entry["requests"]), default=None)
 
 
-def completed(names: dict[Name, Entry], other: dict[Name, Entry]) -> dict[Name, Entry]:
-    """The names, with what the other roster admits and this one does not: that comes to nothing."""
-    found = dict(names)
-    for name, entry in other.items():
-        held = found.get(name, {"by": name[0], "no": name[1], "requests": [], "verdicts": []})
-        told = [it["verdict"] for it in held["verdicts"]]
-        lost = [it["verdict"] for it in entry["verdicts"] if it["verdict"] not in told]
-        more = [{"verdict": it, "counts": False, "why": "not admitted"} for it in lost]
-        status = held.get("status", "not admitted")
-        found[name] = {**held, "status": status, "verdicts": [*held["verdicts"], *more]}
-    return found
-
-
 def by_hosts(rights: Iterable[Right]) -> list[Data]:
     """The rights, with the hosts on which somebody has the same in one row."""
     hosts: dict[str, list[str]] = {}
@@ -84,23 +72,6 @@ def by_hosts(rights: Iterable[Right]) -> list[Data]:
         host = row.pop("host")
         hosts.setdefault(json.dumps(row), []).append(host)
     return [{**json.loads(row), "hosts": held} for row, held in hosts.items()]
-
-
-def asked_before(told: Told, at: str) -> dict[Name, Entry]:
-    """What a roster tells of the requests that were asked before a moment."""
-    return {name: it for name, it in told.names.items() if (asked_at(it) or at) < at}
-
-
-def altered(before: Told, after: Told) -> list[Data]:
-    """The requests, asked before a change, whose fate it altered from its moment on."""
-    old, new = (asked_before(it, after.first) for it in (before, after))
-    one, other = completed(old, new), completed(new, old)
-    people = set(after.roster["people"])
-    before_it, behind_it = ({"names": list(it.values())} for it in (one, other))
-    return [
-        {"kind": it.kind, "by": it.who, "no": it.no, "lines": list(it.lines)}
-        for it in compare(before_it, behind_it, after.first, people)
-    ]
 
 
 @dataclass
@@ -176,7 +147,10 @@ class Summary:
 
     def change(self, before: Told, after: Told) -> None:
         words = [*differences(before.roster, after.roster), *after.base_words]
-        fates = [] if before.roster == after.roster else altered(before, after)
+        fates = [
+            {"kind": it.kind, "by": it.who, "no": it.no, "lines": list(it.lines)}
+            for it in after.altered
+        ]
         said = [{"word": word, "text": text} for word, text in after.said]
         shown = {"at": after.first, "said": said, "words": words or ["nothing but the form"]}
         self.changes.append(shown | {"altered": fates})

@@ -55,7 +55,7 @@ class Running:
         shutil.copy(os.path.join(ROOT, "tools", "tests", "systemctl.sh"), folder / "bin/systemctl")
         self.desk = folder / "bin" / "desk"
         self.desk.symlink_to(desk)
-        for name in ("desk-audit", "desk-cut"):
+        for name in ("desk-audit", "desk-changes", "desk-cut"):
             (folder / "bin" / name).symlink_to(program_beside(desk, name))
         for name in ("desk-change-roster", "desk-change-base"):
             (folder / "bin" / name).symlink_to(os.path.join(ROOT, "tools", name))

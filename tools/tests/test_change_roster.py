@@ -17,9 +17,11 @@ from contextlib import contextmanager
 from pathlib import Path
 from typing import Any
 
+import jsonschema
 import pytest
 
-from desk_tools import changes, roster_words, served
+from desk_tools import roster_words, served, told_changes
+from desk_tools.evidence import program_beside
 from conftest import ROOT
 from running import PATIENCE, Running, until
 
@@ -152,40 +154,84 @@ def test_rights_come_back(running: Running) -> None:
     assert running.ask("GET", f"/v1/grants/{moment(0)}").startswith("ann 7 ")
 
 
-REQUEST = {"runas": "root", "hosts": ["db1"], "ceiling": "db-care", "cmnds": ["/usr/bin/id"]}
+REQUEST = {
+    "at": "20260105060000Z",
+    "by": "ann",
+    "ceiling": "db-care",
+    "cmnds": ["/usr/bin/id"],
+    "from": "20260105100000Z",
+    "hosts": ["db1"],
+    "kind": "request",
+    "no": 7,
+    "runas": "root",
+    "until": "20260105113000Z",
+}
+ONE, TWO = "needs = 1\n", "needs = 2\n"
 
 
-def entry(status: str, first: str = "", last: str = "", **more: Any) -> dict[str, Any]:
-    """What desk-audit tells of ann 7, with a window from the one hour to the other."""
-    found = {"by": "ann", "no": 7, "status": status, "verdicts": [], **more}
-    if first:
-        found["window"] = {"from": f"20260105{first}0000Z", "until": f"20260105{last}0000Z"}
-    return found | {"requests": [REQUEST | {"until": "20260105120000Z"}]}
+def verdict(kind: str, by: str, hour: str) -> dict[str, Any]:
+    return {"at": f"20260105{hour}00Z", "by": by, "kind": kind, "no": 7, "of": "ann"}
+
+
+BOB, CAROL = verdict("approve", "bob", "0700"), verdict("approve", "carol", "1030")
+REVOKED, BY_DAVE = verdict("revoke", "carol", "0930"), verdict("revoke", "dave", "1045")
+DAVE = ('dave = ["audit"]', 'dave = ["approve-db"]')
 
 
 @pytest.mark.parametrize(
-    ("before", "after", "kind"),
+    ("old", "new", "verdicts", "kind"),
     [
-        (entry("waiting", lacks=1), entry("granted", "10", "12"), "begins"),
-        (entry("granted", "10", "12"), entry("waiting", lacks=1), "ends"),
-        (entry("granted", "10", "12"), entry("granted", "09", "12"), "grows"),
-        (entry("granted", "10", "12"), entry("granted", "10", "11"), "shrinks"),
-        (entry("granted", "09", "11"), entry("granted", "10", "12"), "moves"),
-        (entry("lapsed", denial="A3 NotAsker"), entry("granted", "10", "12"), "given back"),
-        (entry("waiting", lacks=1), entry("lapsed", denial="A3 NotAsker"), "lapses"),
-        # what is over, or was over before now, is no change
-        (entry("granted", "06", "07"), entry("waiting", lacks=1), None),
-        (entry("granted", "06", "12"), entry("granted", "07", "12"), None),
-        (entry("refused"), entry("waiting", lacks=1), None),
+        ([(ONE, TWO)], [], [BOB], "begins"),
+        ([], [(ONE, TWO)], [BOB], "ends"),
+        ([(ONE, TWO)], [], [BOB, CAROL], "grows"),
+        ([], [(ONE, TWO)], [BOB, CAROL], "shrinks"),
+        ([(ONE, TWO)], [DAVE], [BOB, CAROL, BY_DAVE], "moves"),
+        ([], [WITHOUT_CAROL], [BOB, REVOKED], "given back"),
+        ([('ann = ["operate-db"]', "ann = []")], [], [BOB], "given back"),
+        ([], [("longest = 7200", "longest = 60")], [], "lapses"),
+        # what is over by now is no change, nor is what does not come back
+        ([], [(ONE, TWO)], [BOB, verdict("revoke", "carol", "0700")], None),
+        ([], [WITHOUT_CAROL], [verdict("refuse", "carol", "0630")], None),
+        ([], [WITH_KIM], [BOB], None),
     ],
 )
 def test_each_kind_of_change(
-    before: dict[str, Any], after: dict[str, Any], kind: str | None
+    tmp_path: Path,
+    desk: str,
+    old: list[tuple[str, str]],
+    new: list[tuple[str, str]],
+    verdicts: list[dict[str, Any]],
+    kind: str | None,
 ) -> None:
-    now = "20260105080000Z"
-    found = changes.compare({"names": [before]}, {"names": [after]}, now, {"ann"})
-    assert [it.kind for it in found] == ([kind] if kind else [])
-    assert changes.is_back(found) == (kind == "given back")
+    """desk-changes has a word for each, and is_back is said of what comes back alone."""
+    words = [program_beside(desk, "desk-changes")]
+    for name, swaps in (("old", old), ("new", new)):
+        text = Path(ROOT, "examples", "roster.toml").read_text()
+        for one, other in swaps:
+            assert one in text
+            text = text.replace(one, other, 1)
+        (tmp_path / name).write_text(text)
+        words.append(str(tmp_path / name))
+    words.append(os.path.join(ROOT, "examples", "site.sudo"))
+    lines = (json.dumps(it, separators=(",", ":"), sort_keys=True) for it in [REQUEST, *verdicts])
+    messages = "".join(f"{line}\n" for line in lines).encode()
+    by_schema(words, messages)
+    for now, kinds in (("20260105080000Z", [kind] if kind else []), ("20260105113001Z", [])):
+        found = told_changes.changes(words, messages, now, {"ann"})
+        assert [it.kind for it in found] == kinds
+        assert told_changes.is_back(found) == (kinds == ["given back"])
+
+
+def by_schema(words: list[str], messages: bytes) -> None:
+    """What desk-changes prints as JSON is by its schema."""
+    ran = subprocess.run([*words, "-", "--json"], input=messages, capture_output=True, check=True)
+    schemas = {}
+    for name in ("audit", "changes"):
+        text = Path(ROOT, "tools", "schemas", f"{name}.schema.json").read_text()
+        schemas[name] = json.loads(text)
+    store = {it["$id"]: it for it in schemas.values()}
+    resolver = jsonschema.RefResolver.from_schema(schemas["changes"], store=store)
+    jsonschema.validate(json.loads(ran.stdout), schemas["changes"], resolver=resolver)
 
 
 def test_what_comes_meanwhile_is_looked_at(running: Running) -> None:

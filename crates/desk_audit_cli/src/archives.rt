@@ -1,6 +1,6 @@
 //! The messages of archives, which a cut took from a store.
 
-use crate::sources::lines;
+use crate::sources::{input, lines};
 use crate::trouble::Trouble;
 use desk_cut::fill;
 use desk_process::Lines;
@@ -38,7 +38,16 @@ fn at_line(rt: &HostRuntime, path: &str, number: usize, fault: MessageFault) -> 
 /// Adds the messages of an archive. Each of its lines is one: else somebody has written to it, or
 /// it was cut short.
 fn add_archive(rt: &HostRuntime, path: &str, messages: &mut Vec<Message>) -> Result<(), Trouble> {
-    let bytes = bytes_of(rt, path)?;
+    add_lines(rt, path, bytes_of(rt, path)?, messages)
+}
+
+/// Adds the messages of these bytes, each of whose lines is one.
+fn add_lines(
+    rt: &HostRuntime,
+    path: &str,
+    bytes: Vec<u8>,
+    messages: &mut Vec<Message>,
+) -> Result<(), Trouble> {
     let lines = lines(rt.alloc(), bytes.as_slice())?;
     drop(bytes);
     let mut reader = MessageReader::new(rt.alloc());
@@ -74,4 +83,17 @@ pub(crate) fn with_archives<K: Keeper>(
         add_archive(rt, path.as_str(), &mut messages)?;
     }
     Ok(Some(in_memory(rt.alloc(), found.roster.as_str(), &messages)?))
+}
+
+/// The messages on the standard input, and those of the archives.
+pub(crate) fn messages_of_input(
+    rt: &HostRuntime,
+    archives: &[String],
+) -> Result<Vec<Message>, Trouble> {
+    let mut messages = Vec::new(rt.alloc());
+    add_lines(rt, "standard input", input(rt)?, &mut messages)?;
+    for path in archives {
+        add_archive(rt, path.as_str(), &mut messages)?;
+    }
+    Ok(messages)
 }

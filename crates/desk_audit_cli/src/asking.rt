@@ -1,6 +1,7 @@
 //! Asking a desk over its files.
 
 use crate::archives::{bytes_of, with_archives};
+use crate::changing::{changed_by, changed_of_input};
 use crate::known::known;
 use crate::sources::{input, take_lines};
 use crate::trouble::Trouble;
@@ -29,8 +30,18 @@ fn roster_file(rt: &HostRuntime, path: &str) -> Result<Vec<u8>, Trouble> {
     Err(Trouble::Refused(JobRefusal::Roster(RosterFault::OutOfRange)))
 }
 
-/// What the desk tells.
-fn told_by<K: Keeper>(
+/// What is asked, of which messages.
+#[derive(Drop)]
+pub(crate) struct Asked {
+    pub(crate) question: Question,
+    /// The path of another roster, if it is asked what that changes.
+    pub(crate) new: Option<String>,
+    /// The paths of archives of the store.
+    pub(crate) archives: Vec<String>,
+}
+
+/// What an audit of the desk tells.
+fn audited<K: Keeper>(
     rt: &HostRuntime,
     question: &Question,
     desk: &mut Desk<K>,
@@ -44,18 +55,50 @@ fn told_by<K: Keeper>(
     Ok(text(rt.alloc(), desk.roster(), pick, &entries)?)
 }
 
+/// What the desk tells.
+fn told_by<K: Keeper>(
+    rt: &HostRuntime,
+    asked: &Asked,
+    desk: &mut Desk<K>,
+) -> Result<String, Trouble> {
+    match &asked.new {
+        Some(new) => changed_by(rt, &asked.question, new.as_str(), desk),
+        None => audited(rt, &asked.question, desk),
+    }
+}
+
+/// The bytes of the files of a roster and a base.
+pub(crate) fn roster_and_base(
+    rt: &HostRuntime,
+    roster: &str,
+    base: &str,
+) -> Result<(Vec<u8>, Vec<u8>), Trouble> {
+    let roster = roster_file(rt, roster)?;
+    let base = file(rt, base, MOST_POLICY)?;
+    Ok((roster, base))
+}
+
+/// The desk of a roster and a base, over what the keeper keeps.
+pub(crate) fn desk_over<K: Keeper + Drop>(
+    rt: &HostRuntime,
+    roster: &[u8],
+    base: &[u8],
+    keeper: K,
+) -> Result<Desk<K>, Trouble> {
+    match open_over(rt.alloc(), roster, base, keeper) {
+        Ok(desk) => Ok(desk),
+        Err((refusal, _)) => Err(refusal.into()),
+    }
+}
+
 /// The desk of the question's roster and base, over what the keeper keeps.
-fn desk_over<K: Keeper + Drop>(
+fn desk_of<K: Keeper + Drop>(
     rt: &HostRuntime,
     question: &Question,
     keeper: K,
 ) -> Result<Desk<K>, Trouble> {
-    let roster = roster_file(rt, question.roster.as_str())?;
-    let base = file(rt, question.base.as_str(), MOST_POLICY)?;
-    match open_over(rt.alloc(), &roster, &base, keeper) {
-        Ok(desk) => Ok(desk),
-        Err((refusal, _)) => Err(refusal.into()),
-    }
+    let (roster, base) = roster_and_base(rt, question.roster.as_str(), question.base.as_str())?;
+    desk_over(rt, &roster, &base, keeper)
 }
 
 /// Delivers the messages on the standard input and those of the archives.
@@ -77,14 +120,10 @@ fn take_all(
 }
 
 /// What is told about the messages on the standard input and those of the archives.
-fn told_of_input(
-    rt: &HostRuntime,
-    question: &Question,
-    archives: &[String],
-) -> Result<String, Trouble> {
-    let mut desk = desk_over(rt, question, MemoryKeeper::new(rt.alloc()))?;
-    let told = match take_all(rt, &mut desk, archives) {
-        Ok(()) => told_by(rt, question, &mut desk),
+fn told_of_input(rt: &HostRuntime, asked: &Asked) -> Result<String, Trouble> {
+    let mut desk = desk_of(rt, &asked.question, MemoryKeeper::new(rt.alloc()))?;
+    let told = match take_all(rt, &mut desk, asked.archives.as_slice()) {
+        Ok(()) => told_by(rt, asked, &mut desk),
         Err(trouble) => Err(trouble),
     };
     let _ = desk.into_keeper();
@@ -94,45 +133,39 @@ fn told_of_input(
 /// What is told about the messages that the keeper keeps.
 fn told_of<K: Keeper + Drop>(
     rt: &HostRuntime,
-    question: &Question,
+    asked: &Asked,
     keeper: K,
 ) -> Result<String, Trouble> {
-    let mut desk = desk_over(rt, question, keeper)?;
-    let told = told_by(rt, question, &mut desk);
+    let mut desk = desk_of(rt, &asked.question, keeper)?;
+    let told = told_by(rt, asked, &mut desk);
     let _ = desk.into_keeper();
     told
 }
 
 /// What is told about the messages in a store and those of the archives. Something that is no desk
 /// of today's form is left to the opening, which refuses it.
-fn told_of_store(
-    rt: &HostRuntime,
-    question: &Question,
-    archives: &[String],
-) -> Result<String, Trouble> {
-    let path = question.store.as_str();
+fn told_of_store(rt: &HostRuntime, asked: &Asked) -> Result<String, Trouble> {
+    let path = asked.question.store.as_str();
     let mut keeper = there(rt, path, copy_of(rt, path)?)?;
-    if archives.is_empty() {
-        return told_of(rt, question, keeper);
+    if asked.archives.is_empty() {
+        return told_of(rt, asked, keeper);
     }
-    match with_archives(rt, &mut keeper, archives)? {
+    match with_archives(rt, &mut keeper, asked.archives.as_slice())? {
         Some(whole) => {
             drop(keeper);
-            told_of(rt, question, whole)
+            told_of(rt, asked, whole)
         }
-        None => told_of(rt, question, keeper),
+        None => told_of(rt, asked, keeper),
     }
 }
 
 /// The answer to the question, over the archives too.
-pub(crate) fn told(
-    rt: &HostRuntime,
-    question: &Question,
-    archives: &[String],
-) -> Result<String, Trouble> {
-    if question.store.as_str() == "-" {
-        told_of_input(rt, question, archives)
-    } else {
-        told_of_store(rt, question, archives)
+pub(crate) fn told(rt: &HostRuntime, asked: &Asked) -> Result<String, Trouble> {
+    if asked.question.store.as_str() != "-" {
+        return told_of_store(rt, asked);
+    }
+    match &asked.new {
+        Some(new) => changed_of_input(rt, asked, new.as_str()),
+        None => told_of_input(rt, asked),
     }
 }

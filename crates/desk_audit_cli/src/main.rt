@@ -1,9 +1,10 @@
 //! The auditor's program: reads its command line, and tells what became of each request that a desk
-//! holds.
+//! holds; or, under the name `desk-changes`, what another roster changes.
 #![tactic(auto)]
 
 mod archives;
 mod asking;
+mod changing;
 mod help;
 mod known;
 mod places;
@@ -12,9 +13,9 @@ mod trouble;
 
 use crate::asking::told;
 use crate::help::usage;
-use crate::places::apart;
+use crate::places::{Name, asked};
 use crate::trouble::Trouble;
-use desk_audit::{WordsFault, asked_by};
+use desk_audit::WordsFault;
 use desk_process::hold_streams;
 use std::io::{BufWriter, Write};
 use std::process::ExitCode;
@@ -23,12 +24,15 @@ use std::{env, io};
 /// The exit status of a question that has no answer.
 const REFUSED: u8 = 2;
 
-/// The words on the command line after the program's own name.
-fn words(rt: &HostRuntime) -> Result<Vec<String>, WordsFault> {
+/// The name under which the program was started, and the words behind it.
+fn words(rt: &HostRuntime) -> Result<(Name, Vec<String>), WordsFault> {
     match env::args(rt) {
         Ok(mut words) => {
-            let _name = words.next();
-            Ok(words.collect(rt.alloc())?)
+            let name = match words.next() {
+                Some(name) => Name::of(name.as_str()),
+                None => Name::Audit,
+            };
+            Ok((name, words.collect(rt.alloc())?))
         }
         Err(error) if error.kind() == io::ErrorKind::OutOfMemory => Err(WordsFault::NoMemory),
         Err(_) => Err(WordsFault::BadWord),
@@ -52,10 +56,11 @@ fn write_out(rt: &HostRuntime, text: &str) -> Result<(), Trouble> {
 
 /// Does what the words say.
 fn answered(rt: &HostRuntime) -> Result<(), Trouble> {
-    let (words, archives) = apart(rt.alloc(), words(rt)?)?;
-    match asked_by(rt.alloc(), words.as_slice()) {
-        Ok(question) => write_out(rt, told(rt, &question, archives.as_slice())?.as_str()),
-        Err(WordsFault::Help) => write_out(rt, usage()),
+    let (name, words) = words(rt)?;
+    match asked(rt.alloc(), name, words) {
+        Ok(asked) => write_out(rt, told(rt, &asked)?.as_str()),
+        Err(WordsFault::Help) => write_out(rt, usage(name)),
+        Err(WordsFault::Usage) => Err(Trouble::Usage(name)),
         Err(fault) => Err(fault.into()),
     }
 }

@@ -1,6 +1,33 @@
-//! Which words of the command line name archives.
+//! What the words of the command line ask: under which name the program was started, and which of
+//! them name another roster and archives.
 
+use crate::asking::Asked;
+use desk_audit::{Question, WordsFault, asked_by};
 use std::alloc::{AllocFailed, Global};
+
+/// The name under which the program was started.
+#[derive(Clone, Copy, Debug, PartialEq, Eq)]
+pub(crate) enum Name {
+    /// `desk-audit`, which also any other name stands for.
+    Audit,
+    /// `desk-changes`.
+    Changes,
+}
+
+impl Name {
+    /// The name of the program at this path.
+    pub(crate) fn of(path: &str) -> Name {
+        let file = match path.rsplit_once('/') {
+            Some((_, file)) => file,
+            None => path,
+        };
+        if file.starts_with("desk-changes") {
+            Name::Changes
+        } else {
+            Name::Audit
+        }
+    }
+}
 
 /// How many places `findings::asked_by` reads: those of the roster, the base and the store.
 const PLACES: usize = 3;
@@ -56,7 +83,7 @@ impl Split {
 /// The words but for the archives, and the archives: the places behind that of the store. A word
 /// that is taken for the wrong one leaves the others with too many places, or too few, and so is
 /// refused with them.
-pub(crate) fn apart(
+fn apart(
     alloc: Global,
     words: Vec<String>,
 ) -> Result<(Vec<String>, Vec<String>), AllocFailed<String>> {
@@ -76,4 +103,52 @@ pub(crate) fn apart(
         ..
     } = said;
     Ok((words, archives))
+}
+
+/// What the words `ROSTER BASE STORE [ARCHIVE]..` ask.
+fn audit_asked(alloc: Global, words: Vec<String>) -> Result<Asked, WordsFault> {
+    let (words, archives) = apart(alloc, words)?;
+    let question = asked_by(alloc, words.as_slice())?;
+    Ok(Asked {
+        question,
+        new: None,
+        archives,
+    })
+}
+
+/// What the words `ROSTER NEW BASE STORE [ARCHIVE]..` ask. The store is the first of the places
+/// behind the three that a question has.
+fn changes_asked(alloc: Global, words: Vec<String>) -> Result<Asked, WordsFault> {
+    let (words, mut places) = apart(alloc, words)?;
+    let question = asked_by(alloc, words.as_slice())?;
+    let Question {
+        roster,
+        base: new,
+        store: base,
+        pick,
+        as_json,
+    } = question;
+    if places.is_empty() || pick.until.is_some() || pick.host.is_some() || pick.person.is_some() {
+        return Err(WordsFault::Usage);
+    }
+    let store = places.remove(0);
+    Ok(Asked {
+        question: Question {
+            roster,
+            base,
+            store,
+            pick,
+            as_json,
+        },
+        new: Some(new),
+        archives: places,
+    })
+}
+
+/// What the words ask of the program of this name.
+pub(crate) fn asked(alloc: Global, name: Name, words: Vec<String>) -> Result<Asked, WordsFault> {
+    match name {
+        Name::Audit => audit_asked(alloc, words),
+        Name::Changes => changes_asked(alloc, words),
+    }
 }

@@ -1,5 +1,6 @@
 //! Why the program gives no answer.
 
+use crate::places::Name as Program;
 use desk_audit::WordsFault;
 use desk_commands::JobRefusal;
 use desk_cut::CutRefusal;
@@ -12,8 +13,8 @@ use sudo_words::{HostName, Name, NoMemory};
 /// Why there is no answer.
 #[derive(Drop)]
 pub(crate) enum Trouble {
-    /// The command line does not follow the usage.
-    Usage,
+    /// The command line does not follow the usage of the program of this name.
+    Usage(Program),
     /// A word on the command line does not have the form that its place requires.
     BadWord,
     /// Memory ran out.
@@ -35,8 +36,11 @@ pub(crate) enum Trouble {
 impl fmt::Display for Trouble {
     fn fmt<W: fmt::Write>(&self, f: &mut fmt::Formatter<W>) -> fmt::Result {
         match self {
-            Trouble::Usage => f.write_str(
+            Trouble::Usage(Program::Audit) => f.write_str(
                 "usage: desk-audit ROSTER BASE STORE [ARCHIVE..] [--from AT] [--until AT] [--host H] [--person P] [--json]",
+            ),
+            Trouble::Usage(Program::Changes) => f.write_str(
+                "usage: desk-changes ROSTER NEW BASE STORE [ARCHIVE..] [--from AT] [--json]",
             ),
             Trouble::BadWord => JobRefusal::BadWord.fmt(f),
             Trouble::NoMemory => JobRefusal::NoMemory.fmt(f),
@@ -74,7 +78,7 @@ impl Trouble {
 impl From<WordsFault> for Trouble {
     fn from(e: WordsFault) -> Trouble {
         match e {
-            WordsFault::Help | WordsFault::Usage => Trouble::Usage,
+            WordsFault::Help | WordsFault::Usage => Trouble::Usage(Program::Audit),
             WordsFault::BadWord => Trouble::BadWord,
             WordsFault::NoMemory => Trouble::NoMemory,
         }

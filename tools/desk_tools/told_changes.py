@@ -1,11 +1,14 @@
-"""Which grants another roster begins, ends, makes longer or shorter from a moment on."""
+"""What the program desk-changes tells of another roster, for people."""
 
 from __future__ import annotations
 
+import json
+import subprocess
 from collections.abc import Iterator
 from typing import Any, NamedTuple
 
-Audit = dict[str, Any]
+from desk_tools.served import Failed
+
 Entry = dict[str, Any]
 
 # each kind of change, in the order in which they are shown, and its sentence
@@ -20,42 +23,14 @@ KINDS = {
 }
 
 
-class Span(NamedTuple):
-    """The first and the last moment of a grant."""
-
-    first: str
-    last: str
-
-
 class Change(NamedTuple):
-    """What becomes of a request: its kind, its name, and the lines that are shown."""
+    """What becomes of a request: its kind, its name, when it was asked, and what is shown."""
 
     kind: str
     who: str
     no: int
+    asked: str
     lines: tuple[str, ...]
-
-
-def span_of(entry: Entry, now: str) -> Span | None:
-    """When a grant is in force, from now on."""
-    window = entry.get("window")
-    if window is None or window["until"] < now:
-        return None
-    return Span(max(window["from"], now), window["until"])
-
-
-def kind_of(before: Span | None, after: Span | None) -> str | None:
-    if before == after:
-        return None
-    if before is None:
-        return "begins"
-    if after is None:
-        return "ends"
-    if after.first <= before.first and before.last <= after.last:
-        return "grows"
-    if before.first <= after.first and after.last <= before.last:
-        return "shrinks"
-    return "moves"
 
 
 def weighed(entry: Entry) -> dict[tuple[str, str, str], tuple[bool, str]]:
@@ -92,48 +67,33 @@ def told_status(entry: Entry) -> str:
     return f"{entry['status']} ({entry['denial']})" if "denial" in entry else str(entry["status"])
 
 
-def is_given_back(old: Entry, new: Entry) -> bool:
-    """Whether a right comes back that a verdict or an earlier roster took away."""
-    after = weighed(new)
-    taken = any(
-        counted and not after[key][0]
-        for key, (counted, _) in weighed(old).items()
-        if key[1] in ("revoke", "refuse")
-    )
-    return taken or old["status"] == "lapsed"
+def shown(window: dict[str, str] | None) -> str:
+    return f"{window['from']} to {window['until']}" if window else "not in force"
 
 
-def shown_span(span: Span | None) -> str:
-    return f"{span.first} to {span.last}" if span else "not in force"
-
-
-def change_of(old: Entry, new: Entry, now: str, people: set[str]) -> Change | None:
-    """What the new roster makes of one name; None where it is as before."""
-    before, after = span_of(old, now), span_of(new, now)
-    kind = kind_of(before, after)
-    if kind in ("begins", "grows", "moves") and is_given_back(old, new):
-        kind = "given back"
-    asked = (new["requests"] or old["requests"] or [{}])[0]
-    if kind is None:
-        waited = old["status"] in ("waiting", "disputed") and asked["until"] >= now
-        if not waited or new["status"] != "lapsed":
-            return None
-        kind = "lapses"
+def change_of(told: dict[str, Any], people: set[str]) -> Change:
+    """A change that the program tells."""
+    old, new, kind = told["old"], told["new"], told["becomes"]
+    asked = new["requests"][0]
     lines = [f"as {asked['runas']} on {' '.join(asked['hosts'])}, ceiling {asked['ceiling']}"]
     lines += [f"command   {it}" for it in asked["cmnds"]]
     if kind != "lapses":
-        lines += [f"before    {shown_span(before)}", f"after     {shown_span(after)}"]
-    return Change(kind, old["by"], old["no"], (*lines, *reasons(old, new, people)))
+        before, after = shown(told.get("before")), shown(told.get("after"))
+        lines += [f"before    {before}", f"after     {after}"]
+    shown_lines = (*lines, *reasons(old, new, people))
+    return Change(kind, old["by"], old["no"], asked["at"], shown_lines)
 
 
-def compare(before: Audit, after: Audit, now: str, people: set[str]) -> list[Change]:
-    """What changes from now on, between two answers of desk-audit over the same messages."""
-    names = {(it["by"], it["no"]): it for it in after["names"]}
-    found = []
-    for old in before["names"]:
-        change = change_of(old, names[old["by"], old["no"]], now, people)
-        if change is not None:
-            found.append(change)
+def changes(words: list[str], messages: bytes, now: str, people: set[str]) -> list[Change]:
+    """What a roster changes of these messages from a moment on: the words are those of the program,
+    and the files of the old roster, of the new one, whose people are named, and of the base."""
+    ran = subprocess.run(
+        [*words, "-", "--from", now, "--json"], input=messages, capture_output=True, check=False
+    )
+    if ran.returncode or ran.stderr:
+        said = "; ".join(ran.stderr.decode("utf-8", "replace").splitlines())
+        raise Failed(f"desk-changes: {said or f'status {ran.returncode}'}")
+    found = [change_of(it, people) for it in json.loads(ran.stdout)["changes"]]
     order = [*KINDS]
     return sorted(found, key=lambda it: (order.index(it.kind), it.who, it.no))
 
