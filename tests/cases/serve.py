@@ -80,6 +80,8 @@ def is_right(row: Table, told: tuple[str, str], known: dict[str, str], table: Ta
 
 def given_by(table: Table, row: Table) -> bytes:
     """The bytes of the question."""
+    if "asks" in row:
+        return desk.admission(row.get("relay", "web").encode(), body_of(table, row["asks"]))
     return desk.asked(b"GET", row["get"].encode())
 
 

@@ -273,6 +273,11 @@ def posted(relay: bytes, body: bytes, length: int | None = None, more: bytes = b
     return head + b"Content-Length: %d\r\n%s\r\n%s" % (said, more, body)
 
 
+def admission(relay: bytes, body: bytes, length: int | None = None) -> bytes:
+    """The bytes of the question what that message would be answered."""
+    return posted(relay, body, length).replace(b"/messages ", b"/admission ", 1)
+
+
 # ---- messages
 
 

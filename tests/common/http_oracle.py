@@ -33,6 +33,7 @@ NUMBER = re.compile(rb"0|[1-9][0-9]{0,8}")
 # Each route with its method, and what it asks; the first that has the target.
 ROUTES = (
     (rb"/v1/relays/([^/]+)/messages", "POST", "deliver"),
+    (rb"/v1/relays/([^/]+)/admission", "POST", "admission"),
     (rb"/v1/messages", "GET", "messages"),
     (rb"/v1/count", "GET", "count"),
     (rb"/v1/requests", "GET", "requests"),
@@ -128,7 +129,7 @@ def asks(given: bytes) -> tuple[Asked, bool]:
             "T4 BadMethod",
             "POST" if wanted == "POST" else "GET, HEAD",
         ), bare
-    if what == "deliver" and (fault := body_fault(given, fields, at)):
+    if what in ("deliver", "admission") and (fault := body_fault(given, fields, at)):
         return (*fault, None), bare
     if what == "history":
         return ("404 Not Found", "T3 NoRoute", None), bare

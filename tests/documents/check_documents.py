@@ -190,8 +190,8 @@ def http(page: Page) -> None:
     path = os.path.join(page.folder, "desk.sock")
     with desk.Server(program=[PROGRAM], listen=f"unix:{path}") as server:
         place, *asked = [it.replace("/run/desk/desk.sock", path) for it in page.blocks()[1:]]
-        posted, request, became, audited, messages, count, grants, parked, files = asked[:9]
-        later, review = asked[9:11]
+        posted, request, admitted, became, audited, messages, count, grants, parked = asked[:9]
+        files, later, review = asked[9:12]
         shown = page.blocks("")
         page.holds("an approval", page.out(place + posted) == "ack\n", page.run(place + posted))
         body = shown[0].split("\n\n")[1].strip()
@@ -201,6 +201,8 @@ def http(page: Page) -> None:
         page.holds("what waits", waits == page.file("approval.json") + "\n", waits)
         page.holds("its reply", whole(page, place + posted) == shown[1].strip(), shown[1])
         page.holds("a request", page.out(place + request) == "ack\n", page.run(place + request))
+        said = page.out(place + admitted)
+        page.holds("what it would be answered", said == "admitted\n", said)
         by_jq(page, place)
         what_became(page, place + became, 3)
         what_became(page, place + audited, 1)

@@ -67,6 +67,7 @@ SOUND = {
 UNSOUND = ["old/relay-chat", "early/relay-chat", "other/relay-chat", "gone/host-db1", "bare", None]
 SIGNED = f"signed/{'0123456789abcdef' * 2}"
 OF_A_DOOR = re.compile("/signed/|/v1/journal|/v1/signers")
+IS_MESSAGE = re.compile("POST [^ ]*/messages ")
 # The method, the target, a body or None, and whose it is.
 ROUTES = [
     ("POST", "/v1/relays/chat/messages", message(1), ("relay", "chat")),
@@ -85,6 +86,10 @@ ROUTES = [
     ("HEAD", f"/v1/hosts/db1/history/{SIGNED}", None, ("host", "db1")),
     ("GET", f"/v1/hosts/db2/at/20260105110000Z/{SIGNED}", None, ("host", "db2")),
     ("GET", f"/v1/hosts/db2/history/{SIGNED}", None, ("host", "db2")),
+    ("POST", "/v1/relays/chat/admission", message(4), ("relay", "chat")),
+    ("POST", "/v1/relays/mail/admission", message(4), ("relay", "mail")),
+    ("GET", "/v1/relays/chat/admission", None, None),
+    ("POST", "/v1/relays/chat/admission?x", message(4), None),
     ("GET", "/v1/journal/after/0", None, ("auditor", None)),
     ("HEAD", "/v1/signers/after/20260105110000Z", None, ("auditor", None)),
     ("GET", "/v1/count", None, ("host auditor", None)),
@@ -569,7 +574,7 @@ def compare_log(folder: str, recorder: front.Recorder, store: str) -> tuple[int,
     acked = {
         line["posted"]
         for line in lines
-        if line["status"] == line["desk"] == "200" and line["request"].startswith("POST")
+        if line["status"] == line["desk"] == "200" and IS_MESSAGE.match(line["request"])
     }
     held = subprocess.run(
         ["sqlite3", store, "SELECT body FROM messages"],
@@ -671,6 +676,7 @@ def apart(folder: str, words_of: Callable[..., list[str]]) -> tuple[int, int]:
     signed = f"/v1/hosts/db1/history/{SIGNED}"
     asked: list[tuple[str, str, str, bytes | None, int]] = [
         ("relay-chat", "POST", "/v1/relays/chat/messages", desk.approval().encode(), 0),
+        ("relay-chat", "POST", "/v1/relays/chat/admission", desk.approval().encode(), 1),
         ("host-db1", "GET", "/v1/hosts/db1/sudoers", None, 1),
         ("host-db1", "HEAD", "/v1/count", None, 1),
         ("auditor-carol", "GET", "/v1/messages", None, 1),

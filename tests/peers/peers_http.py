@@ -71,10 +71,24 @@ def post(relay: str, body: bytes, extra: Sequence[str] = ()) -> list[str | bytes
     return ["--data-binary", body, *extra, f"/v1/relays/{relay}/messages"]
 
 
+def admission(relay: str, body: bytes) -> list[str | bytes]:
+    """The question what such a delivery would be answered."""
+    return ["--data-binary", body, f"/v1/relays/{relay}/admission"]
+
+
 # What curl is given, and the status and the body of the reply; None stands for any body.
 ASKED: list[tuple[list[str | bytes], tuple[str, bytes]]] = [
+    (admission("chat", APPROVAL), ("200 OK", b"admitted\n")),
+    (admission("fax", APPROVAL), ("403 Forbidden", b"P1 UnknownRelay\n")),
+    (admission("chat", APPROVAL + b"\n"), ("400 Bad Request", b"M2 NotCanonical\n")),
     (["/v1/parked"], ("200 OK", b"")),
     (post("chat", APPROVAL), ACK),
+    (admission("mail", APPROVAL), ("200 OK", b"admitted\n")),
+    (["/v1/relays/chat/admission"], ("405 Method Not Allowed", b"T4 BadMethod\n")),
+    (["--head", "/v1/relays/chat/admission"], ("405 Method Not Allowed", b"")),
+    (["-X", "POST", "/v1/relays/chat/admission"], ("411 Length Required", b"T5 LengthRequired\n")),
+    (["/v1/relays/chat/admission/"], ("404 Not Found", b"T3 NoRoute\n")),
+    (["/v1/relays//admission"], ("404 Not Found", b"T3 NoRoute\n")),
     (["/v1/parked"], ("200 OK", APPROVAL + b"\n")),
     (post("mail", REQUEST), ACK),
     (post("mail", REQUEST), ACK),
@@ -274,6 +288,11 @@ def exchanges(request: bytes, roster: bytes) -> list[tuple[bytes, bytes]]:
         (desk.posted(b"web", APPROVAL, 16385), reply(b"413 Content Too Large", b"M1 TooLong\n")),
         (desk.posted(b"fax", APPROVAL), reply(b"403 Forbidden", b"P1 UnknownRelay\n")),
         (desk.posted(b"web", b"", 70)[:-2], reply(bad, b"T1 BadHead\n")),
+        # nor is what is asked
+        (desk.admission(b"web", APPROVAL), reply(b"200 OK", b"admitted\n")),
+        (desk.admission(b"fax", APPROVAL), reply(b"403 Forbidden", b"P1 UnknownRelay\n")),
+        (desk.admission(b"web", APPROVAL, 16385), reply(b"413 Content Too Large", b"M1 TooLong\n")),
+        (desk.admission(b"web", APPROVAL, 71), reply(bad, b"T7 ShortBody\n")),
         (desk.asked(b"GET", b"/v1/parked"), reply(b"200 OK", b"")),
         (desk.asked(b"GET", b"/v1/count"), none),
         # an approval and its request
@@ -711,6 +730,10 @@ def is_reply_to(given: bytes, whole: bytes) -> bool:
         return (
             status == "200 OK" and body == b"ack\n" or re.match(rb"[APM][1-8] ", body) is not None
         ) and is_known == (body != b"P1 UnknownRelay\n")
+    if what == "admission":
+        return (body == b"admitted\n" or re.match(rb"[AMP][1-8] ", body) is not None) and (
+            part in (b"chat", b"mail")
+        ) == (body != b"P1 UnknownRelay\n")
     if what == "count" and not bare:
         return status == "200 OK" and re.fullmatch(rb"[0-9]+( [0-9a-f]{64}){2}\n", body) is not None
     if what == "report" and not bare:
@@ -731,6 +754,7 @@ def change_requests(address: str) -> Counts:
     valid = [
         desk.posted(b"chat", APPROVAL),
         desk.posted(b"mail", REQUEST),
+        desk.admission(b"chat", APPROVAL),
         desk.asked(b"GET", b"/v1/grants/20260105093000Z"),
         desk.asked(b"HEAD", b"/v1/hosts/db1/sudoers"),
         desk.asked(b"GET", b"/v1/parked"),

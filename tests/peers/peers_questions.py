@@ -3,10 +3,10 @@
 
 Each request is made at both sockets of one desk. At that for questions the route of a relay's
 messages is not there, whatever the method and the content (`T3`), and nothing is stored; all else
-is answered as at the first, to the byte. The refusal waits for no content. Many peers there, silent
-or posting, keep no message from the first socket. Each socket opens to its own account and group;
-where one cannot be listened at, nothing is served. `python3 -m tests.peers.peers_questions WORDS..`
-runs another program than build/desk.
+is answered as at the first, to the byte, what a message would be answered too. The refusal waits
+for no content. Many peers there, silent, posting or asking, keep no message from the first socket.
+Each socket opens to its own account and group; where one cannot be listened at, nothing is served.
+`python3 -m tests.peers.peers_questions WORDS..` runs another program than build/desk.
 """
 
 import contextlib
@@ -33,6 +33,9 @@ TARGETS = (
     b"/v1/relays//messages",
     b"/v1/relays/chat/messages?x",
     b"/v1/relays/ch%61t/messages",
+    b"/v1/relays/chat/admission",
+    b"/v1/relays/nobody/admission",
+    b"/v1/relays/chat/admission/",
     b"/v1/messages",
     b"/v1/count",
     b"/v1/requests",
@@ -125,7 +128,10 @@ def is_of_messages(given: bytes) -> bool:
     """Whether the target is that of a relay's messages: then a POST of some content is taken, or
     refused for that, and any other method is refused with what the route allows."""
     asked, _ = asks(b"POST " + given.partition(b" ")[2])
-    return asked[0] == "deliver" or asked[1] in REFUSED_CONTENTS
+    target = given.split(b" ")[1]
+    return asked[0] == "deliver" or (
+        asked[1] in REFUSED_CONTENTS and not target.endswith(b"/admission")
+    )
 
 
 def what_it_answers(count: Count, two: Desk) -> None:
@@ -156,16 +162,17 @@ def what_waits_for_nothing(count: Count, two: Desk) -> None:
 
 
 def what_many_do(count: Count, two: Desk) -> None:
-    """Silent peers, and some that post without an end, at the socket for questions: a message comes
-    to the first socket all the same, and soon."""
-    ends = threading.Event()
+    """Silent peers, and some that post without an end, or ask what would be answered, at the socket
+    for questions: a message comes to the first socket all the same, and soon."""
+    ends, flood = threading.Event(), desk.request(8).encode()
 
-    def floods() -> None:
+    def floods(given: bytes) -> None:
         while not ends.is_set():
             with contextlib.suppress(OSError):
-                two.at_second(desk.posted(b"chat", desk.request(8).encode()))
+                two.at_second(given)
 
-    workers = [threading.Thread(target=floods) for _ in range(4)]
+    texts = (desk.posted(b"chat", flood), desk.admission(b"chat", flood))
+    workers = [threading.Thread(target=floods, args=(it,)) for it in texts for _ in range(4)]
     with contextlib.ExitStack() as stack:
         for _ in range(MANY):
             stack.enter_context(desk.connected(two.second, 60))
@@ -182,7 +189,7 @@ def what_many_do(count: Count, two: Desk) -> None:
             ends.set()
             for each in workers:
                 each.join()
-    count.holds("none of the flood", desk.request(8).encode() not in two.held(), two.held())
+    count.holds("none of the flood", flood not in two.held(), two.held())
 
 
 def who_may_open_them(count: Count, two: Desk) -> None:

@@ -33,6 +33,7 @@ PIECES = [
     *("é".encode(), b"web", b"db1", b"db9", b"20260105093000Z", b"sudoers", b"messages", b"parked"),
     b"count",
     b"history",
+    b"admission",
 ]
 REPLY = re.compile(
     rb"HTTP/1\.1 ([0-9]{3} [A-Za-z ]+)\r\nContent-Type: text/plain\r\n(?:Allow: ([A-Z, ]+)\r\n)?"
@@ -92,8 +93,8 @@ class Served:
         if len(asked) == 3:
             return Reply(asked[0], asked[1].encode() + b"\n", asked[2])
         what, part = asked
-        if what == "deliver":
-            return self.delivered(part, given)
+        if what in ("deliver", "admission"):
+            return self.delivered(part, given, what == "deliver")
         if what == "report":
             return Reply("200 OK", b"REVIEW %s\nLIVE\n" % part, is_whole=False)
         if what in ("file", "file after"):
@@ -110,8 +111,8 @@ class Served:
             lines = self.parked() if what == "parked" else sorted(self.held)
         return Reply("200 OK", "".join(f"{line}\n" for line in lines).encode())
 
-    def delivered(self, relay: bytes, given: bytes) -> Reply:
-        """The reply to a message that came whole."""
+    def delivered(self, relay: bytes, given: bytes, is_kept: bool) -> Reply:
+        """The reply to a message that came whole, to be kept or as a question."""
         head = http_oracle.head_of(given)
         assert head is not None
         [length] = [value for name, value in head[3] if name == b"content-length"]
@@ -119,9 +120,10 @@ class Served:
         if relay != b"web":
             return Reply("403 Forbidden", b"P1 UnknownRelay\n")
         said = soak_texts.answer(self.site, body)
-        if said == "ack":
+        if said == "ack" and is_kept:
             self.held[body.decode()] = json.loads(body)
-            return Reply("200 OK", b"ack\n")
+        if said == "ack":
+            return Reply("200 OK", b"ack\n" if is_kept else b"admitted\n")
         status = "400 Bad Request" if said.startswith("M") else "403 Forbidden"
         return Reply(status, f"{said}\n".encode())
 
@@ -139,6 +141,8 @@ def drawn(chance: random.Random) -> bytes:
     kind = chance.random()
     if kind < 0.55:
         text = desk.canonical(random_reports.message(chance))
+        if kind < 0.1:
+            return desk.admission(b"web", text.encode())
         return desk.posted(b"web", text.encode(), more=chance.choice([b"", b"", b"A:b\r\n" * 3]))
     return desk.asked(b"HEAD" if kind < 0.65 else b"GET", target)
 

@@ -14,7 +14,7 @@ use Rattle.desk_store.specs.Serves.{Serves}
 use Rattle.desk_store.specs.declared.keeper.Keeper.{Ghosts}
 use Rattle.desk_store.proofs.ServingLemmas.{served_as}
 use Rattle.relay_http.specs.Request.{Action, Request, deliver, all_messages, count, grants, parked, host_file, host_file_after, report, refused}
-use Rattle.relay_http.specs.Request.{requests, requests_after, named_request, host_at, open_requests, site_history}
+use Rattle.relay_http.specs.Request.{requests, requests_after, named_request, host_at, open_requests, site_history, admission}
 use Rattle.relay_http.specs.Counting.{most_failures, one_failure}
 use Rattle.relay_http.specs.Exchange.{IsAcknowledged, IsExchange, IsPost, WritesServerFailure}
 use Rattle.relay_http.specs.Responses.{Leaves, Response}
@@ -56,6 +56,7 @@ dated_delivery : (action : Action (List ℕ)) (relay body : List ℕ) → Dates 
 dated_delivery (deliver r b) relay body e =
     let texts : Action ℕ → Action (List ℕ) = λ a. elim a [
       | deliver x y ↦ deliver x y
+      | admission x y ↦ parked
       | all_messages ↦ parked
       | count ↦ parked
       | requests ↦ parked
@@ -72,6 +73,7 @@ dated_delivery (deliver r b) relay body e =
       | refused fault ↦ parked
     ] in
     sym (ap texts e)
+dated_delivery (admission r b) relay body e = absurd cc
 dated_delivery all_messages relay body e = absurd cc
 dated_delivery count relay body e = absurd cc
 dated_delivery requests relay body e = absurd cc
@@ -134,6 +136,7 @@ only_done_leaves Same old new (deliver relay body) response left =
       | inl done ↦ inr (relay, body, refl, done)
       | inr other ↦ inl (left.1 other)
     ]
+only_done_leaves Same old new (admission relay body) response left = inl left
 only_done_leaves Same old new all_messages response left = inl left
 only_done_leaves Same old new count response left = inl left
 only_done_leaves Same old new requests response left = inl left

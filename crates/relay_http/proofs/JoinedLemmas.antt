@@ -24,7 +24,7 @@ use Rattle.relay_http.specs.declared.status.ResponseStatus.TheVariants as status
 use Rattle.relay_http.proofs.AnswerLemmas.{is_storage, not_done, server_failure}
 
 -- a text is no failure
-done_is : (body : List ℕ) (e : Refusal) (P : Type 0) → done body ≡ refusal e → P
+pub done_is : (body : List ℕ) (e : Refusal) (P : Type 0) → done body ≡ refusal e → P
 done_is body e P is = not_done e P (sym (ap (λ (r : Response). r.status) is))
 
 not_failed : (body : List ℕ) (P : Type 0) → IsServerFailure (done body) → P

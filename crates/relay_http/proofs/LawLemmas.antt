@@ -7,19 +7,20 @@ use Rattle.std.proofs.lemmas.Slice.Eq.{bytes_eq-Decides}
 use Rattle.matchit.specs.Router.{RouteOf}
 use Rattle.matchit.specs.Seek.{first}
 use Rattle.relay_http.specs.Request.{Action, Request, deliver, all_messages, count, grants, parked, host_file, host_file_after, report, refused}
-use Rattle.relay_http.specs.Request.{requests, requests_after, named_request, host_at, open_requests, site_history}
+use Rattle.relay_http.specs.Request.{requests, requests_after, named_request, host_at, open_requests, site_history, admission}
 use Rattle.relay_http.specs.Content.{by_lengths, content, content_by_fields, is_length, most_content, sized}
 use Rattle.relay_http.specs.Fields.{Fields, values, is_bad_host}
 use Rattle.relay_http.specs.Routes.{offers, part, route_at, routes}
 use Rattle.relay_http.specs.Target.{is_plain}
-use Rattle.relay_http.specs.RequestBytes.{IsHttpRequest, IsHttpRequestByHead, Dates, allow, action_by, by_method, delivered, methods_of, on_route, sought}
+use Rattle.relay_http.specs.RequestBytes.{IsHttpRequest, IsHttpRequestByHead, Dates, allow, action_by, asked, by_method, delivered, methods_of, on_route}
+use Rattle.relay_http.specs.RequestBytes.{sought}
 use Rattle.relay_http.specs.declared.fault.RequestFault.{RequestFault}
 use Rattle.relay_http.specs.declared.fault.RequestFault.TheVariants.{BadHead, BadLength, BadMethod, BadTarget, ShortBody, TooLong}
 use Rattle.relay_http.specs.declared.offered.Offered.{Offered}
 use Rattle.relay_http.specs.declared.offered.Offered.TheVariants as socket
 use Rattle.relay_http.specs.declared.route.Route.{Route}
 use Rattle.relay_http.specs.declared.route.Route.TheVariants.{Messages, AllMessages, Count, Grants, Parked, HostFile, HostFileAfter, Report}
-use Rattle.relay_http.specs.declared.route.Route.TheVariants.{Requests, RequestsAfter, NamedRequest, HostAt, OpenRequests, SiteHistory}
+use Rattle.relay_http.specs.declared.route.Route.TheVariants.{Requests, RequestsAfter, NamedRequest, HostAt, OpenRequests, SiteHistory, Admission}
 use Rattle.relay_http.proofs.RouteLemmas.{all_if_messages, found_at}
 use Rattle.relay_http.proofs.SettleLemmas.{kept}
 
@@ -31,6 +32,7 @@ rest_ignored offered bytes more request x whole =
 head_at : (route : Route) (named : List ℕ → List ℕ) (fields : Fields) (rest : List ℕ)
     → by_method route (codes "HEAD") named fields rest ≡ by_method route (codes "GET") named fields rest
 head_at Messages named fields rest = refl
+head_at Admission named fields rest = refl
 head_at AllMessages named fields rest = refl
 head_at Count named fields rest = refl
 head_at Requests named fields rest = refl
@@ -59,6 +61,7 @@ head_action offered target minor fields rest =
 -- if it is a delivery, the method is POST, and the body is a beginning of the rest, of at most 16,384 bytes
 abbrev IsPosted : (method rest : List ℕ) → Action (List ℕ) → Type 0
 IsPosted method rest (deliver relay body) = (method ≡ codes "POST") × (length body ≤ 16384) × (body ≡ take (length body) rest)
+IsPosted method rest (admission relay body) = Unit {0}
 IsPosted method rest all_messages = Unit {0}
 IsPosted method rest count = Unit {0}
 IsPosted method rest requests = Unit {0}
@@ -110,6 +113,10 @@ module _ (rest : List ℕ) where
   posted method relay is (Ok body) h = (is, h.0, h.1)
   posted method relay is (Err fault) h = tt
 
+  posted_asking : (method relay : List ℕ) (found : Result (List ℕ) RequestFault) → IsPosted method rest (asked relay found)
+  posted_asking method relay (Ok body) = tt
+  posted_asking method relay (Err fault) = tt
+
   posted_at : (route : Route) (method : List ℕ) (named : List ℕ → List ℕ) (fields : Fields) → IsPosted method rest (by_method route method named fields rest)
   posted_at route method named fields = by route (allow (methods_of route) method) refl
     where
@@ -118,6 +125,7 @@ module _ (rest : List ℕ) where
       by route false e = tt
       by Messages true e = posted method (named (codes "relay")) ((bytes_eq-Decides method (codes "POST")).0 e) _
           (is_content (values (codes "transfer-encoding") fields) (values (codes "content-length") fields))
+      by Admission true e = posted_asking method (named (codes "relay")) (content_by_fields fields rest)
       by AllMessages true e = tt
       by Count true e = tt
       by Requests true e = tt
@@ -155,6 +163,7 @@ only_post_delivers offered method target minor fields rest relay body e =
 -- if it is a delivery, its route is that of a relay's messages
 abbrev IsOfMessages : Option (RouteOf Route) → Action (List ℕ) → Type 0
 IsOfMessages found (deliver relay body) = (route : RouteOf Route) × (found ≡ Some route) × (route.value ≡ Messages)
+IsOfMessages found (admission relay body) = Unit {0}
 IsOfMessages found all_messages = Unit {0}
 IsOfMessages found count = Unit {0}
 IsOfMessages found requests = Unit {0}
@@ -175,11 +184,16 @@ messages_delivered : (route : RouteOf Route) (relay : List ℕ) → route.value 
 messages_delivered route relay is (Ok body) = (route, refl, is)
 messages_delivered route relay is (Err fault) = tt
 
+asking_delivers_not : (found : Option (RouteOf Route)) (relay : List ℕ) (content : Result (List ℕ) RequestFault) → IsOfMessages found (asked relay content)
+asking_delivers_not found relay (Ok body) = tt
+asking_delivers_not found relay (Err fault) = tt
+
 module _ (method target rest : List ℕ) (fields : Fields) where
   messages_at : (route : RouteOf Route) (named : List ℕ → List ℕ) (value : Route) → route.value ≡ value
       → (b : Bool) → IsOfMessages (Some route) (cond b (sought value named fields rest) (refused (BadMethod (methods_of value))))
   messages_at route named value is false = tt
   messages_at route named Messages is true = messages_delivered route (named (codes "relay")) is (content_by_fields fields rest)
+  messages_at route named Admission is true = asking_delivers_not (Some route) (named (codes "relay")) (content_by_fields fields rest)
   messages_at route named AllMessages is true = tt
   messages_at route named Count is true = tt
   messages_at route named Requests is true = tt

@@ -10,6 +10,7 @@ pub mod SentLemmas
 pub mod AnswerLemmas
 pub mod JoinedLemmas
 pub mod HistoryLemmas
+pub mod AdmissionLemmas
 pub mod ResponseLemmas
 pub mod ExchangeLemmas
 pub mod OutgoingLemmas

@@ -20,7 +20,7 @@ use Rattle.httparse.proofs.GrammarLemmas.{request_unique}
 use Rattle.sudo_words.proofs.MomentLemmas.{stamp_is, stamp_only, stamp_spells}
 use Rattle.sudo_words.proofs.MomentTexts.{one_spelled}
 use Rattle.relay_http.specs.Request.{Action, Request, deliver, all_messages, count, grants, parked, host_file, host_file_after, report, refused}
-use Rattle.relay_http.specs.Request.{requests, requests_after, named_request, host_at, open_requests, site_history}
+use Rattle.relay_http.specs.Request.{requests, requests_after, named_request, host_at, open_requests, site_history, admission}
 use Rattle.relay_http.specs.declared.fault.RequestFault.TheVariants.{BadMoment, NoRoute}
 use Rattle.relay_http.specs.RequestBytes.{IsHttpRequest, IsHttpRequestByHead, Dates, DatesAt, DatesRequest, IsNumber, Numbers, front, request_by, request_from}
 use Rattle.relay_http.specs.declared.offered.Offered.{Offered}
@@ -90,6 +90,7 @@ one_numbered asker number a b (inr x) (inr y) = x.1 ∙ sym y.1
 -- so there is one action
 one_dated : (r : Action (List ℕ)) (a b : Action ℕ) → Dates r a → Dates r b → a ≡ b
 one_dated (deliver relay body) a b x y = x ∙ sym y
+one_dated (admission relay body) a b x y = x ∙ sym y
 one_dated all_messages a b x y = x ∙ sym y
 one_dated count a b x y = x ∙ sym y
 one_dated requests a b x y = x ∙ sym y
@@ -193,6 +194,7 @@ some_numbered asker number = by (is_name asker) refl (some_number number)
 
 some_dated : (r : Action (List ℕ)) → (a : Action ℕ) × Dates r a
 some_dated (deliver relay body) = (deliver relay body, refl)
+some_dated (admission relay body) = (admission relay body, refl)
 some_dated all_messages = (all_messages, refl)
 some_dated count = (count, refl)
 some_dated requests = (requests, refl)

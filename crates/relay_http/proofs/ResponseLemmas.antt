@@ -1,5 +1,5 @@
 -- What is asked has at most one response.
-use Rattle.std.proofs.Common.{◌≡◌, ◌∙◌, ℕ, true, false, List, [], ◌∷◌, ◌++◌, map, sym, ap, inl, inr, arith}
+use Rattle.std.proofs.Common.{◌≡◌, ◌∙◌, ◌⊎◌, ℕ, true, false, List, [], ◌∷◌, ◌++◌, Result, Ok, Err, map, sym, ap, inl, inr, arith}
 use Rattle.sudo_words.specs.Bytes.{newline}
 use Rattle.sudo_words.specs.declared.cmnd.Cmnd.{Cmnd}
 use Rattle.sudo_policy.specs.Printing.{canon}
@@ -8,6 +8,7 @@ use Rattle.messages.specs.declared.message.Message.{Message}
 use Rattle.roster.specs.Fields.{Reading, RosterFields}
 use Rattle.outcomes.specs.HostFile.{Line, lines_after, with_lines}
 use Rattle.outcomes.specs.Outcomes.{LiveGrant}
+use Rattle.desk.specs.declared.ack.Ack.{Ack}
 use Rattle.desk.specs.declared.refusal.Refusal.{Refusal}
 use Rattle.desk.proofs.CountLemmas.{one_count}
 use Rattle.desk.proofs.DeliveryLemmas.{one_answer}
@@ -18,10 +19,10 @@ use Rattle.review.proofs.ReportOne.{one_report}
 use Rattle.findings.specs.Picks.{after, all}
 use Rattle.desk_audit.proofs.OneText.{one_audit_text, one_name_text, one_open_text}
 use Rattle.relay_http.specs.Request.{Action, deliver, all_messages, count, grants, parked, host_file, host_file_after, report, refused}
-use Rattle.relay_http.specs.Request.{requests, requests_after, named_request, host_at, open_requests, site_history}
+use Rattle.relay_http.specs.Request.{requests, requests_after, named_request, host_at, open_requests, site_history, admission}
 use Rattle.relay_http.specs.Responses.{IsCountedFileResponse, IsFileResponse, IsHistoryResponse, IsResponse, Response, count_line, delivery, done}
 use Rattle.relay_http.specs.Responses.{is_known_host}
-use Rattle.relay_http.specs.Responses.{each_on_a_line, live_grant_line, refusal, to_delivery}
+use Rattle.relay_http.specs.Responses.{each_on_a_line, live_grant_line, refusal, to_admission, to_delivery}
 use Rattle.relay_http.proofs.AnswerLemmas.{not_done}
 
 -- a host is known, or it is not
@@ -66,9 +67,24 @@ one_history : (roster : List ℕ) (base : List Entry) (history : List ℕ) (a b 
     → IsHistoryResponse roster base history a → IsHistoryResponse roster base history b → a ≡ b
 one_history roster base history a b x y = x.1 ∙ sym y.1
 
+-- one answer, as the response to the question and as that to the delivery
+asked_by : (answer : Result Ack Refusal) (asked told : Response) → asked ≡ to_admission answer → told ≡ to_delivery answer
+    → ((ack : Ack) × (asked ≡ to_admission (Ok ack)) × (told ≡ to_delivery (Ok ack))) ⊎ ((e : Refusal) × (asked ≡ refusal e) × (told ≡ refusal e))
+asked_by (Ok ack) asked told x y = inl (ack, x, y)
+asked_by (Err e) asked told x y = inr (e, x, y)
+
+pub asked_as_delivered : (r : Reading) (base later_base : List Entry) (history later_history : List ℕ) (set later_set : List Message)
+    (relay body : List ℕ) (asked told : Response) → IsResponse r base history set (admission relay body) asked
+    → IsResponse r later_base later_history later_set (deliver relay body) told
+    → ((ack : Ack) × (asked ≡ to_admission (Ok ack)) × (told ≡ to_delivery (Ok ack))) ⊎ ((e : Refusal) × (asked ≡ refusal e) × (told ≡ refusal e))
+asked_as_delivered r base later_base history later_history set later_set relay body asked told x y =
+    asked_by x.0 asked told x.2 (y.2 ∙ ap to_delivery (one_answer r.says (delivery relay body) y.0 x.0 y.1 x.1))
+
 pub one_response : (r : Reading) (base : List Entry) (history : List ℕ) (set : List Message) (action : Action ℕ) (a b : Response)
     → IsResponse r base history set action a → IsResponse r base history set action b → a ≡ b
 one_response r base history set (deliver relay body) a b x y = x.2 ∙ ap to_delivery (one_answer r.says (delivery relay body) x.0 y.0 x.1 y.1) ∙ sym y.2
+one_response r base history set (admission relay body) a b x y =
+    x.2 ∙ ap to_admission (one_answer r.says (delivery relay body) x.0 y.0 x.1 y.1) ∙ sym y.2
 one_response r base history set all_messages a b x y =
     x.2 ∙ ap (λ (texts : List (List ℕ)). done (each_on_a_line texts)) (one_texts set set x.0 y.0 (λ m. (λ held. held, λ held. held)) x.1 y.1) ∙ sym y.2
 one_response r base history set count a b x y =

@@ -12,7 +12,7 @@ use Rattle.relay_http.specs.declared.offered.Offered.{Offered}
 use Rattle.relay_http.specs.declared.offered.Offered.TheVariants as socket
 use Rattle.relay_http.specs.declared.route.Route.{Route}
 use Rattle.relay_http.specs.declared.route.Route.TheVariants.{Messages, AllMessages, Count, Grants, Parked, HostFile, HostFileAfter, Report}
-use Rattle.relay_http.specs.declared.route.Route.TheVariants.{Requests, RequestsAfter, NamedRequest, HostAt, OpenRequests, SiteHistory}
+use Rattle.relay_http.specs.declared.route.Route.TheVariants.{Requests, RequestsAfter, NamedRequest, HostAt, OpenRequests, SiteHistory, Admission}
 use Rattle.relay_http.specs.Routes.{IsFreeRoute, RouteTakes, if_offered, is_question, offers, route_at, routes, added, with_route}
 use Rattle.relay_http.specs.Target.{is_plain, is_plain_byte}
 use Rattle.matchit.specs.Route.{parse_route}
@@ -161,6 +161,22 @@ pub free_site_history : IsFreeRoute (parse_route (codes "/v1/history"))
 unfolding scan
 free_site_history = refl
 
+pub free_admission : IsFreeRoute (parse_route (codes "/v1/relays/{relay}/admission"))
+    (with_route (codes "/v1/history") SiteHistory
+    (with_route (codes "/v1/open/{at}") OpenRequests
+    (with_route (codes "/v1/hosts/{host}/at/{at}") HostAt
+    (with_route (codes "/v1/requests/{asker}/{no}") NamedRequest
+    (with_route (codes "/v1/requests/after/{at}") RequestsAfter
+    (with_route (codes "/v1/requests") Requests
+    (with_route (codes "/v1/count") Count
+    (with_route (codes "/v1/messages") AllMessages
+    (with_route (codes "/v1/hosts/{host}/sudoers/{at}") HostFileAfter
+    (with_route (codes "/v1/reviews/{at}") Report (with_route (codes "/v1/hosts/{host}/sudoers") HostFile
+    (with_route (codes "/v1/parked") Parked (with_route (codes "/v1/grants/{at}") Grants
+    (with_route (codes "/v1/relays/{relay}/messages") Messages []))))))))))))))
+unfolding scan
+free_admission = refl
+
 and_true_left : (a b : Bool) → (a && b) ≡ true → a ≡ true
 and_true_left true b h = refl
 and_true_left false b h = h
@@ -184,6 +200,7 @@ plain_ascii target h = below_ascii target (plain_below target (and_true_right _ 
 -- the path of a route
 abbrev pub text_for : Route → List ℕ
 text_for Messages = codes "/v1/relays/{relay}/messages"
+text_for Admission = codes "/v1/relays/{relay}/admission"
 text_for AllMessages = codes "/v1/messages"
 text_for Count = codes "/v1/count"
 text_for Requests = codes "/v1/requests"
@@ -234,6 +251,7 @@ all_text pattern text path (name ∷ names) token at t p = (part_utf8 text _ _ t
 text_ascii : (route : Route) → IsAscii (route_for route).text
 unfolding scan
 text_ascii Messages = below_ascii (route_for Messages).text refl
+text_ascii Admission = below_ascii (route_for Admission).text refl
 text_ascii AllMessages = below_ascii (route_for AllMessages).text refl
 text_ascii Count = below_ascii (route_for Count).text refl
 text_ascii Requests = below_ascii (route_for Requests).text refl
@@ -334,6 +352,7 @@ messages_go target route found is =
 
 other_asks : (route : Route) → (route ≡ Messages → ⊥) → is_question route ≡ true
 other_asks Messages other = absurd (other refl)
+other_asks Admission other = refl
 other_asks AllMessages other = refl
 other_asks Count other = refl
 other_asks Requests other = refl

@@ -15,13 +15,13 @@ use Rattle.relay_http.specs.Routes.{part, route_at}
 use Rattle.relay_http.specs.Settled.{is_short, lacks_content}
 use Rattle.relay_http.specs.Target.{is_plain}
 use Rattle.relay_http.specs.RequestBytes.{IsHttpRequest, IsHttpRequestByHead, Dates, DatesRequest, HasHead, allow, action_by, request_from}
-use Rattle.relay_http.specs.RequestBytes.{by_method, delivered, front, is_head, methods_of, on_route, request_by, sought}
+use Rattle.relay_http.specs.RequestBytes.{asked, by_method, delivered, front, is_head, methods_of, on_route, request_by, sought}
 use Rattle.relay_http.specs.declared.fault.RequestFault.{RequestFault}
 use Rattle.relay_http.specs.declared.fault.RequestFault.TheVariants.{BadHead, BadLength, BadMethod, BadTarget, ShortBody, TooLong}
 use Rattle.relay_http.specs.declared.offered.Offered.{Offered}
 use Rattle.relay_http.specs.declared.route.Route.{Route}
 use Rattle.relay_http.specs.declared.route.Route.TheVariants.{Messages, AllMessages, Count, Grants, Parked, HostFile, HostFileAfter, Report}
-use Rattle.relay_http.specs.declared.route.Route.TheVariants.{Requests, RequestsAfter, NamedRequest, HostAt, OpenRequests, SiteHistory}
+use Rattle.relay_http.specs.declared.route.Route.TheVariants.{Requests, RequestsAfter, NamedRequest, HostAt, OpenRequests, SiteHistory, Admission}
 
 -- the content is there, or as many bytes as any content may have
 abbrev pub Enough : Result (List ℕ) RequestFault → List ℕ → Type 0
@@ -63,11 +63,18 @@ module _ (rest more : List ℕ) where
   enough_content relay found (inl h) = inl (λ e. h (ap (λ (r : Result (List ℕ) RequestFault). delivered relay r) e))
   enough_content relay found (inr h) = inr h
 
+  enough_asked : (relay : List ℕ) (found : Result (List ℕ) RequestFault) → EnoughForAction (asked relay found) rest → Enough found rest
+  enough_asked relay found (inl h) = inl (λ e. h (ap (λ (r : Result (List ℕ) RequestFault). asked relay r) e))
+  enough_asked relay found (inr h) = inr h
+
   sought_more : (route : Route) (named : List ℕ → List ℕ) (fields : Fields) → EnoughForAction (sought route named fields rest) rest
       → sought route named fields (rest ++ more) ≡ sought route named fields rest
   sought_more Messages named fields h =
       ap (λ (r : Result (List ℕ) RequestFault). delivered (named (codes "relay")) r) (content_more (values (codes "transfer-encoding") fields)
       (values (codes "content-length") fields) (enough_content (named (codes "relay")) (content_by_fields fields rest) h))
+  sought_more Admission named fields h =
+      ap (λ (r : Result (List ℕ) RequestFault). asked (named (codes "relay")) r) (content_more (values (codes "transfer-encoding") fields)
+      (values (codes "content-length") fields) (enough_asked (named (codes "relay")) (content_by_fields fields rest) h))
   sought_more AllMessages named fields h = refl
   sought_more Count named fields h = refl
   sought_more Requests named fields h = refl

@@ -13,7 +13,7 @@ use Rattle.httparse.specs.declared.spans.Span.{Span}
 use Rattle.httparse.proofs.GrammarLemmas.{ReadsRequest-append, request_unique}
 use Rattle.matchit.specs.Router.{RouteOf}
 use Rattle.relay_http.specs.Request.{Action, Request, deliver, all_messages, count, grants, parked, host_file, host_file_after, report, refused}
-use Rattle.relay_http.specs.Request.{requests, requests_after, named_request, host_at, open_requests, site_history}
+use Rattle.relay_http.specs.Request.{requests, requests_after, named_request, host_at, open_requests, site_history, admission}
 use Rattle.relay_http.specs.Content.{content, content_by_fields, by_lengths, is_length, most_content, sized}
 use Rattle.relay_http.specs.Fields.{Fields, values, is_bad_host}
 use Rattle.relay_http.specs.Needs.{HasNoHead, IsSettled, LacksContent}
@@ -23,7 +23,7 @@ use Rattle.relay_http.specs.Settled.{is_short, is_short_body, lacks_content}
 use Rattle.relay_http.specs.Stages.{IsFoundHead, IsHeadAt, NeverHasHead, cut, size, size_by, size_of}
 use Rattle.relay_http.specs.Target.{is_plain}
 use Rattle.relay_http.specs.RequestBytes.{IsHttpRequest, IsHttpRequestByHead, Dates, DatesRequest, HasHead, allow, action_by, request_from}
-use Rattle.relay_http.specs.RequestBytes.{by_method, delivered}
+use Rattle.relay_http.specs.RequestBytes.{asked, by_method, delivered}
 use Rattle.relay_http.specs.RequestBytes.{front, is_head, methods_of, on_route, sought}
 use Rattle.relay_http.specs.declared.fault.RequestFault.{RequestFault}
 use Rattle.relay_http.specs.declared.fault.RequestFault.TheVariants.{BadHead, BadTarget, NoRoute, BadMethod, LengthRequired, BadLength}
@@ -34,7 +34,7 @@ use Rattle.relay_http.specs.declared.head_scan.HeadScan.TheVariants.{Blank, Ende
 use Rattle.relay_http.specs.declared.offered.Offered.{Offered}
 use Rattle.relay_http.specs.declared.route.Route.{Route}
 use Rattle.relay_http.specs.declared.route.Route.TheVariants.{Messages, AllMessages, Count, Grants, Parked, HostFile, HostFileAfter, Report}
-use Rattle.relay_http.specs.declared.route.Route.TheVariants.{Requests, RequestsAfter, NamedRequest, HostAt, OpenRequests, SiteHistory}
+use Rattle.relay_http.specs.declared.route.Route.TheVariants.{Requests, RequestsAfter, NamedRequest, HostAt, OpenRequests, SiteHistory, Admission}
 use Rattle.relay_http.proofs.ScanLemmas.{ended_behind, ended_is_head, scanned-append}
 use Rattle.relay_http.proofs.SettleLemmas.{has_more, head_fits, headless_more, whole_more}
 use Rattle.relay_http.proofs.RequestLemmas.{one_request, some_request, take_rest}
@@ -113,11 +113,35 @@ settled_request offered bytes more request x asks =
 
 -- ---- who is asked for content
 
--- A request that is cut short: what it asks, whatever the content is, is a delivery of so many bytes.
-abbrev pub Posts : (List ℕ → Action (List ℕ)) → Fields → (rest : List ℕ) → Type 0
-Posts action fields rest =
-    (relay : List ℕ) × (n : ℕ) × (length rest < n) × (size_of fields ≡ Ok n) × (n ≤ 16384)
-    × ((other : List ℕ) → action other ≡ delivered relay (sized n other))
+-- what is asked with a content: a fault of the content is told, and with the content it is there
+pub record IsMaker (make : Result (List ℕ) RequestFault → Action (List ℕ)) : Type 0 where
+  pub fault : (f : RequestFault) → make (Err f) ≡ refused f
+  pub whole : (body : List ℕ) → (action : Action ℕ) × Dates (make (Ok body)) action × (lacks_content action ≡ false)
+  pub not_short : (body : List ℕ) → make (Ok body) ≡ refused ShortBody → ⊥
+
+delivered_makes : (relay : List ℕ) → IsMaker (λ found. delivered relay found)
+delivered_makes relay = record {
+  fault = λ f. refl;
+  whole = λ body. (deliver relay body, refl, refl);
+  not_short = λ body e. let wrong : ◌≡◌ {A = Action (List ℕ)} (deliver relay body) (refused ShortBody) = e in cc;
+}
+
+asked_makes : (relay : List ℕ) → IsMaker (λ found. asked relay found)
+asked_makes relay = record {
+  fault = λ f. refl;
+  whole = λ body. (admission relay body, refl, refl);
+  not_short = λ body e. let wrong : ◌≡◌ {A = Action (List ℕ)} (admission relay body) (refused ShortBody) = e in cc;
+}
+
+-- A request that is cut short: what it asks, whatever the content is, is made of so many bytes.
+pub record Posts (action : List ℕ → Action (List ℕ)) (fields : Fields) (rest : List ℕ) : Type 0 where
+  pub make : Result (List ℕ) RequestFault → Action (List ℕ)
+  pub makes : IsMaker make
+  pub amount : ℕ
+  pub short : length rest < amount
+  pub stated : size_of fields ≡ Ok amount
+  pub small : amount ≤ 16384
+  pub asks : (other : List ℕ) → action other ≡ make (sized amount other)
 
 size_by_not_short : (vs : List (List ℕ)) → size_by vs ≡ Err ShortBody → ⊥
 size_by_not_short [] e = cc
@@ -132,35 +156,45 @@ size_not_short : (cs vs : List (List ℕ)) → size cs vs ≡ Err ShortBody → 
 size_not_short [] vs e = size_by_not_short vs e
 size_not_short (c ∷ cs) vs e = cc
 
-cut_short : (s : Result ℕ RequestFault) (relay rest : List ℕ) → (s ≡ Err ShortBody → ⊥)
-    → ◌≡◌ {A = Action (List ℕ)} (delivered relay (cut s rest)) (refused ShortBody)
-    → (n : ℕ) × (s ≡ Ok n) × (length rest < n) × (n ≤ 16384)
-cut_short (Err fault) relay rest other e = absurd (other (let same : fault ≡ ShortBody = cc in ap Err same))
-cut_short (Ok n) relay rest other e = by (nat_lt most_content n) refl (nat_lt (length rest) n) refl e
-  where
-    by : (a : Bool) → nat_lt most_content n ≡ a → (b : Bool) → nat_lt (length rest) n ≡ b
-        → ◌≡◌ {A = Action (List ℕ)} (delivered relay (cond a (Err TooLong) (cond b (Err ShortBody) (Ok (take n rest))))) (refused ShortBody)
-        → (m : ℕ) × (◌≡◌ {A = Result ℕ RequestFault} (Ok n) (Ok m)) × (length rest < m) × (m ≤ 16384)
-    by true f b g e = absurd cc
-    by false f false g e = absurd cc
-    by false f true g e = (n, refl, grind (arith, nat_tests), grind (arith, nat_tests))
+module _ (make : Result (List ℕ) RequestFault → Action (List ℕ)) (makes : IsMaker make) where
+  cut_short : (s : Result ℕ RequestFault) (rest : List ℕ) → (s ≡ Err ShortBody → ⊥) → make (cut s rest) ≡ refused ShortBody
+      → (n : ℕ) × (s ≡ Ok n) × (length rest < n) × (n ≤ 16384)
+  cut_short (Err fault) rest other e =
+      let told : ◌≡◌ {A = Action (List ℕ)} (refused fault) (refused ShortBody) = sym (makes.fault fault) ∙ e in
+      absurd (other (let same : fault ≡ ShortBody = cc in ap Err same))
+  cut_short (Ok n) rest other e = by (nat_lt most_content n) refl (nat_lt (length rest) n) refl e
+    where
+      by : (a : Bool) → nat_lt most_content n ≡ a → (b : Bool) → nat_lt (length rest) n ≡ b
+          → make (cond a (Err TooLong) (cond b (Err ShortBody) (Ok (take n rest)))) ≡ refused ShortBody
+          → (m : ℕ) × (◌≡◌ {A = Result ℕ RequestFault} (Ok n) (Ok m)) × (length rest < m) × (m ≤ 16384)
+      by true f b g e =
+          let wrong : ◌≡◌ {A = Action (List ℕ)} (refused TooLong) (refused ShortBody) = sym (makes.fault TooLong) ∙ e in
+          absurd cc
+      by false f false g e = absurd (makes.not_short (take n rest) e)
+      by false f true g e = (n, refl, grind (arith, nat_tests), grind (arith, nat_tests))
+
+  made_short : (fields : Fields) (rest : List ℕ) → make (content_by_fields fields rest) ≡ refused ShortBody
+      → Posts (λ other. make (content_by_fields fields other)) fields rest
+  made_short fields rest e =
+      let here : make (cut (size_of fields) rest) ≡ refused ShortBody = ap make (sym (content_is fields rest)) ∙ e in
+      let c = cut_short (size_of fields) rest
+      (size_not_short (values (codes "transfer-encoding") fields) (values (codes "content-length") fields)) here in
+      record {
+        make = make;
+        makes = makes;
+        amount = c.0;
+        short = c.2;
+        stated = c.1;
+        small = c.3;
+        asks = λ other. ap make (content_is fields other ∙ ap (λ (s : Result ℕ RequestFault). cut s other) c.1);
+      }
 
 sought_short : (route : Route) (named : List ℕ → List ℕ) (fields : Fields) (rest : List ℕ) → sought route named fields rest ≡ refused ShortBody
     → Posts (λ other. sought route named fields other) fields rest
 sought_short Messages named fields rest e =
-    let relay = named (codes "relay") in
-    let here : ◌≡◌ {A = Action (List ℕ)} (delivered relay (cut (size_of fields) rest)) (refused ShortBody) =
-    ap (λ (r : Result (List ℕ) RequestFault). delivered relay r) (sym (content_is fields rest)) ∙ e in
-    let c = cut_short (size_of fields) relay rest
-    (size_not_short (values (codes "transfer-encoding") fields) (values (codes "content-length") fields)) here in (
-      relay,
-      c.0,
-      c.2,
-      c.1,
-      c.3,
-      λ other. ap (λ (r : Result (List ℕ) RequestFault). delivered relay r)
-          (content_is fields other ∙ ap (λ (s : Result ℕ RequestFault). cut s other) c.1),
-    )
+    made_short (λ found. delivered (named (codes "relay")) found) (delivered_makes (named (codes "relay"))) fields rest e
+sought_short Admission named fields rest e =
+    made_short (λ found. asked (named (codes "relay")) found) (asked_makes (named (codes "relay"))) fields rest e
 sought_short AllMessages named fields rest e = absurd cc
 sought_short Count named fields rest e = absurd cc
 sought_short Requests named fields rest e = absurd cc
@@ -215,6 +249,7 @@ short_is BadMoment e = absurd cc
 
 lacks_is : (action : Action ℕ) → lacks_content action ≡ true → action ≡ refused ShortBody
 lacks_is (deliver relay body) e = absurd cc
+lacks_is (admission relay body) e = absurd cc
 lacks_is all_messages e = absurd cc
 lacks_is count e = absurd cc
 lacks_is requests e = absurd cc
@@ -232,6 +267,7 @@ lacks_is (refused fault) e = ap (λ (f : RequestFault). refused f) (short_is fau
 
 dated_short : (action : Action (List ℕ)) → Dates action (refused ShortBody) → action ≡ refused ShortBody
 dated_short (deliver relay body) e = absurd cc
+dated_short (admission relay body) e = absurd cc
 dated_short all_messages e = absurd cc
 dated_short count e = absurd cc
 dated_short requests e = absurd cc
@@ -286,7 +322,7 @@ short_size offered bytes h request dates short =
     dated_short (request_from offered h bytes).action
     (subst (λ (a : Action ℕ). Dates (request_from offered h bytes).action a) (lacks_is request.action short) dates.1) in
     let posts = action_short offered h.method h.target h.minor (map name_and_value h.fields) (drop (length (print_request h)) bytes) here in
-    (posts.1, posts.3)
+    (posts.amount, posts.stated)
 
 -- where no content can be missing, the bytes are one request, whatever follows
 whole_by : (offered : Offered) (bytes : List ℕ) (head : Head) (h : RequestHead) (request : Request ℕ) → IsHeadAt bytes head h
@@ -301,8 +337,8 @@ whole_by offered bytes head h request at whole dates true short =
     (subst (λ (a : Action ℕ). Dates (request_from offered h bytes).action a) (lacks_is request.action short) dates.1) in
     let posts : Posts (λ other. action_by offered h.method h.target h.minor fields other) fields rest =
     action_short offered h.method h.target h.minor fields rest here in
-    let there : posts.1 ≤ length bytes - head.len = whole posts.1 (at.size ∙ posts.3) posts.4 in
-    absurd (omega (arith, posts.2, there, at.len, length-drop (length (print_request h)) bytes))
+    let there : posts.amount ≤ length bytes - head.len = whole posts.amount (at.size ∙ posts.stated) posts.small in
+    absurd (omega (arith, posts.short, there, at.len, length-drop (length (print_request h)) bytes))
 
 pub settled_whole : (offered : Offered) (bytes : List ℕ) (head : Head) → IsFoundHead bytes head
     → ((n : ℕ) → head.size ≡ Ok n → n ≤ 16384 → n ≤ length bytes - head.len) → IsSettled offered bytes
@@ -322,34 +358,33 @@ lacks_by offered bytes h request n has dates short sized_n =
     (subst (λ (a : Action ℕ). Dates (request_from offered h bytes).action a) (lacks_is request.action short) dates.1) in
     let posts : Posts (λ other. action_by offered h.method h.target h.minor fields other) fields (drop len bytes) =
     action_short offered h.method h.target h.minor fields (drop len bytes) here in
-    let same : posts.1 ≡ n = let both : ◌≡◌ {A = Result ℕ RequestFault} (Ok posts.1) (Ok n) = sym posts.3 ∙ sized_n in cc in
+    let same : posts.amount ≡ n = let both : ◌≡◌ {A = Result ℕ RequestFault} (Ok posts.amount) (Ok n) = sym posts.stated ∙ sized_n in cc in
     let is_len : length (drop len bytes) ≡ length bytes - len = length-drop len bytes in
-    let below : length bytes - len < n = omega (arith, posts.2, same, is_len) in
-    let small : n ≤ 16384 = omega (arith, posts.4, same) in
+    let below : length bytes - len < n = omega (arith, posts.short, same, is_len) in
+    let small : n ≤ 16384 = omega (arith, posts.small, same) in
     let later : (more : List ℕ) → length (drop len (bytes ++ more)) ≡ (length bytes - len) + length more = λ more.
     omega (arith, length-drop len (bytes ++ more), length-append bytes more, fits.0) in
-    let asks : (more : List ℕ) → (request_from offered h (bytes ++ more)).action ≡ delivered posts.0 (sized n (drop len (bytes ++ more))) = λ more.
-    posts.5 (drop len (bytes ++ more)) ∙ ap (λ (m : ℕ). delivered posts.0 (sized m (drop len (bytes ++ more)))) same in
+    let asks : (more : List ℕ) → (request_from offered h (bytes ++ more)).action ≡ posts.make (sized n (drop len (bytes ++ more))) = λ more.
+    posts.asks (drop len (bytes ++ more)) ∙ ap (λ (m : ℕ). posts.make (sized m (drop len (bytes ++ more)))) same in
     record {
       some = omega (arith, below);
       fits = omega (arith, fits.0, fits.1, below, small);
       short = λ more lt request2 asks2.
           let cut_off : (request_from offered h (bytes ++ more)).action ≡ refused ShortBody =
-          asks more ∙ ap (λ (r : Result (List ℕ) RequestFault). delivered posts.0 r)
-          (sized_short n (drop len (bytes ++ more)) small (omega (arith, later more, lt))) in
+          asks more ∙ ap posts.make (sized_short n (drop len (bytes ++ more)) small (omega (arith, later more, lt))) ∙ posts.makes.fault ShortBody in
           let x : IsHttpRequestByHead offered (bytes ++ more) (record { with_body = not (is_head h.method); action = refused ShortBody }) =
           request_so offered (bytes ++ more) h (refused ShortBody) (has_more bytes more h has)
           (subst (λ (a : Action (List ℕ)). Dates a (refused ShortBody)) (sym cut_off) refl) in
           ap (λ (r : Request ℕ). r.action) (one_request offered (bytes ++ more) request2 _ asks2 (inl x));
       enough = λ more le.
           let body = take n (drop len (bytes ++ more)) in
-          let whole : (request_from offered h (bytes ++ more)).action ≡ deliver posts.0 body =
-          asks more ∙ ap (λ (r : Result (List ℕ) RequestFault). delivered posts.0 r)
-          (sized_whole n (drop len (bytes ++ more)) small (omega (arith, later more, le))) in
-          let x : IsHttpRequestByHead offered (bytes ++ more) (record { with_body = not (is_head h.method); action = deliver posts.0 body }) =
-          request_so offered (bytes ++ more) h (deliver posts.0 body) (has_more bytes more h has)
-          (subst (λ (a : Action (List ℕ)). Dates a (deliver posts.0 body)) (sym whole) refl) in
-          settled_by offered (bytes ++ more) _ x refl;
+          let made = posts.makes.whole body in
+          let whole : (request_from offered h (bytes ++ more)).action ≡ posts.make (Ok body) =
+          asks more ∙ ap posts.make (sized_whole n (drop len (bytes ++ more)) small (omega (arith, later more, le))) in
+          let x : IsHttpRequestByHead offered (bytes ++ more) (record { with_body = not (is_head h.method); action = made.0 }) =
+          request_so offered (bytes ++ more) h made.0 (has_more bytes more h has)
+          (subst (λ (a : Action (List ℕ)). Dates a made.0) (sym whole) made.1) in
+          settled_by offered (bytes ++ more) _ x made.2;
     }
 
 pub lacks_more : (offered : Offered) (bytes more : List ℕ) (n : ℕ) → LacksContent offered bytes n → length more < n

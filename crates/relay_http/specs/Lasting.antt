@@ -9,7 +9,7 @@ use Rattle.desk.specs.Crash.{IsAddedByDelivery}
 use Rattle.relay_http.specs.Request.{Action, deliver, all_messages, count, grants}
 use Rattle.relay_http.specs.Request.{parked, host_file, host_file_after, report, refused}
 use Rattle.relay_http.specs.Request.{requests, requests_after, named_request, host_at}
-use Rattle.relay_http.specs.Request.{open_requests, site_history}
+use Rattle.relay_http.specs.Request.{open_requests, site_history, admission}
 use Rattle.relay_http.specs.Responses.{Response}
 use Rattle.relay_http.specs.declared.status.ResponseStatus.TheVariants.{Done}
 
@@ -19,6 +19,7 @@ abbrev pub IsAddedBy : (Up : Type 0) → RosterFields Cmnd → (roster : List �
     → (old : Message → Type 0) → Action ℕ → Left → Type 0
 IsAddedBy Up f roster old (deliver relay body) left =
     IsAddedByDelivery Up f roster old (record { relay = relay; body = body }) left
+IsAddedBy Up f roster old (admission relay body) left = ⊥
 IsAddedBy Up f roster old all_messages left = ⊥
 IsAddedBy Up f roster old count left = ⊥
 IsAddedBy Up f roster old requests left = ⊥

@@ -7,13 +7,15 @@ use Rattle.relay_http.specs.declared.action.Action.TheVariants.{Count, Parked, H
 use Rattle.relay_http.specs.declared.action.Action.TheVariants.{HostFileAfter, Report, Refused}
 use Rattle.relay_http.specs.declared.action.Action.TheVariants.{Requests, RequestsAfter}
 use Rattle.relay_http.specs.declared.action.Action.TheVariants.{NamedRequest, HostAt, OpenRequests}
-use Rattle.relay_http.specs.declared.action.Action.TheVariants.{SiteHistory}
+use Rattle.relay_http.specs.declared.action.Action.TheVariants.{SiteHistory, Admission}
 use Rattle.relay_http.specs.declared.action.HttpRequest.{HttpRequest}
 
--- A delivery by a relay, a query, or the first fault that applies. `At` is the type of a moment and
--- of a request's number: the seconds and the number, or a text that is still to be read.
+-- A delivery by a relay, the question what it would be answered, another query, or the first fault
+-- that applies. `At` is the type of a moment and of a request's number: the seconds and the number,
+-- or a text that is still to be read.
 pub data Action (At : Type 0) : Type 0 where
   deliver : (relay body : List ℕ) → Action At
+  admission : (relay body : List ℕ) → Action At
   all_messages : Action At
   count : Action At
   requests : Action At
@@ -38,6 +40,7 @@ pub record Request (At : Type 0) : Type 0 where
 -- the action that is the program's value, whose texts are borrowed
 abbrev pub action_of : Borrowed → Action ℕ
 action_of (Deliver relay body) = deliver relay.now body.now
+action_of (Admission relay body) = admission relay.now body.now
 action_of AllMessages = all_messages
 action_of Count = count
 action_of Requests = requests

@@ -11,7 +11,7 @@ use Rattle.messages.specs.Fields.{IsNumbered}
 use Rattle.relay_http.specs.Request.{Action, Request, deliver, all_messages, count, grants}
 use Rattle.relay_http.specs.Request.{parked, host_file, host_file_after, report, refused}
 use Rattle.relay_http.specs.Request.{requests, requests_after, named_request, host_at}
-use Rattle.relay_http.specs.Request.{open_requests, site_history}
+use Rattle.relay_http.specs.Request.{open_requests, site_history, admission}
 use Rattle.relay_http.specs.Fields.{Fields, values, is_bad_host}
 use Rattle.relay_http.specs.Content.{content_by_fields}
 use Rattle.relay_http.specs.Target.{is_plain}
@@ -26,6 +26,7 @@ use Rattle.relay_http.specs.declared.route.Route.TheVariants.{Parked, HostFile, 
 use Rattle.relay_http.specs.declared.route.Route.TheVariants.{Report, Requests}
 use Rattle.relay_http.specs.declared.route.Route.TheVariants.{RequestsAfter, NamedRequest}
 use Rattle.relay_http.specs.declared.route.Route.TheVariants.{HostAt, OpenRequests, SiteHistory}
+use Rattle.relay_http.specs.declared.route.Route.TheVariants.{Admission}
 use Rattle.relay_http.specs.declared.route.Methods.{Methods}
 use Rattle.relay_http.specs.declared.route.Methods.TheVariants.{Post, GetOrHead}
 
@@ -42,6 +43,7 @@ is_head method = bytes_eq method (codes "HEAD")
 -- the methods that a route has; where it has GET, it has HEAD too
 abbrev pub methods_of : Route → Methods
 methods_of Messages = Post
+methods_of Admission = Post
 methods_of AllMessages = GetOrHead
 methods_of Count = GetOrHead
 methods_of Requests = GetOrHead
@@ -66,10 +68,17 @@ abbrev pub delivered : {At : Type 0} → (relay : List ℕ) → Result (List ℕ
 delivered relay (Ok body) = deliver relay body
 delivered relay (Err fault) = refused fault
 
+-- the question what a delivery of this content would be answered
+abbrev pub asked : {At : Type 0} → (relay : List ℕ) → Result (List ℕ) RequestFault → Action At
+asked relay (Ok body) = admission relay body
+asked relay (Err fault) = refused fault
+
 -- what is sought at a route, where its parameter of a name took this part of the target
 abbrev pub sought : Route → (List ℕ → List ℕ) → Fields → (rest : List ℕ) → Action (List ℕ)
 sought Messages part_named fields rest =
     delivered (part_named (codes "relay")) (content_by_fields fields rest)
+sought Admission part_named fields rest =
+    asked (part_named (codes "relay")) (content_by_fields fields rest)
 sought AllMessages part_named fields rest = all_messages
 sought Count part_named fields rest = count
 sought Requests part_named fields rest = requests
@@ -144,6 +153,7 @@ Numbers asker number action =
 -- the action, once its moment or number is read
 abbrev pub Dates : Action (List ℕ) → Action ℕ → Type 0
 Dates (deliver relay body) action = action ≡ deliver relay body
+Dates (admission relay body) action = action ≡ admission relay body
 Dates all_messages action = action ≡ all_messages
 Dates count action = action ≡ count
 Dates requests action = action ≡ requests

@@ -38,7 +38,7 @@ use Rattle.desk_audit.specs.Documents.{IsAuditText, IsNameText, IsOpenText}
 use Rattle.relay_http.specs.Request.{Action, deliver, all_messages, count, grants, parked}
 use Rattle.relay_http.specs.Request.{host_file, host_file_after, report, refused}
 use Rattle.relay_http.specs.Request.{requests, requests_after, named_request, host_at}
-use Rattle.relay_http.specs.Request.{open_requests, site_history}
+use Rattle.relay_http.specs.Request.{open_requests, site_history, admission}
 use Rattle.relay_http.specs.Response.{fault_line, status_of}
 use Rattle.relay_http.specs.declared.fault.RequestFault.{RequestFault}
 use Rattle.relay_http.specs.declared.fault.RequestFault.TheVariants.{NoRoute}
@@ -102,6 +102,12 @@ abbrev pub to_delivery : Result Ack Refusal → Response
 to_delivery (Ok ack) = done (codes "ack" ++ newline ∷ [])
 to_delivery (Err e) = refusal e
 
+-- The response to the question what a delivery would be answered: nothing is kept, so its body is
+-- never that of an acknowledgement.
+abbrev pub to_admission : Result Ack Refusal → Response
+to_admission (Ok ack) = done (codes "admitted" ++ newline ∷ [])
+to_admission (Err e) = refusal e
+
 -- the response to a request that is refused by its bytes alone
 abbrev pub to_fault : RequestFault → Response
 to_fault fault = record { status = status_of fault; body = fault_line fault }
@@ -156,6 +162,8 @@ abbrev pub IsResponse : Reading → (base : List Entry) → (history : List ℕ)
     → List Message → Action ℕ → Response → Type 0
 IsResponse r base history set (deliver relay body) response = (answer : Result Ack Refusal)
     × Answers r.says (delivery relay body) answer × (response ≡ to_delivery answer)
+IsResponse r base history set (admission relay body) response = (answer : Result Ack Refusal)
+    × Answers r.says (delivery relay body) answer × (response ≡ to_admission answer)
 IsResponse r base history set all_messages response =
     (texts : List (List ℕ)) × AreTexts set texts × (response ≡ done (each_on_a_line texts))
 IsResponse r base history set count response = (messages : ℕ) × IsCount set messages
@@ -205,6 +213,7 @@ Stores body response m = IsMessage m × (body ≡ wire m) × (response.status �
 abbrev pub Leaves : (Same : Type 0) → (old new : Message → Type 0) → Action ℕ → Response → Type 0
 Leaves Same old new (deliver relay body) response =
     SameSet (λ m. old m ⊎ Stores body response m) new × (response.status ≢ status.Done → Same)
+Leaves Same old new (admission relay body) response = Same
 Leaves Same old new all_messages response = Same
 Leaves Same old new count response = Same
 Leaves Same old new requests response = Same

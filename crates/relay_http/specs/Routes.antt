@@ -16,6 +16,7 @@ use Rattle.relay_http.specs.declared.route.Route.TheVariants.{Parked, HostFile, 
 use Rattle.relay_http.specs.declared.route.Route.TheVariants.{Report, Requests}
 use Rattle.relay_http.specs.declared.route.Route.TheVariants.{RequestsAfter, NamedRequest}
 use Rattle.relay_http.specs.declared.route.Route.TheVariants.{HostAt, OpenRequests, SiteHistory}
+use Rattle.relay_http.specs.declared.route.Route.TheVariants.{Admission}
 
 -- the routes with one more
 abbrev pub added : Result Scan InsertError → Route → RowsOf (RouteOf Route) → RowsOf (RouteOf Route)
@@ -35,7 +36,8 @@ IsFreeRoute (Err e) rows = ⊥
 -- where no such route has the rest of the target.
 unfoldable pub routes : RowsOf (RouteOf Route)
 routes =
-    with_route (codes "/v1/history") SiteHistory
+    with_route (codes "/v1/relays/{relay}/admission") Admission
+    (with_route (codes "/v1/history") SiteHistory
     (with_route (codes "/v1/open/{at}") OpenRequests
     (with_route (codes "/v1/hosts/{host}/at/{at}") HostAt
     (with_route (codes "/v1/requests/{asker}/{no}") NamedRequest
@@ -48,11 +50,13 @@ routes =
     (with_route (codes "/v1/hosts/{host}/sudoers") HostFile
     (with_route (codes "/v1/parked") Parked
     (with_route (codes "/v1/grants/{at}") Grants
-    (with_route (codes "/v1/relays/{relay}/messages") Messages [])))))))))))))
+    (with_route (codes "/v1/relays/{relay}/messages") Messages []))))))))))))))
 
--- a route by which something is asked, and no message is taken
+-- A route by which something is asked, and no message is taken: that of what a message would be
+-- answered too, although its content is a message.
 abbrev pub is_question : Route → Bool
 is_question Messages = false
+is_question Admission = true
 is_question AllMessages = true
 is_question Count = true
 is_question Requests = true
@@ -89,6 +93,7 @@ part name route target =
 -- the name of the first parameter of a route
 abbrev pub parameter : Route → List ℕ
 parameter Messages = codes "relay"
+parameter Admission = codes "relay"
 parameter AllMessages = []
 parameter Count = []
 parameter Requests = []
@@ -106,6 +111,7 @@ parameter OpenRequests = codes "at"
 -- the name of the second
 abbrev pub second_parameter : Route → List ℕ
 second_parameter Messages = []
+second_parameter Admission = []
 second_parameter AllMessages = []
 second_parameter Count = []
 second_parameter Requests = []

@@ -3,7 +3,7 @@ use Rattle.std.specs.Prelude.{Bool, true, false}
 use Rattle.relay_http.specs.Request.{Action, Request, deliver, all_messages, count, grants}
 use Rattle.relay_http.specs.Request.{parked, host_file, host_file_after, report, refused}
 use Rattle.relay_http.specs.Request.{requests, requests_after, named_request, host_at}
-use Rattle.relay_http.specs.Request.{open_requests, site_history}
+use Rattle.relay_http.specs.Request.{open_requests, site_history, admission}
 use Rattle.relay_http.specs.declared.fault.RequestFault.{RequestFault}
 use Rattle.relay_http.specs.declared.fault.RequestFault.TheVariants.{BadHead, BadTarget, NoRoute}
 use Rattle.relay_http.specs.declared.fault.RequestFault.TheVariants.{BadMethod, LengthRequired}
@@ -23,6 +23,7 @@ is_short_body BadMoment = false
 
 abbrev pub lacks_content : {At : Type 0} → Action At → Bool
 lacks_content (deliver relay body) = false
+lacks_content (admission relay body) = false
 lacks_content all_messages = false
 lacks_content count = false
 lacks_content requests = false

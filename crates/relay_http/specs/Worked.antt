@@ -17,6 +17,11 @@ abbrev pub posted : (size : List ℕ) → List ℕ
 posted size = lines (codes "POST /v1/relays/web/messages HTTP/1.1"
     ∷ codes "Host: desk" ∷ (codes "Content-Length: " ++ size) ∷ [] ∷ []) ++ approval_body
 
+-- the question of the relay `web` what that would be answered
+abbrev pub asking : (size : List ℕ) → List ℕ
+asking size = lines (codes "POST /v1/relays/web/admission HTTP/1.1"
+    ∷ codes "Host: desk" ∷ (codes "Content-Length: " ++ size) ∷ [] ∷ []) ++ approval_body
+
 -- a head of this request line and one Host field
 abbrev pub head_with_host : (request_line : List ℕ) → List ℕ
 head_with_host request_line = lines (request_line ∷ codes "Host: desk" ∷ [] ∷ [])

@@ -8,6 +8,8 @@ use sudo_words::Moment;
 pub enum Action<'b> {
     /// The delivery of a message by a relay. The relay may have any name and the message any form.
     Deliver { relay: &'b str, body: &'b [u8] },
+    /// What such a delivery would be answered, with nothing kept.
+    Admission { relay: &'b str, body: &'b [u8] },
     /// Every message.
     AllMessages,
     /// How many messages there are, under which roster and which base.

@@ -11,7 +11,7 @@ ghost use Rattle.desk.specs.Serving.{KeepsSettings, OnlyAsks};
 ghost use Rattle.relay_http.specs.Request.{all_messages, action_of, count, deliver, grants};
 ghost use Rattle.relay_http.specs.Request.{host_at, host_file, host_file_after, named_request};
 ghost use Rattle.relay_http.specs.Request.{parked, report, requests, requests_after};
-ghost use Rattle.relay_http.specs.Request.{open_requests, site_history};
+ghost use Rattle.relay_http.specs.Request.{admission, open_requests, site_history};
 ghost use Rattle.relay_http.specs.Exchange.{IsAnswered};
 ghost use Rattle.relay_http.specs.Lasting.{Lasts};
 ghost use Rattle.relay_http.specs.Prepared.{IsCountText, IsJoined, response_of, to_question};
@@ -19,8 +19,11 @@ ghost use Rattle.relay_http.specs.Prepared.{to_told};
 ghost use Rattle.relay_http.specs.Responses.{ResponseTells, count_line};
 
 use crate::action::Action;
+use crate::admission::admission;
 use crate::bodies::{count_text, lines_text, live_text};
-use crate::prepared::{PreparedResponse, to_delivery, to_fault, to_question, to_told};
+use crate::prepared::{
+    PreparedResponse, to_admission, to_delivery, to_fault, to_question, to_told,
+};
 use desk::{Desk, Keeper, Refusal};
 use findings::Pick;
 use std::alloc::Global;
@@ -38,6 +41,20 @@ fn delivered<K: Keeper>(desk: &mut Desk<K>, relay: &str, body: &[u8]) -> Prepare
     ensures settings { KeepsSettings desk.old desk.new }
 {
     to_delivery(desk.deliver(relay, body))
+}
+
+/// What a delivery would be answered. It keeps nothing.
+fn asked<K: Keeper>(alloc: Global, desk: &mut Desk<K>, relay: &str, body: &[u8]) -> PreparedResponse
+    ensures answered { IsAnswered desk.old.roster desk.old.base desk.old.history
+        (K.is_up desk.new.keeper) (K.holds desk.old.keeper) (K.holds desk.new.keeper)
+        (K.is_same desk.old.keeper desk.new.keeper) (Serves K.Keeper desk.old.keeper
+        desk.new.keeper) (admission relay.now body.now) (response_of result) }
+    ensures lasts { Lasts K.Keeper desk.old.roster.says desk.old.roster.text
+        desk.old.keeper desk.new.keeper (admission relay.now body.now) (response_of result) }
+    ensures told { ResponseTells result.refusal (response_of result) }
+    ensures settings { KeepsSettings desk.old desk.new }
+{
+    to_admission(admission(alloc, desk, relay, body))
 }
 
 /// The lines of all messages.
@@ -327,6 +344,7 @@ pub fn answered<K: Keeper>(
 {
     match action {
         Action::Deliver { relay, body } => delivered(desk, relay, body),
+        Action::Admission { relay, body } => asked(alloc, desk, relay, body),
         Action::AllMessages => to_question(all_messages(alloc, desk)),
         Action::Count => to_question(count(alloc, desk)),
         Action::Requests => to_question(requests(desk)),

@@ -1,6 +1,6 @@
 //! The laws of requests and responses, each the contract of a function that does nothing.
 
-ghost use Rattle.std.specs.Prelude.{◌≡◌, ◌≤◌, ◌++◌, ℕ, List, [], None, Some};
+ghost use Rattle.std.specs.Prelude.{◌≡◌, ◌⊎◌, ◌≤◌, ◌++◌, ℕ, List, [], None, Some};
 ghost use Rattle.std.specs.Prelude.{Ok, Option, Result, codes, false, length, take, true};
 ghost use Rattle.httparse.specs.Grammar.{ReadsRequest, RequestHead};
 ghost use Rattle.matchit.specs.Router.{RouteOf};
@@ -8,12 +8,14 @@ ghost use Rattle.matchit.specs.Seek.{first};
 ghost use Rattle.sudo_policy.specs.declared.entry.Entry.{Entry};
 ghost use Rattle.messages.specs.declared.message.Message.{Message};
 ghost use Rattle.roster.specs.Fields.{Reading};
+ghost use Rattle.desk.specs.declared.ack.Ack.{Ack};
 ghost use Rattle.desk.specs.declared.refusal.Refusal.{Refusal};
 ghost use Rattle.relay_http.specs.Receiving.{HasCome, HasReceived};
-ghost use Rattle.relay_http.specs.Request.{Action, Request, count, deliver, host_at};
-ghost use Rattle.relay_http.specs.Request.{host_file_after, refused};
+ghost use Rattle.relay_http.specs.Request.{Action, Request, admission, count, deliver};
+ghost use Rattle.relay_http.specs.Request.{host_at, host_file_after, refused};
 ghost use Rattle.relay_http.specs.Fields.{Fields};
 ghost use Rattle.relay_http.specs.Responses.{Response, IsResponse, done, refusal};
+ghost use Rattle.relay_http.specs.Responses.{to_admission, to_delivery};
 ghost use Rattle.relay_http.specs.Response.{written};
 ghost use Rattle.relay_http.specs.Routes.{route_at, routes};
 ghost use Rattle.relay_http.specs.RequestBytes.{IsHttpRequest, IsHttpRequestByHead};
@@ -104,6 +106,18 @@ pub fn one_response()
     ensures { (roster : Reading) (base : List Entry) (history : List ℕ) (set : List Message)
         (action : Action ℕ) (a b : Response) → IsResponse roster base history set action a
         → IsResponse roster base history set action b → a ≡ b }
+{}
+
+/// Under one roster, whatever base, history and messages there are at the time: a message is
+/// answered as admitted where its delivery is acknowledged, and every refusal is that of its
+/// delivery.
+pub fn asked_as_delivered()
+    ensures { (roster : Reading) (base later_base : List Entry) (history later_history : List ℕ)
+        (set later_set : List Message) (relay body : List ℕ) (asked answer : Response)
+        → IsResponse roster base history set (admission relay body) asked
+        → IsResponse roster later_base later_history later_set (deliver relay body) answer
+        → ((ack : Ack) × (asked ≡ to_admission (Ok ack)) × (answer ≡ to_delivery (Ok ack)))
+        ⊎ ((e : Refusal) × (asked ≡ refusal e) × (answer ≡ refusal e)) }
 {}
 
 /// Two steps of receiving, one after the other, are like one step: the bytes that come are those

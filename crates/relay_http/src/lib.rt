@@ -4,6 +4,7 @@
 #![tactic(auto)]
 
 mod action;
+mod admission;
 mod answering;
 mod bodies;
 mod body;

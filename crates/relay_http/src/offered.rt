@@ -7,7 +7,8 @@ use crate::route::Route;
 pub enum Offered {
     /// All of them.
     All,
-    /// Each but that of a relay's messages, so that no message is taken.
+    /// Each but that of a relay's messages, so that no message is taken. What a message would be
+    /// answered is a question.
     Questions,
 }
 

@@ -2,7 +2,8 @@
 
 ghost use Rattle.std.specs.Prelude.{◌≡◌, string_bytes};
 ghost use Rattle.relay_http.specs.Prepared.{response_of, to_question, to_told};
-ghost use Rattle.relay_http.specs.Responses.{ResponseTells, refusal, to_delivery, to_history};
+ghost use Rattle.relay_http.specs.Responses.{ResponseTells, refusal, to_admission, to_delivery};
+ghost use Rattle.relay_http.specs.Responses.{to_history};
 ghost use Rattle.relay_http.specs.Response.{fault_line, status_of};
 
 use crate::body::Body;
@@ -69,6 +70,21 @@ pub fn to_delivery(answer: Result<Ack, Refusal>) -> PreparedResponse
         Ok(_) => PreparedResponse {
             status: ResponseStatus::Done,
             body: Body::Fixed(b"ack\n"),
+            refusal: None,
+        },
+        Err(reason) => to_refusal(reason),
+    }
+}
+
+/// The response to the question what a delivery would be answered. It takes no memory.
+pub fn to_admission(answer: Result<Ack, Refusal>) -> PreparedResponse
+    ensures response { response_of result ≡ to_admission answer }
+    ensures told { ResponseTells result.refusal (response_of result) }
+{
+    match answer {
+        Ok(_) => PreparedResponse {
+            status: ResponseStatus::Done,
+            body: Body::Fixed(b"admitted\n"),
             refusal: None,
         },
         Err(reason) => to_refusal(reason),

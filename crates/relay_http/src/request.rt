@@ -12,7 +12,8 @@ ghost use Rattle.relay_http.specs.Settled.{is_short};
 ghost use Rattle.relay_http.specs.Stages.{IsFoundHead, IsHeadAt, cut, size_of};
 ghost use Rattle.relay_http.specs.RequestBytes.{IsHttpRequest, Dates, DatesRequest};
 ghost use Rattle.relay_http.specs.RequestBytes.{action_by, request_from};
-ghost use Rattle.relay_http.specs.RequestBytes.{IsNumber, by_method, delivered, request_by};
+ghost use Rattle.relay_http.specs.RequestBytes.{IsNumber, asked, by_method, delivered};
+ghost use Rattle.relay_http.specs.RequestBytes.{request_by};
 
 use crate::action::{Action, HttpRequest};
 use crate::content::content;
@@ -146,6 +147,16 @@ fn delivery<'b>(relay: &'b str, size: Result<u64, RequestFault>, rest: &'b [u8])
     }
 }
 
+/// The question what a delivery by this relay would be answered, of the content of this length.
+fn admission<'b>(relay: &'b str, size: Result<u64, RequestFault>, rest: &'b [u8]) -> Action<'b>
+    ensures { action_of result ≡ asked relay.now (cut size rest.now) }
+{
+    match content(size, rest) {
+        Ok(body) => Action::Admission { relay, body },
+        Err(reason) => Action::Refused(reason),
+    }
+}
+
 /// The action at a route by a method, where the route's parameters took these texts.
 fn by_method<'b>(
     route: Route,
@@ -165,6 +176,7 @@ fn by_method<'b>(
     }
     match route {
         Route::Messages => delivery(taken, size, rest),
+        Route::Admission => admission(taken, size, rest),
         Route::AllMessages => Action::AllMessages,
         Route::Count => Action::Count,
         Route::Requests => Action::Requests,

@@ -5,6 +5,8 @@
 pub enum Route {
     /// The messages that a relay delivers.
     Messages,
+    /// What a relay's message would be answered.
+    Admission,
     /// Every message.
     AllMessages,
     /// How many messages there are, under which roster and which base.
@@ -43,7 +45,7 @@ impl Route {
         ensures { result ≡ methods_of self }
     {
         match self {
-            Route::Messages => Methods::Post,
+            Route::Messages | Route::Admission => Methods::Post,
             Route::AllMessages
             | Route::Count
             | Route::Requests
@@ -66,7 +68,8 @@ impl Route {
     {
         match self {
             Route::Messages => false,
-            Route::AllMessages
+            Route::Admission
+            | Route::AllMessages
             | Route::Count
             | Route::Requests
             | Route::RequestsAfter

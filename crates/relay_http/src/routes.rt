@@ -119,6 +119,11 @@ fn router(alloc: Global) -> Result<Router<Route>, NoMemory>
     add(&mut router, "/v1/hosts/{host}/at/{at}", Route::HostAt)?;
     add(&mut router, "/v1/open/{at}", Route::OpenRequests)?;
     add(&mut router, "/v1/history", Route::SiteHistory)?;
+    add(
+        &mut router,
+        "/v1/relays/{relay}/admission",
+        Route::Admission,
+    )?;
     Ok(router)
 }
 
@@ -127,7 +132,7 @@ fn parameter(route: Route) -> &'static str
     ensures { result.now ≡ parameter route }
 {
     match route {
-        Route::Messages => "relay",
+        Route::Messages | Route::Admission => "relay",
         Route::Grants | Route::Report | Route::RequestsAfter | Route::OpenRequests => "at",
         Route::AllMessages | Route::Count | Route::Requests | Route::Parked | Route::SiteHistory =>
             "",
@@ -144,6 +149,7 @@ fn second_parameter(route: Route) -> &'static str
         Route::HostFileAfter | Route::HostAt => "at",
         Route::NamedRequest => "no",
         Route::Messages
+        | Route::Admission
         | Route::AllMessages
         | Route::Count
         | Route::Requests

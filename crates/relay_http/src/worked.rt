@@ -5,10 +5,10 @@ ghost use Rattle.std.specs.Prelude.{◌≡◌, ◌++◌, ◌∷◌, [], codes, f
 ghost use Rattle.relay_http.specs.Request.{all_messages, count, deliver, grants, host_file};
 ghost use Rattle.relay_http.specs.Request.{host_at, host_file_after, named_request, parked};
 ghost use Rattle.relay_http.specs.Request.{refused, report, requests, requests_after};
-ghost use Rattle.relay_http.specs.Request.{open_requests};
+ghost use Rattle.relay_http.specs.Request.{admission, open_requests};
 ghost use Rattle.relay_http.specs.Response.{fault_line, status_of, written};
 ghost use Rattle.relay_http.specs.RequestBytes.{IsHttpRequest};
-ghost use Rattle.relay_http.specs.Worked.{approval_body, head_with_host, lines, posted};
+ghost use Rattle.relay_http.specs.Worked.{approval_body, asking, head_with_host, lines, posted};
 ghost use Rattle.relay_http.specs.declared.fault.RequestFault.TheVariants.{BadHead, BadLength};
 ghost use Rattle.relay_http.specs.declared.fault.RequestFault.TheVariants.{BadMethod, BadMoment};
 ghost use Rattle.relay_http.specs.declared.fault.RequestFault.TheVariants.{BadTarget};
@@ -19,15 +19,17 @@ ghost use Rattle.relay_http.specs.declared.route.Methods.TheVariants.{GetOrHead,
 ghost use Rattle.relay_http.specs.declared.status.ResponseStatus.TheVariants as status;
 
 /// Requests that are answered by the desk at a socket with all routes: a delivery, a delivery with
-/// zeros before its length, all messages, how many messages there are, what became of every
-/// request, of the requests after a moment and of one request, the grants of a moment by HEAD, a
-/// host's file, the file after a moment, the count with that file, the report at a moment, what is
-/// open at a moment, and a query of HTTP/1.0 without Host.
+/// zeros before its length, what a delivery would be answered, all messages, how many messages
+/// there are, what became of every request, of the requests after a moment and of one request, the
+/// grants of a moment by HEAD, a host's file, the file after a moment, the count with that file,
+/// the report at a moment, what is open at a moment, and a query of HTTP/1.0 without Host.
 pub fn worked_requests()
     ensures delivery { IsHttpRequest socket.All (posted (codes "70"))
         (record { with_body = true; action = deliver (codes "web") approval_body }) }
     ensures zeros { IsHttpRequest socket.All (posted (codes "0070"))
         (record { with_body = true; action = deliver (codes "web") approval_body }) }
+    ensures admission { IsHttpRequest socket.All (asking (codes "70"))
+        (record { with_body = true; action = admission (codes "web") approval_body }) }
     ensures all_messages { IsHttpRequest socket.All
         (head_with_host (codes "GET /v1/messages HTTP/1.1"))
         (record { with_body = true; action = all_messages }) }
@@ -65,8 +67,8 @@ pub fn worked_requests()
 
 /// Requests that are refused: without a Host or with two, with a query in the target, without a
 /// route, with another method, with another text than a moment's canonical one, with a zero before
-/// a request's number, with no name before it; and deliveries without a length, with a signed one,
-/// with one byte too few, and with a length over the limit.
+/// a request's number, with no name before it; deliveries without a length, with a signed one, with
+/// one byte too few, and with a length over the limit; and a question with one byte too few.
 pub fn worked_refusals()
     ensures no_host { IsHttpRequest socket.All (lines (codes "GET /v1/parked HTTP/1.1" ∷ [] ∷ []))
         (record { with_body = true; action = refused BadHead }) }
@@ -120,15 +122,22 @@ pub fn worked_refusals()
         (record { with_body = true; action = refused ShortBody }) }
     ensures long { IsHttpRequest socket.All (posted (codes "16385"))
         (record { with_body = true; action = refused TooLong }) }
+    ensures short_question { IsHttpRequest socket.All (asking (codes "71"))
+        (record { with_body = true; action = refused ShortBody }) }
+    ensures gets_question { IsHttpRequest socket.All
+        (head_with_host (codes "GET /v1/relays/web/admission HTTP/1.1"))
+        (record { with_body = true; action = refused (BadMethod Post) }) }
 {}
 
 /// Requests to a socket for questions: the route of a relay's messages is not there, whatever the
-/// method and the content, and the other routes are.
+/// method and the content, and the other routes are, that of what a message would be answered too.
 pub fn worked_questions()
     ensures delivery { IsHttpRequest socket.Questions (posted (codes "70"))
         (record { with_body = true; action = refused NoRoute }) }
     ensures short { IsHttpRequest socket.Questions (posted (codes "71"))
         (record { with_body = true; action = refused NoRoute }) }
+    ensures admission { IsHttpRequest socket.Questions (asking (codes "70"))
+        (record { with_body = true; action = admission (codes "web") approval_body }) }
     ensures gets { IsHttpRequest socket.Questions
         (head_with_host (codes "GET /v1/relays/web/messages HTTP/1.1"))
         (record { with_body = true; action = refused NoRoute }) }
@@ -143,12 +152,15 @@ pub fn worked_questions()
         (record { with_body = false; action = host_file (codes "db9") }) }
 {}
 
-/// The responses to a delivery, to a method that a route does not have, and to HEAD where a route
-/// does not have it.
+/// The responses to a delivery, to the question what it would be answered, to a method that a route
+/// does not have, and to HEAD where a route does not have it.
 pub fn worked_responses()
     ensures ack { written status.Done (codes "ack" ++ 10 ∷ []) true ≡ lines
         (codes "HTTP/1.1 200 OK" ∷ codes "Content-Type: text/plain" ∷ codes "Content-Length: 4"
         ∷ codes "Connection: close" ∷ [] ∷ []) ++ codes "ack" ++ 10 ∷ [] }
+    ensures admitted { written status.Done (codes "admitted" ++ 10 ∷ []) true ≡ lines
+        (codes "HTTP/1.1 200 OK" ∷ codes "Content-Type: text/plain" ∷ codes "Content-Length: 9"
+        ∷ codes "Connection: close" ∷ [] ∷ []) ++ codes "admitted" ++ 10 ∷ [] }
     ensures method { written (status_of (BadMethod GetOrHead))
         (fault_line (BadMethod GetOrHead)) true ≡ lines (codes "HTTP/1.1 405 Method Not Allowed"
         ∷ codes "Content-Type: text/plain" ∷ codes "Allow: GET, HEAD" ∷ codes "Content-Length: 13"

@@ -4,7 +4,7 @@ use Rattle.relay_http.specs.Content.{content_by_fields}
 use Rattle.relay_http.specs.Fields.{Fields}
 use Rattle.relay_http.specs.Routes.{second_parameter, parameter}
 use Rattle.relay_http.specs.Stages.{cut, size_of}
-use Rattle.relay_http.specs.RequestBytes.{Dates, allow, by_method, delivered, methods_of}
+use Rattle.relay_http.specs.RequestBytes.{Dates, allow, asked, by_method, delivered, methods_of}
 use Rattle.relay_http.specs.declared.fault.RequestFault.{RequestFault}
 use Rattle.relay_http.specs.declared.fault.RequestFault.TheVariants.{BadMethod}
 use Rattle.relay_http.specs.declared.route.Methods.{Methods}
@@ -141,3 +141,29 @@ returns-in-Messages c =
     (λ named takes _ fields sized. delivered_by (allow Post method) (named (codes "relay")) c.args.taken.now c.args.rest.now
     (content_by_fields fields c.args.rest.now) c.args.size action allowed takes
     (content_is fields c.args.rest.now ∙ ap (λ (s : Result ℕ RequestFault). cut s c.args.rest.now) (sym sized)) c.delivery.ensures)
+
+asked_by : (is_allowed : Bool) (relay taken rest : List ℕ) (found : Result (List ℕ) RequestFault) (size : Result ℕ RequestFault) (action : Action ℕ)
+    → is_allowed ≡ true → relay ≡ taken → found ≡ cut size rest → action ≡ asked taken (cut size rest)
+    → Dates (cond is_allowed (asked relay found) (refused (BadMethod Post))) action
+asked_by is_allowed relay taken rest found size action allowed same is e =
+    subst (λ (b : Bool). Dates (cond b (asked relay found) (refused (BadMethod Post))) action) (sym allowed)
+    (subst (λ (t : List ℕ). Dates (asked t found) action) (sym same)
+    (subst (λ (f : Result (List ℕ) RequestFault). Dates (asked taken f) action) (sym is) (dated (cut size rest) e)))
+  where
+    dated : (f : Result (List ℕ) RequestFault) → action ≡ asked taken f → Dates (asked taken f) action
+    dated f h = elim f as (λ f. action ≡ asked taken f → Dates (asked taken f) action) [ Ok body ↦ λ h. h | Err fault ↦ λ h. h ] h
+
+pub returns-in-Admission : goal.returns-in-Admission
+returns-in-Admission c =
+    let method = c.args.method.now in
+    let action = action_of c.admission.result in
+    let allowed : allow Post method ≡ true =
+    ap (λ (p : Route). allow (methods_of p) method) (sym c.in-Admission.is)
+    ∙ ap (λ (m : Methods). allow m method) (sym c.methods.ensures)
+    ∙ sym c.if-not-allow.ensures in
+    subst (λ (p : Route). (named : List ℕ → List ℕ) → named (parameter p) ≡ c.args.taken.now → named (second_parameter p) ≡ c.args.second.now
+    → (fields : Fields) → c.args.size ≡ size_of fields → Dates (by_method p method named fields c.args.rest.now) action)
+    (sym c.in-Admission.is)
+    (λ named takes _ fields sized. asked_by (allow Post method) (named (codes "relay")) c.args.taken.now c.args.rest.now
+    (content_by_fields fields c.args.rest.now) c.args.size action allowed takes
+    (content_is fields c.args.rest.now ∙ ap (λ (s : Result ℕ RequestFault). cut s c.args.rest.now) (sym sized)) c.admission.ensures)

@@ -5,11 +5,11 @@ use Rattle.matchit.specs.Rows.{RowsOf}
 use Rattle.relay_http.specs.Routes.{IsFreeRoute, with_route, routes}
 use Rattle.relay_http.specs.declared.route.Route.{Route}
 use Rattle.relay_http.specs.declared.route.Route.TheVariants.{Messages, AllMessages, Count, Grants, Parked, HostFile, HostFileAfter, Report}
-use Rattle.relay_http.specs.declared.route.Route.TheVariants.{Requests, RequestsAfter, NamedRequest, HostAt, OpenRequests, SiteHistory}
+use Rattle.relay_http.specs.declared.route.Route.TheVariants.{Requests, RequestsAfter, NamedRequest, HostAt, OpenRequests, SiteHistory, Admission}
 use Rattle.relay_http.proofs.RouteLemmas.{free_messages, free_grants, free_parked, free_host_file, free_report}
 use Rattle.relay_http.proofs.RouteLemmas.{free_host_file_after, free_all_messages, free_count, free_requests}
 use Rattle.relay_http.proofs.RouteLemmas.{free_requests_after, free_named_request, free_host_at, free_open_requests}
-use Rattle.relay_http.proofs.RouteLemmas.{free_site_history}
+use Rattle.relay_http.proofs.RouteLemmas.{free_site_history, free_admission}
 use Rattle.relay_http.proofs.routes.router.Goals as goal
 
 pub add-requires : goal.add-requires
@@ -171,10 +171,10 @@ add-requires-14 c =
     ∙ ap (with_route (codes "/v1/grants/{at}") Grants) (c.in_ok-add.ensures
     ∙ ap (with_route (codes "/v1/relays/{relay}/messages") Messages) c.new-router.ensures)))))))))))))) free_site_history
 
-pub returns : goal.returns
-unfolding routes
-returns c =
-    c.in_ok-add-14.ensures
+pub add-requires-15 : goal.add-requires-15
+add-requires-15 c =
+    subst (λ (r : RowsOf (RouteOf Route)). IsFreeRoute (parse_route (codes "/v1/relays/{relay}/admission")) r)
+    (sym (c.in_ok-add-14.ensures
     ∙ ap (with_route (codes "/v1/history") SiteHistory) (c.in_ok-add-13.ensures
     ∙ ap (with_route (codes "/v1/open/{at}") OpenRequests) (c.in_ok-add-12.ensures
     ∙ ap (with_route (codes "/v1/hosts/{host}/at/{at}") HostAt) (c.in_ok-add-11.ensures
@@ -188,4 +188,24 @@ returns c =
     ∙ ap (with_route (codes "/v1/hosts/{host}/sudoers") HostFile) (c.in_ok-add-3.ensures
     ∙ ap (with_route (codes "/v1/parked") Parked) (c.in_ok-add-2.ensures
     ∙ ap (with_route (codes "/v1/grants/{at}") Grants) (c.in_ok-add.ensures
-    ∙ ap (with_route (codes "/v1/relays/{relay}/messages") Messages) c.new-router.ensures)))))))))))))
+    ∙ ap (with_route (codes "/v1/relays/{relay}/messages") Messages) c.new-router.ensures))))))))))))))) free_admission
+
+pub returns : goal.returns
+unfolding routes
+returns c =
+    c.in_ok-add-15.ensures
+    ∙ ap (with_route (codes "/v1/relays/{relay}/admission") Admission) (c.in_ok-add-14.ensures
+    ∙ ap (with_route (codes "/v1/history") SiteHistory) (c.in_ok-add-13.ensures
+    ∙ ap (with_route (codes "/v1/open/{at}") OpenRequests) (c.in_ok-add-12.ensures
+    ∙ ap (with_route (codes "/v1/hosts/{host}/at/{at}") HostAt) (c.in_ok-add-11.ensures
+    ∙ ap (with_route (codes "/v1/requests/{asker}/{no}") NamedRequest) (c.in_ok-add-10.ensures
+    ∙ ap (with_route (codes "/v1/requests/after/{at}") RequestsAfter) (c.in_ok-add-9.ensures
+    ∙ ap (with_route (codes "/v1/requests") Requests) (c.in_ok-add-8.ensures
+    ∙ ap (with_route (codes "/v1/count") Count) (c.in_ok-add-7.ensures
+    ∙ ap (with_route (codes "/v1/messages") AllMessages) (c.in_ok-add-6.ensures
+    ∙ ap (with_route (codes "/v1/hosts/{host}/sudoers/{at}") HostFileAfter) (c.in_ok-add-5.ensures
+    ∙ ap (with_route (codes "/v1/reviews/{at}") Report) (c.in_ok-add-4.ensures
+    ∙ ap (with_route (codes "/v1/hosts/{host}/sudoers") HostFile) (c.in_ok-add-3.ensures
+    ∙ ap (with_route (codes "/v1/parked") Parked) (c.in_ok-add-2.ensures
+    ∙ ap (with_route (codes "/v1/grants/{at}") Grants) (c.in_ok-add.ensures
+    ∙ ap (with_route (codes "/v1/relays/{relay}/messages") Messages) c.new-router.ensures))))))))))))))

@@ -19,6 +19,10 @@ returns c = record {
       worked socket.Questions
       (spelled (codes "POST") (codes "/v1/relays/web/messages") 1 ((codes "Host", codes "desk") ∷ (codes "Content-Length", codes "71") ∷ []))
       approval_body _ _ refl refl refl refl (refl, refl);
+  admission =
+      worked socket.Questions
+      (spelled (codes "POST") (codes "/v1/relays/web/admission") 1 ((codes "Host", codes "desk") ∷ (codes "Content-Length", codes "70") ∷ []))
+      approval_body _ _ refl refl refl refl (refl, refl);
   gets =
       worked socket.Questions (spelled (codes "GET") (codes "/v1/relays/web/messages") 1 ((codes "Host", codes "desk") ∷ []))
       [] _ _ refl refl refl refl (refl, refl);

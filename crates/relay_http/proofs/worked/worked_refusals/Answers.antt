@@ -139,3 +139,14 @@ unfolding is_token_byte print_request trim_ows scan param_step seek part routes 
 returns-clause-long c =
     worked socket.All (spelled (codes "POST") (codes "/v1/relays/web/messages") 1 ((codes "Host", codes "desk") ∷ (codes "Content-Length", codes "16385") ∷ []))
     approval_body _ _ refl refl refl refl (refl, refl)
+
+pub returns-clause-short_question : goal.returns-clause-short_question
+unfolding is_token_byte print_request trim_ows scan param_step seek part routes route_at
+returns-clause-short_question c =
+    worked socket.All (spelled (codes "POST") (codes "/v1/relays/web/admission") 1 ((codes "Host", codes "desk") ∷ (codes "Content-Length", codes "71") ∷ []))
+    approval_body _ _ refl refl refl refl (refl, refl)
+
+pub returns-clause-gets_question : goal.returns-clause-gets_question
+unfolding is_token_byte print_request trim_ows scan param_step seek part routes route_at
+returns-clause-gets_question c =
+    worked socket.All (spelled (codes "GET") (codes "/v1/relays/web/admission") 1 ((codes "Host", codes "desk") ∷ [])) [] _ _ refl refl refl refl (refl, refl)

@@ -21,6 +21,9 @@ returns c = record {
       worked socket.All
       (spelled (codes "POST") (codes "/v1/relays/web/messages") 1 ((codes "Host", codes "desk") ∷ (codes "Content-Length", codes "0070") ∷ []))
       approval_body _ _ refl refl refl refl (refl, refl);
+  admission =
+      worked socket.All (spelled (codes "POST") (codes "/v1/relays/web/admission") 1 ((codes "Host", codes "desk") ∷ (codes "Content-Length", codes "70") ∷ []))
+      approval_body _ _ refl refl refl refl (refl, refl);
   all_messages = worked socket.All (spelled (codes "GET") (codes "/v1/messages") 1 ((codes "Host", codes "desk") ∷ [])) [] _ _ refl refl refl refl (refl, refl);
   count = worked socket.All (spelled (codes "GET") (codes "/v1/count") 1 ((codes "Host", codes "desk") ∷ [])) [] _ _ refl refl refl refl (refl, refl);
   requests = worked socket.All (spelled (codes "GET") (codes "/v1/requests") 1 ((codes "Host", codes "desk") ∷ [])) [] _ _ refl refl refl refl (refl, refl);

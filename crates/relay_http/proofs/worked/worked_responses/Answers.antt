@@ -6,6 +6,7 @@ pub returns : goal.returns
 unfolding digits
 returns c = record {
   ack = refl;
+  admitted = refl;
   method = refl;
   head = refl;
 }
