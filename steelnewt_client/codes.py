@@ -12,6 +12,8 @@ from dataclasses import dataclass
 # The body of a refusal: the code, its name and a newline.
 REFUSAL = re.compile(r"([A-Z][0-9]{1,2}) ([A-Za-z]+)\n?")
 TOO_LONG = "M1 TooLong"
+# What a desk answers to the question whether it would keep a message.
+ADMITTED = "admitted"
 NO_ROUTE = "T3 NoRoute"
 
 

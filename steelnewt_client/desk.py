@@ -15,7 +15,7 @@ from datetime import datetime
 from functools import lru_cache
 from http.client import HTTPConnection, HTTPException, IncompleteRead, RemoteDisconnected
 
-from steelnewt_client.codes import NO_ROUTE, TOO_LONG, Answer, Fate, judge, unusable
+from steelnewt_client.codes import ADMITTED, NO_ROUTE, TOO_LONG, Answer, Fate, judge, unusable
 from steelnewt_client.messages import Verdict, read
 from steelnewt_client.moments import of_stamp, stamp
 from steelnewt_client.signed import is_too_long
@@ -348,6 +348,17 @@ class AnyDesk:
         """All names whose window does not end before a moment, and who may approve then what
         waits."""
         return self.told(f"/v1/open/{stamp(at)}", stamp(at))
+
+    def admission(self, relay: str, body: bytes) -> str:
+        """What the desk would answer to a relay's message, with nothing kept: `admitted`, or its
+        refusal, such as `A5 RunasOutside`."""
+        reply = self.exchange("POST", f"/v1/relays/{relay}/admission", body)
+        if reply.status == 200 and reply.text == f"{ADMITTED}\n":
+            return ADMITTED
+        answer = judge(reply.status, reply.text)
+        if answer.fate is not Fate.FINAL:
+            raise Silent(unusable(reply.status, reply.text), True)
+        return answer.said
 
     def parked(self) -> list[Verdict]:
         """The verdicts whose request has not come."""

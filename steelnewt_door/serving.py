@@ -32,6 +32,8 @@ MOST_OPEN = 1_024 // PROCESSES  # connections of each process
 BACKLOG = 512  # that wait to be taken
 UCRED = struct.Struct("3i")
 POSTS = re.compile(rf"/v1/relays/({LABEL})/messages")
+# what a message would be answered: a question, whose body is the message
+ASKS = re.compile(rf"/v1/relays/{LABEL}/admission")
 
 
 def post_to(path: str, patience: float = ANSWERS_IN) -> Callable[[str, str], Reply]:
@@ -309,7 +311,7 @@ class Serving:
                 loop, taken = asyncio.get_running_loop(), replace(way, relay=posts[1])
                 said = await loop.run_in_executor(self.workers, self.take, taken, line)
             else:
-                await self.pass_on(head, writer)
+                await self.pass_on(head, await body_of(head, reader, begun), writer)
                 return
         except Bad as fault:
             said = reply(fault.status, f"{fault.code}\n".encode(), fault.allow, is_head)
@@ -327,10 +329,10 @@ class Serving:
             log.exception("K23 DoorFails: a message of relay %s", way.relay)
             return reply(503, b"K23 DoorFails\n")
 
-    async def pass_on(self, head: Head, writer: asyncio.StreamWriter) -> None:
-        """Asks the desk the same, and copies what it answers. A body is none of a question's."""
+    async def pass_on(self, head: Head, body: bytes, writer: asyncio.StreamWriter) -> None:
+        """Asks the desk the same, and copies what it answers."""
         lines = [f"{head.method} {head.target} HTTP/1.1", "Host: desk"]
-        lines += [] if head.method in ("GET", "HEAD") else ["Content-Length: 0"]
+        lines += [] if head.method in ("GET", "HEAD") else [f"Content-Length: {len(body)}"]
         text = "\r\n".join([*lines, "", ""])
         try:
             opened = asyncio.open_unix_connection(self.questions)
@@ -340,12 +342,19 @@ class Serving:
             await asyncio.wait_for(writer.drain(), GOES_IN)
             return
         try:
-            asked.write(text.encode("ascii"))
+            asked.write(text.encode("ascii") + body)
             while piece := await asyncio.wait_for(reader.read(MOST_REPLY), ANSWERS_IN):
                 writer.write(piece)
                 await asyncio.wait_for(writer.drain(), GOES_IN)
         finally:
             asked.close()
+
+
+async def body_of(head: Head, reader: asyncio.StreamReader, begun: bytes) -> bytes:
+    """The body of a question: a message, where that is what is asked about, and of others none."""
+    if head.method != "POST" or not ASKS.fullmatch(head.target):
+        return b""
+    return await asyncio.wait_for(read_body(reader, begun, head.length), COMES_IN)
 
 
 def said_why(fault: Refused) -> str:

@@ -1,16 +1,29 @@
-"""What cannot be granted of a request, by the roster that this relay reads: said before a person
-says yes. The desk decides all the same, and its roster may be another by then."""
+"""What cannot be granted of a request, said before a person says yes.
 
+Whether it would be refused, and why, the desk says, with nothing kept. What would do instead is in
+this relay's copy of the roster, which people are told beside the desk's word; while the desk does
+not answer, what the copy says is all that is known.
+"""
+
+from contextlib import suppress
+from dataclasses import dataclass
 from datetime import datetime, timedelta
 from typing import NamedTuple
 
-from steelnewt_client.messages import Wish
-from steelnewt_client.moments import of_stamp
+from steelnewt_client.codes import ADMITTED, in_words
+from steelnewt_client.desk import AnyDesk, Silent
+from steelnewt_client.messages import Request, Wish
+from steelnewt_client.moments import of_stamp, stamp
+from steelnewt_client.signed import is_too_long
 from steelnewt_relay.moments import spoken
 from steelnewt_relay.roster import Ceiling, Roster
 
 # A window that ends later is not looked at: who holds which duty then is not settled yet.
 MOST_DAYS = 31
+# The number of a request that has none yet: any does, for nothing is kept.
+NO_NUMBER = 0
+# By a refusal's code the word of a request that is wrong.
+FIELDS = {"A4": "hosts", "A5": "runas", "A6": "commands", "A7": "length", "A8": "begins"}
 
 
 class Fault(NamedTuple):
@@ -20,15 +33,41 @@ class Fault(NamedTuple):
     text: str
 
 
-def faults(roster: Roster, person: str, wish: Wish, at: datetime) -> list[Fault]:
-    """Why a request cannot be granted, whoever says yes to it; empty where it can."""
-    found = refusals(roster, person, wish, at)
-    few = "" if found else lacking(roster, person, wish, at)
-    return [*found, Fault("ceiling", few)] if few else found
+@dataclass(frozen=True)
+class Judge:
+    """Who says what would become of a request: the desk, of the relay of this name, and for what
+    people are told beside that a copy of the roster."""
+
+    desk: AnyDesk
+    relay: str
+    roster: Roster
+
+    def faults(self, person: str, wish: Wish, at: datetime) -> list[Fault]:
+        """Why a request cannot be granted, whoever says yes to it; empty where it can."""
+        found = self.refusals(person, wish, at)
+        few = "" if found else lacking(self.roster, person, wish, at)
+        return [*found, Fault("ceiling", few)] if few else found
+
+    def refusals(self, person: str, wish: Wish, at: datetime) -> list[Fault]:
+        """What would be refused of a request, each with what would do."""
+        known = refusals(self.roster, person, wish, at)
+        body = Request(person, NO_NUMBER, stamp(at), wish.as_of(at)).text().encode()
+        # (a message that is too long says so by itself, once it is made)
+        with suppress(Silent):
+            if not is_too_long(body):
+                return refused(self.desk.admission(self.relay, body), known)
+        return known
 
 
-def surely_refused(roster: Roster, person: str, wish: Wish, at: datetime) -> list[str]:
-    return [it.text for it in faults(roster, person, wish, at)]
+def refused(said: str, known: list[Fault]) -> list[Fault]:
+    """The first fault by the desk's word, with what would do by the copy of the roster. The other
+    faults are the copy's: the desk tells one."""
+    if said == ADMITTED:
+        return []
+    field = FIELDS.get(said.partition(" ")[0], "ceiling")
+    texts = "; ".join(it.text for it in known if it.field == field)
+    told = f"{texts} ({said})" if texts else in_words(said).rstrip(".")
+    return [Fault(field, told), *(it for it in known if it.field != field)]
 
 
 def lacking(roster: Roster, person: str, wish: Wish, at: datetime) -> str:

@@ -9,7 +9,6 @@ import flask
 from steelnewt_client.messages import BadWord, Wish, checked, command_of, few, number_of
 from steelnewt_client.messages import MOST_COMMANDS, MOST_HOSTS
 from steelnewt_relay import heads, telling
-from steelnewt_relay.admission import faults
 from steelnewt_relay.moments import BadTime, in_units, length_of, moment_of
 from steelnewt_relay.outbox import Kept
 from steelnewt_relay.reasons import Reason
@@ -44,7 +43,7 @@ class Form:
         # (words that can be read may still ask for what nobody can grant)
         self.is_readable = self.wish is not None and not self.wrong
         if self.wish is not None:
-            for fault in faults(visit.roster, visit.person, self.wish, visit.now):
+            for fault in visit.judge().faults(visit.person, self.wish, visit.now):
                 before = self.wrong.get(fault.field)
                 self.wrong[fault.field] = f"{before}; {fault.text}" if before else fault.text
 

@@ -12,6 +12,7 @@ from typing import TextIO
 from steelnewt_client.desk import ANSWERS_IN
 from steelnewt_client.moments import now
 from steelnewt_relay import telling
+from steelnewt_relay.admission import Judge
 from steelnewt_relay.caller import Caller, Gone, is_allowed
 from steelnewt_relay.config import Config
 from steelnewt_relay.moments import zone_of
@@ -64,6 +65,9 @@ class Call:
 
     def knowledge(self) -> Knowledge:
         return Knowledge(self.outbox, self.desk, self.roster, now())
+
+    def judge(self) -> Judge:
+        return Judge(self.desk, self.config.relay, self.roster)
 
     def talk(self) -> TextIO:
         """Where words for a person go: with --json the output is the script's."""

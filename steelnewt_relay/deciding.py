@@ -11,7 +11,6 @@ from werkzeug.wrappers import Response
 from steelnewt_client.messages import VERDICTS, BadWord, Verdict, Wish, checked, number_of
 from steelnewt_client.moments import stamp
 from steelnewt_relay import heads, telling
-from steelnewt_relay.admission import faults
 from steelnewt_relay.asking import wish_token
 from steelnewt_relay.moments import as_asked
 from steelnewt_relay.notices import Notices
@@ -155,7 +154,7 @@ def again_token(visit: Visit, standing: Standing) -> str:
         visit.config.demand.check(wish.ceiling, reason)
     except BadWord:
         return ""
-    if faults(visit.roster, visit.person, wish, visit.now):
+    if visit.judge().faults(visit.person, wish, visit.now):
         return ""
     return wish_token(visit, wish, reason)
 

@@ -8,11 +8,17 @@ answer, of the next one. Who did not answer is asked last for a while.
 import time
 from collections.abc import Mapping, Sequence
 
+from steelnewt_client.codes import Fate, judge
 from steelnewt_client.desk import AnyDesk, Desk, Reply, Silent
 
 ASKED_LAST = 30.0  # seconds
 # Statuses that are a desk's own answer: with others something before it speaks, or it cannot now.
 ANSWERS = (200, 404)
+
+
+def is_its_own(reply: Reply) -> bool:
+    """Whether a desk itself answers, also that it would refuse a message."""
+    return reply.status in ANSWERS or judge(reply.status, reply.text).fate is Fate.FINAL
 
 
 class Desks(AnyDesk):
@@ -44,7 +50,7 @@ class Desks(AnyDesk):
             except Silent as fault:
                 faults.append(f"{desk.label}: {fault}")
             else:
-                if reply.status in ANSWERS:
+                if is_its_own(reply):
                     self.silent.pop(desk.label, None)
                     return reply
                 found.append(reply)

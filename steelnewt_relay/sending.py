@@ -10,7 +10,7 @@ from datetime import timedelta
 from steelnewt_client.messages import BadWord, Wish, number_of
 from steelnewt_client.moments import now, stamp
 from steelnewt_relay import staying, telling
-from steelnewt_relay.admission import objections, surely_refused
+from steelnewt_relay.admission import lacking
 from steelnewt_relay.call import DONE, KEPT, NOT_SENT, REFUSED, YES, Call, is_at_terminal
 from steelnewt_relay.leading import Leader
 from steelnewt_relay.lists import Wanted
@@ -210,11 +210,11 @@ def send(
 
 def hopeless(call: Call, wish: Wish) -> str:
     """Why a request cannot be granted, in a sentence; empty where it can."""
-    about = call.roster, call.person, wish, now()
-    if found := objections(*about):
-        return telling.objected(found)
-    few = surely_refused(*about)
-    return f"This cannot be granted: {'; '.join(few)}." if few else ""
+    at = now()
+    if found := call.judge().refusals(call.person, wish, at):
+        return telling.objected([it.text for it in found])
+    few = lacking(call.roster, call.person, wish, at)
+    return f"This cannot be granted: {few}." if few else ""
 
 
 def is_hopeless(call: Call, wish: Wish) -> bool:

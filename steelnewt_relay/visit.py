@@ -12,6 +12,7 @@ from itsdangerous import BadData, URLSafeTimedSerializer
 
 from steelnewt_client.desk import AnyDesk
 from steelnewt_client.moments import now, stamp
+from steelnewt_relay.admission import Judge
 from steelnewt_relay.config import Config
 from steelnewt_relay.outbox import Kept, Outbox
 from steelnewt_relay.sharing import Shared
@@ -60,6 +61,9 @@ class Visit:
 
     def knowledge(self) -> Knowledge:
         return Knowledge(self.outbox, self.desk, self.roster, self.now)
+
+    def judge(self) -> Judge:
+        return Judge(self.desk, self.config.relay, self.roster)
 
     def shared_knowledge(self, asked: list[Kept], is_all: bool) -> tuple[Knowledge, Board]:
         """What is known of everything open and of what a person asked. Whoever comes at the same

@@ -44,6 +44,12 @@ from steelnewt_client.signed import Signed
         "POST /v1/relays/chat/messages HTTP/1.0\r\nContent-Length: {size}\r\n\r\n",
         "POST /v1/relays/chat/messages HTTP/2.0\r\nHost: x\r\nContent-Length: {size}\r\n\r\n",
         "POST /v1/relays/chat/messages\r\n\r\n",
+        # (what a message would be answered is a question, whose body the desk gets)
+        "POST /v1/relays/chat/admission HTTP/1.1\r\nHost: x\r\nContent-Length: {size}\r\n\r\n",
+        "POST /v1/relays/chat/admission HTTP/1.1\r\nHost: x\r\nContent-Length: 0\r\n\r\n",
+        "POST /v1/relays/chat/admission HTTP/1.1\r\nHost: x\r\nTransfer-Encoding: chunked\r\n\r\n",
+        "POST /v1/relays/chat/admission/ HTTP/1.1\r\nHost: x\r\nContent-Length: {size}\r\n\r\n",
+        "GET /v1/relays/chat/admission HTTP/1.1\r\nHost: x\r\nContent-Length: {size}\r\n\r\n",
     ],
 )
 def test_a_message_behind_another_request(untaken: Doored, head: str) -> None:
@@ -53,6 +59,20 @@ def test_a_message_behind_another_request(untaken: Doored, head: str) -> None:
     untaken.raw(text.encode() + forged)
     untaken.raw(text.encode() + forged + b"\r\n\r\n" + forged)
     assert untaken.held() == []
+
+
+def test_what_a_message_would_be_answered(untaken: Doored) -> None:
+    """The door passes the question on with its message, to the byte, and writes no row of it."""
+    before = untaken.rows()
+    for relay, body, wanted in (
+        ("chat", untaken.request().encode(), b"admitted\n"),
+        ("chat", untaken.request().encode() + b" ", b"M2 NotCanonical\n"),
+        ("chat", b"x" * 16_385, b"M1 TooLong\n"),
+        ("fax", untaken.request().encode(), b"P1 UnknownRelay\n"),
+    ):
+        given = posted(body, relay).replace(b"/messages ", b"/admission ", 1)
+        assert untaken.raw(given).endswith(b"\r\n\r\n" + wanted)
+    assert untaken.held() == [] and untaken.rows() == before
 
 
 def test_random_requests_with_a_message_in_them(untaken: Doored) -> None:
