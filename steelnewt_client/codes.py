@@ -37,6 +37,9 @@ def fate_of(code: str) -> Fate:
     return Fate.AGAIN if code == CUT_SHORT else FATES.get(code[:1], Fate.AGAIN)
 
 
+NO_REPLY = "no reply"
+
+
 @dataclass(frozen=True)
 class Answer:
     """What came when a message was posted.
@@ -49,6 +52,11 @@ class Answer:
     said: str
     why: str = ""
     is_away: bool = False
+
+    @property
+    def is_cut(self) -> bool:
+        """Whether a connection was made and brought no reply: that may be the message's fault."""
+        return self.said.startswith(NO_REPLY) and not self.is_away
 
 
 def judge(status: int, text: str) -> Answer:

@@ -15,7 +15,7 @@ from datetime import datetime
 from functools import lru_cache
 from http.client import HTTPConnection, HTTPException, IncompleteRead, RemoteDisconnected
 
-from steelnewt_client.codes import NO_ROUTE, TOO_LONG, Answer, Fate, judge, unusable
+from steelnewt_client.codes import NO_REPLY, NO_ROUTE, TOO_LONG, Answer, Fate, judge, unusable
 from steelnewt_client.messages import Verdict, read
 from steelnewt_client.moments import of_stamp, stamp
 from steelnewt_client.signed import is_too_long
@@ -476,7 +476,7 @@ def no_reply(error: Exception, is_away: bool = False) -> Answer:
     """What is known of a message without any reply: nothing."""
     cause = cause_of(error)
     said = "timed out" if isinstance(cause, TimeoutError) else type(cause).__name__
-    return Answer(Fate.AGAIN, f"no reply: {said}", unreached(error), is_away)
+    return Answer(Fate.AGAIN, f"{NO_REPLY}: {said}", unreached(error), is_away)
 
 
 def cause_of(error: BaseException) -> BaseException:

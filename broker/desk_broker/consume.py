@@ -9,8 +9,8 @@ No message holds up those behind it by what a relay wrote into it: headers decid
 (reading.py), and one at which this program itself fails twice is put by as a refusal is. One that
 ends the program's process each time is put by by the broker, after as many deliveries as its policy
 says (definitions.py). So that this counts against hardly any other, the head of the queue comes
-alone after each start: each start settles at least one of the few that were posted before it, and
-then that message is the head.
+alone after each start, and where it has no answer for a while the next one: each start settles at
+least one of the few that were posted before it, and then that message is the head.
 """
 
 from __future__ import annotations
@@ -90,10 +90,11 @@ class Link:
         self._acks.settle(delivery.tag)
 
     def acknowledge(self, flight: Flight) -> None:
-        """Takes off the queue what is settled, up to the first that is not, by one word."""
-        if (last := self._acks.due()) is not None:
-            self._channel.basic_ack(last, multiple=True)
-            flight.acknowledged(last)
+        """Takes off the queue what is settled, up to the first that is not: by one word, where none
+        was set aside."""
+        for tag, is_all in self._acks.due(flight.aside()):
+            self._channel.basic_ack(tag, multiple=is_all)
+        flight.acknowledged(self._acks.last)
 
 
 class Lane:
@@ -112,6 +113,11 @@ class Lane:
         if self._is_head_alone:
             self.link.take_all(self.flight)
             self._is_head_alone = False
+
+    def take_next(self) -> None:
+        """Takes the next one alone, where the head may be what the desk does not answer."""
+        if self._is_head_alone and self.flight.is_cut_off() and not self.flight.has_waiting():
+            self.link.take_head(self.flight)
 
     def is_taking(self) -> bool:
         return self._is_head_alone or self.link.is_taking()
@@ -188,6 +194,7 @@ class Consumer:
         lane.flight.go_on(LATER if lane.flight.has_waiting() else LOOK)
         if self._settle_done(lane) and not self._stopping:
             lane.take_all()
+        lane.take_next()
 
     def _settle_done(self, lane: Lane) -> int:
         """Takes off the queue what was answered; how many answers there were."""

@@ -3,6 +3,7 @@
 from __future__ import annotations
 
 import logging
+import threading
 import time
 from collections.abc import Callable, Iterable
 from pathlib import Path
@@ -237,6 +238,14 @@ def test_it_says_why_it_waits_and_that_it_goes_on(caplog: pytest.LogCaptureFixtu
     assert said[1].startswith("desk a: it goes on after")
 
 
+class Cuts(Told):
+    """A desk before which something closes the connection of one message each time."""
+
+    def begin(self, relay: str, body: bytes) -> Answer:
+        self.posted.append((relay, body))
+        return Answer(Fate.AGAIN, "no reply: RemoteDisconnected") if body == b"1" else TAKEN
+
+
 class Queue:
     """A link to a queue of these messages, which tells what is on its way at each step; it stops
     the consumer when nothing is left."""
@@ -249,6 +258,7 @@ class Queue:
         self.steps: list[str | tuple[str, int]] = []
         self.flight: Flight
         self.stop: Callable[[], None]
+        self.is_done: Callable[[], bool] = lambda: False
 
     def _give(self) -> None:
         self.tag += 1
@@ -270,7 +280,7 @@ class Queue:
         time.sleep(min(most, 0.01))
         while "all" in str(self.steps) and self.bodies and self.open() < self.at_once:
             self._give()
-        if not self.bodies and not self.open():
+        if self.is_done() or not self.bodies and not self.open():
             self.stop()
 
     def open(self) -> int:
@@ -283,9 +293,9 @@ class Queue:
         self.acks.settle(delivery.tag)
 
     def acknowledge(self, flight: Flight) -> None:
-        if (last := self.acks.due()) is not None:
+        for last, _ in self.acks.due(flight.aside()):
             self.acknowledged, self.words = last, self.words + 1
-            flight.acknowledged(last)
+        flight.acknowledged(self.acks.last)
 
 
 def carried(desk: Told, queue: Queue) -> Consumer:
@@ -312,6 +322,24 @@ def test_many_are_acknowledged_by_one_word() -> None:
     carried(Told([TAKEN] * count), queue)
     assert queue.acknowledged == count
     assert queue.words <= 3 + count // flight.ENOUGH, "one for the head, and for so many each"
+
+
+def test_a_head_that_is_never_answered_holds_up_nothing() -> None:
+    """Also where it is the first after a start: the next one is taken beside it."""
+    desk, count = Cuts([]), 100
+    queue = Queue([b"%d" % number for number in range(1, count + 1)])
+    consumer = Consumer("a", cast(Desk, desk), BROKER)
+    done = threading.Timer(60, consumer.stop)
+    done.start()
+    queue.stop = consumer.stop
+    on_its_way = Flight("a", cast(Desk, desk), consumer.tally, consumer.is_stopping)
+    queue.is_done = lambda: consumer.tally.taken == count - 1
+    consumer._carry([Lane(cast(RealLink, queue), on_its_way)])
+    on_its_way.end()
+    done.cancel()
+    assert consumer.tally.taken == count - 1
+    assert queue.steps[:2] == ["head", "head"]
+    assert {body for _, body in desk.posted[:5]} == {b"1"}
 
 
 def test_an_empty_queue_is_taken_from_at_once() -> None:

@@ -132,7 +132,7 @@ def test_a_desk_that_is_away_is_asked_by_one() -> None:
     assert answers(flight, 100) == {tag: TAKEN for tag in range(1, 101)}
     again = desk.posted[POSTS : POSTS + 5]
     assert len({*desk.posted[:POSTS]}) == POSTS, "each of the first is another"
-    assert len({*again}) == 1, "one is tried again until the desk answers"
+    assert len({*again}) == 5 and not {*again} & {*desk.posted[:POSTS]}, "each is another one"
     assert len(desk.posted) == 100 + POSTS + 4, "and no other waits after that"
     assert flight._tally.tried_again == 5
     flight.end()
@@ -150,23 +150,63 @@ def test_one_that_fails_after_the_desk_went_on_is_tried_at_once() -> None:
     flight.end()
 
 
-def test_one_that_is_never_answered_holds_up_those_behind_it() -> None:
-    said = [STORAGE]
-    desk = Sockets(lambda number, body: said[0] if body == b"3" else ACK)
-    count = 40 * POSTS
-    flight = started(desk, count)
-    flight.acknowledged(count)
-    found: dict[int, Answer | None] = {}
-    until = time.monotonic() + 2
-    while time.monotonic() < until:
-        found |= answered(flight)
-        time.sleep(min(0.01, flight.idle_for()))
-    assert 3 not in found
-    assert len(found) <= POSTS
+class Queue:
+    """The messages that a channel gave out, and which of them are left in its queue."""
+
+    def __init__(self, flight: Flight, count: int) -> None:
+        self.flight, self.acks, self.answers = flight, Acks(), dict[int, Answer]()
+        self.left = set(range(1, count + 1))
+        for tag in sorted(self.left):
+            self.acks.begin(tag)
+
+    def go_on(self, until: Callable[[], object], patience: float = PATIENCE) -> None:
+        end = time.monotonic() + patience
+        while not until() and time.monotonic() < end:
+            found = answered(self.flight)
+            self.answers |= found
+            for tag in found:
+                self.acks.settle(tag)
+            for tag, is_all in self.acks.due(self.flight.aside()):
+                self.left -= {it for it in self.left if it <= tag} if is_all else {tag}
+            self.flight.acknowledged(self.acks.last)
+            time.sleep(min(0.01, self.flight.idle_for()))
+
+
+def test_one_that_is_never_answered_holds_up_nothing() -> None:
+    """Each time something closes its connection. Those behind it are posted and leave the queue, and
+    none of them is tried twice; once it is answered it leaves the queue as well."""
+    said, count = [b""], 20 * POSTS
+
+    def says(number: int, body: bytes) -> bytes:
+        return said[0] if body == b"3" else ACK
+
+    desk = Sockets(says, patience=0.05)
+    queue = Queue(started(desk, count), count)
+    queue.go_on(lambda: len(queue.answers) >= count - 1)
+    assert queue.answers == {tag: TAKEN for tag in range(1, count + 1) if tag != 3}
+    queue.go_on(lambda: queue.left == {3})
+    assert queue.left == {3}
+    often = {body: desk.posted.count(body) for body in desk.posted if body != b"3"}
+    assert set(often.values()) == {1}
+    tried = desk.posted.count(b"3")
+    queue.go_on(lambda: desk.posted.count(b"3") > tried)
+    assert desk.posted.count(b"3") > tried, "it is tried again by itself"
     said[0] = ACK
-    found |= answers(flight, count - len(found))
-    assert found == {tag: TAKEN for tag in range(1, count + 1)}
-    flight.end()
+    queue.go_on(lambda: not queue.left)
+    assert not queue.left and queue.answers[3] == TAKEN
+    queue.flight.end()
+
+
+def test_none_is_tried_twice_before_all_once() -> None:
+    """A desk is away: each try is of another one, and then of those that were tried before."""
+    desk = Sockets(lambda number, body: STORAGE)
+    queue = Queue(started(desk, POSTS + 6), POSTS + 6)
+    for _ in range(12):
+        queue.flight._next_try = 0.0  # (without the waits)
+        queue.go_on(lambda: False, 0.02)
+    assert desk.posted[: POSTS + 6] == [b"%d" % tag for tag in range(1, POSTS + 7)]
+    assert desk.posted[POSTS + 6 : POSTS + 9] == [b"1", b"2", b"3"]
+    queue.flight.end()
 
 
 def test_a_reply_that_does_not_come_is_waited_for_so_long() -> None:
@@ -249,16 +289,31 @@ def test_what_may_be_acknowledged() -> None:
     acks = Acks()
     for tag in range(1, 7):
         acks.begin(tag)
-    assert acks.due() is None
+    assert acks.due() == []
     acks.settle(2)
-    assert acks.due() is None
+    assert acks.due() == []
     acks.settle(1)
-    assert acks.due() == 2
-    assert acks.due() is None
+    assert acks.due() == [(2, True)]
+    assert acks.due() == []
     for tag in (6, 4, 3):
         acks.settle(tag)
-    assert acks.due() == 4
+    assert acks.due() == [(4, True)]
     acks.settle(5)
-    assert acks.due() == 6
+    assert acks.due() == [(6, True)]
     acks.begin(7)
-    assert acks.due() is None
+    assert acks.due() == [] and acks.last == 6
+
+
+def test_none_is_acknowledged_with_those_behind_it() -> None:
+    """What is set aside stays in the queue until it is settled."""
+    acks = Acks()
+    for tag in range(1, 7):
+        acks.begin(tag)
+    for tag in (1, 3, 4):
+        acks.settle(tag)
+    assert acks.due({2}) == [(1, False), (3, False), (4, False)] and acks.last == 4
+    acks.settle(5)
+    assert acks.due({2}) == [(5, False)]
+    for tag in (2, 6):
+        acks.settle(tag)
+    assert acks.due() == [(2, False), (6, True)] and acks.last == 6
