@@ -139,6 +139,7 @@ class DoorBench(Bench):
         self.files = Files(program, folder, ROSTER, BASE)
         self.people = People(seed)
         self.doors: dict[str, Door] = {}
+        self.stolen: set[bytes] = set()  # what somebody took off a desk's queue
 
     def begin(self, names: list[str], enrolled: list[str]) -> None:
         """Starts desks, doors and consumers, all with one history of signers."""

@@ -101,12 +101,13 @@ def steal(bench: DoorBench) -> None:
         "127.0.0.1", bench.cluster.ports[0], credentials=pika.PlainCredentials("desk-c", secret)
     )
     connection = pika.BlockingConnection(host)
-    channel, taken = connection.channel(), 0
+    channel, taken = connection.channel(), list[bytes]()
     consumer, until = bench.consumers["c"], time.monotonic() + PATIENCE
     consumer.program.end(signal.SIGTERM)
-    while taken < STOLEN and time.monotonic() < until:
-        method, _, _ = channel.basic_get("desk.c", auto_ack=True)
-        taken += method is not None
+    while len(taken) < STOLEN and time.monotonic() < until:
+        method, _, body = channel.basic_get("desk.c", auto_ack=True)
+        taken += [] if method is None else [body]
+    bench.stolen.update(taken)
     consumer.start()
     said = "taken"
     try:
@@ -115,8 +116,8 @@ def steal(bench: DoorBench) -> None:
     except AMQPError as error:
         said = str(error)
     bench.checks.same("a consumer publishes no message", "ACCESS_REFUSED" in said, True)
-    bench.checks.same("messages were stolen", taken, STOLEN)
-    bench.tell(f"{taken} messages were taken off desk.c by its consumer's password")
+    bench.checks.same("messages were stolen", len(taken), STOLEN)
+    bench.tell(f"{len(taken)} messages were taken off desk.c by its consumer's password")
 
 
 def enrol_late(bench: DoorBench) -> list[Post]:
@@ -301,7 +302,11 @@ def check_refused(bench: DoorBench, forged: dict[bytes, str]) -> None:
     """What a thief published is put by under its name, by each desk."""
     found = verdict.read_refused(bench)
     codes = {(it.desk, it.body): it.code for it in found if it.body in forged}
-    wanted = {(desk, body): code for desk in NAMES for body, code in forged.items()}
+    # (what was stolen from desk c's queue reached no consumer there)
+    wanted = {
+        (desk, body): code for desk in NAMES for body, code in forged.items()
+        if desk != "c" or body not in bench.stolen
+    }  # fmt: skip
     # (of a key that nobody has: a slow machine looks at the other doors too late to say more)
     slow = {"A20 BadSignature": "K27 DoorLags"}
     lacking = {

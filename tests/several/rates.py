@@ -55,8 +55,8 @@ def at_once(desk: Desk, posts: list[Post]) -> None:
                 raise Failure(f"the desk alone does not acknowledge: {answer.said}")
             acks.settle(delivery.tag)
             left -= 1
-        if (last := acks.due()) is not None:
-            flight.acknowledged(last)
+        acks.due()
+        flight.acknowledged(acks.passed)
     flight.end()
 
 
