@@ -66,7 +66,7 @@ class Elsewhere:
             try:
                 self.tidy(before, [*held(told.values()), *parked])
             except (OSError, sqlite3.Error) as fault:
-                log.warning("what was told long ago stays in the outbox: %s", fault)
+                log.warning("what was told long ago stays where it is: %s", fault)
 
     def tidy(self, before: datetime, current: list[Message]) -> None:
         """Takes away what was told before a moment, but of what the desk tells still."""
