@@ -138,7 +138,8 @@ def enrol_late(bench: DoorBench) -> list[Post]:
 
 def wait_for_line(door: Door, line: str) -> bool:
     with contextlib.suppress(Failure):
-        wait_until(f"{line} of {door.desk.name}", lambda: line in door.program.text(), PATIENCE, 0.2)
+        said = door.program.text
+        wait_until(f"{line} of {door.desk.name}", lambda: line in said(), PATIENCE, 0.2)
         return True
     return False
 
