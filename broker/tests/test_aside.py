@@ -85,7 +85,7 @@ def test_others_go_on_beside_one_that_waits(said: Answer) -> None:
 
 
 def test_what_waits_takes_little_from_what_is_new() -> None:
-    """Of 16 posts at a time one is of the messages that wait, however many these are."""
+    """Messages that wait for a request get one post of sixteen, and the new ones the others."""
     waiting = [b"%d" % tag for tag in range(1, 101)]
     posts = Held()
     flight = Flight("a", cast(Desk, posts), Tally("a"))
