@@ -1,7 +1,7 @@
 """Whose key made a signature. `ssh-keygen -Y verify` judges the first one of each key under a
 version of the signers, and each one by a certificate; python3-cryptography the others, which takes
 a fiftieth of the time. `desk-verify` looks at a sample by ssh-keygen again. (Of passkeys each is
-judged by passkeys.py.)"""
+judged by assertions.py.)"""
 
 import base64
 import hashlib
